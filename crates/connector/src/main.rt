@@ -1,0 +1,68 @@
+//! The connector's command line. So far it replays a script from standard input.
+#![tactic(auto)]
+
+use ilp_connector::{Config, Refusal, ReplayFault, replay};
+use std::env;
+use std::io;
+use std::io::ErrorKind;
+use std::process::ExitCode;
+use std::rt::Runtime;
+
+const USAGE: &str = "usage: connector packet HEX, check CONFIG, replay CONFIG, serve CONFIG";
+
+/// How the program ended.
+#[derive(Clone, Copy, Debug, PartialEq, Eq)]
+enum Ending {
+    Done,
+    Refused(Refusal),
+    Misused,
+    OutputFailed,
+}
+
+fn main(rt: HostRuntime) -> ExitCode {
+    ExitCode::from(status(&rt, run(&rt)))
+}
+
+// Runs what the arguments ask for.
+fn run<R: Runtime + AllocGlobal>(rt: &R) -> Ending {
+    let mut words = match env::args(rt) {
+        Ok(args) => args.skip(1),
+        Err(error) if error.kind() == ErrorKind::OutOfMemory => {
+            return Ending::Refused(Refusal::Memory);
+        }
+        Err(_) => return Ending::Misused,
+    };
+    match (words.next(), words.next(), words.next()) {
+        (Some(command), Some(source), None) => run_command(rt, command.as_str(), source.as_str()),
+        _ => Ending::Misused,
+    }
+}
+
+fn run_command<R: Runtime + AllocGlobal>(rt: &R, command: &str, source: &str) -> Ending {
+    if command != "replay" || source != "-" {
+        return Ending::Misused;
+    }
+    let mut reader = rt.reader();
+    let mut writer = io::writer(rt);
+    match replay(rt.alloc(), &Config::built_in(), &mut reader, &mut writer) {
+        Ok(()) => Ending::Done,
+        Err(ReplayFault::WriteFault) => Ending::OutputFailed,
+        Err(fault) => Ending::Refused(fault.refusal()),
+    }
+}
+
+// Says how the program ended, and gives its exit status.
+fn status<R: Runtime + AllocGlobal>(rt: &R, ending: Ending) -> u8 {
+    match ending {
+        Ending::Done => 0,
+        Ending::Refused(refusal) => match rt.println(format_args!("refused {refusal}")) {
+            Ok(()) => 1,
+            Err(_) => 3,
+        },
+        Ending::Misused => {
+            let _ = rt.eprintln(USAGE);
+            2
+        }
+        Ending::OutputFailed => 3,
+    }
+}

@@ -1,0 +1,9 @@
+pub mod Configuration
+pub mod Kept
+pub mod Refusals
+pub mod Replay
+pub mod Report
+pub mod Script
+pub mod Seen
+pub mod Step
+pub mod Text

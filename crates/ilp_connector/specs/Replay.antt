@@ -1,0 +1,145 @@
+-- What a script prints, and what a replay reads and writes.
+use Rattle.std.specs.Prelude.{ℕ, ◌<◌, ℤ, false, List, [], ◌∷◌, ◌++◌, length, Option, Some, None, Result, Ok, Err}
+use Rattle.std.specs.Io.KnownBytes.{Consumes, Appends}
+use Rattle.hex.specs.Hex.{decode_of}
+use Rattle.hex.specs.declared.error.FromHexError.{FromHexError}
+use Rattle.ilp_io.specs.Reading.{IsReadWhole}
+use Rattle.ilp_io.specs.Writing.{AppendsPrefix}
+use Rattle.ilp_packet.specs.declared.fault.PacketFault.{PacketFault}
+use Rattle.ilp_packet.specs.declared.fault.PacketFault.TheVariants as packet_fault
+use Rattle.ilp_packet.specs.Packet.{PlainPacket, prepare, fulfill, reject}
+use Rattle.ilp_packet.specs.Reading.{reading}
+use Rattle.ilp_journal.specs.Journal.{Entries}
+use Rattle.ilp_connector.specs.declared.calls.Held.{Held}
+use Rattle.ilp_connector.specs.declared.calls.HoldFault.{HoldFault}
+use Rattle.ilp_connector.specs.declared.calls.PeerReply.{PeerReply}
+use Rattle.ilp_connector.specs.declared.calls.PeerReply.TheVariants as peer_reply
+use Rattle.ilp_connector.specs.declared.calls.Outcome.{Outcome}
+use Rattle.ilp_connector.specs.declared.calls.NotOpen.{NotOpen}
+use Rattle.ilp_connector.specs.declared.refusal.Refusal.{Refusal}
+use Rattle.ilp_connector.specs.declared.refusal.Refusal.TheVariants as refusals
+use Rattle.ilp_connector.specs.declared.reply.Reply.{Reply}
+use Rattle.ilp_connector.specs.declared.reply.Reply.TheVariants as replies
+use Rattle.ilp_connector.specs.declared.runner.ReplayFault.{ReplayFault}
+use Rattle.ilp_connector.specs.declared.runner.ReplayFault.TheVariants as replay_fault
+use Rattle.ilp_connector.specs.Configuration.{Configuration}
+use Rattle.ilp_connector.specs.Script.{lines_of, Form, hold, answer, report, silent, bad, form_of}
+use Rattle.ilp_connector.specs.Step.{Made, appended, hold_step, answer_step}
+use Rattle.ilp_connector.specs.Text.{reply_text}
+
+-- ---- one line
+
+-- the refusal of octets that are no packet
+abbrev pub packet_refusal : PacketFault → Refusal
+packet_refusal packet_fault.Truncated = refusals.Truncated
+packet_refusal packet_fault.BadPrefix = refusals.BadPrefix
+packet_refusal packet_fault.TooLong = refusals.TooLong
+packet_refusal packet_fault.UnknownType = refusals.UnknownType
+packet_refusal packet_fault.Trailing = refusals.Trailing
+packet_refusal packet_fault.BadExpiry = refusals.BadExpiry
+packet_refusal packet_fault.BadAddress = refusals.BadAddress
+packet_refusal packet_fault.FieldTooLong = refusals.FieldTooLong
+
+-- a reply that books nothing
+abbrev pub says : Reply → Made Reply
+says reply = record { reply = reply; entry = None }
+
+abbrev pub hold_reply : Result Held HoldFault → Reply
+hold_reply (Ok held) = replies.Held held
+hold_reply (Err fault) = replies.Rejected fault
+
+abbrev pub answer_reply : ℕ → Result Outcome NotOpen → Reply
+answer_reply number (Ok outcome) = replies.Answered number outcome
+answer_reply number (Err refused) = replies.NotOpen number refused.closer
+
+-- a packet of a peer, by the actor 0 and with no growth refused: only a Prepare can be held
+abbrev pub hold_packet : Configuration → Entries → ℤ → ℕ → Result PlainPacket PacketFault → Made Reply
+hold_packet C j now peer (Ok (prepare p)) =
+    let made = hold_step C j 0 peer p now false in
+    record { reply = hold_reply made.reply; entry = made.entry }
+hold_packet C j now peer (Ok (fulfill f)) = says (replies.BadPacket refusals.NotPrepare)
+hold_packet C j now peer (Ok (reject r)) = says (replies.BadPacket refusals.NotPrepare)
+hold_packet C j now peer (Err fault) = says (replies.BadPacket (packet_refusal fault))
+
+-- what came back: octets that are no packet, and a Prepare, count as no reply
+abbrev pub came_back : Result PlainPacket PacketFault → PeerReply
+came_back (Ok (prepare p)) = peer_reply.NoReply
+came_back (Ok (fulfill f)) = peer_reply.Fulfil f.preimage
+came_back (Ok (reject r)) = peer_reply.Reject r.code
+came_back (Err fault) = peer_reply.NoReply
+
+abbrev pub answer_with : Entries → ℤ → ℕ → PeerReply → Made Reply
+answer_with j now number reply =
+    let made = answer_step j 0 number reply now in
+    record { reply = answer_reply number made.reply; entry = made.entry }
+
+-- hexadecimal text that is none makes a bad line
+abbrev pub hold_text : Configuration → Entries → ℤ → ℕ → Result (List ℕ) FromHexError → Made Reply
+hold_text C j now peer (Ok octets) = hold_packet C j now peer (reading octets)
+hold_text C j now peer (Err fault) = says replies.BadLine
+
+abbrev pub answer_text : Entries → ℤ → ℕ → Result (List ℕ) FromHexError → Made Reply
+answer_text j now number (Ok octets) = answer_with j now number (came_back (reading octets))
+answer_text j now number (Err fault) = says replies.BadLine
+
+-- what a line replies, and the entry that it books
+abbrev pub form_step : Configuration → Entries → Form → Made Reply
+form_step C j (hold now peer packet) = hold_text C j now peer (decode_of packet)
+form_step C j (answer now number (Some packet)) = answer_text j now number (decode_of packet)
+form_step C j (answer now number None) = answer_with j now number peer_reply.NoReply
+form_step C j report = says replies.Report
+form_step C j silent = says replies.Silent
+form_step C j bad = says replies.BadLine
+
+unfoldable pub line_step : Configuration → Entries → List ℕ → Made Reply
+line_step C j line = form_step C j (form_of C.peers line)
+
+-- the entries after a line
+abbrev pub after_line : Configuration → Entries → List ℕ → Entries
+after_line C j line = appended j (line_step C j line).entry
+
+-- what a line prints: the text of its reply over the entries that it left
+abbrev pub line_text : Configuration → Entries → List ℕ → List ℕ
+line_text C j line = reply_text C (after_line C j line) (line_step C j line).reply
+
+-- ---- a script
+
+-- what lines print, one after another, from some entries on
+abbrev pub text_from : Configuration → Entries → List (List ℕ) → List ℕ
+text_from C j [] = []
+text_from C j (line ∷ lines) = line_text C j line ++ text_from C (after_line C j line) lines
+
+-- what a script prints
+abbrev pub text_of : Configuration → List ℕ → List ℕ
+text_of C script = text_from C [] (lines_of script)
+
+-- ---- reading and writing
+
+-- a script was read to its end, and its whole text written
+pub record Replays (text : List ℕ → List ℕ) (unread left held holds : Option (List ℕ)) : Type 0 where
+  pub script : List ℕ
+  pub read : IsReadWhole unread left script
+  pub within : length script < 1048577
+  pub wrote : Appends held holds (text script)
+
+-- some octets were read, and a front of their text written
+pub record Stops (text : List ℕ → List ℕ) (unread left held holds : Option (List ℕ)) : Type 0 where
+  pub script : List ℕ
+  pub read : Consumes unread left script
+  pub wrote : AppendsPrefix held holds (text script)
+
+-- the refusal that a fault is printed as
+abbrev pub fault_refusal : ReplayFault → Refusal
+fault_refusal replay_fault.Memory = refusals.Memory
+fault_refusal replay_fault.ReadFault = refusals.ReadFault
+fault_refusal replay_fault.WriteFault = refusals.WriteFault
+fault_refusal replay_fault.ScriptTooLong = refusals.ScriptTooLong
+
+-- how many reads failed, and how many writes, by how the replay ended
+abbrev pub failed_reads : Result (Unit {0}) ReplayFault → ℕ
+failed_reads (Err replay_fault.ReadFault) = 1
+failed_reads _ = 0
+
+abbrev pub failed_writes : Result (Unit {0}) ReplayFault → ℕ
+failed_writes (Err replay_fault.WriteFault) = 1
+failed_writes _ = 0

@@ -1,0 +1,75 @@
+-- The lines of a script, and what each asks for.
+use Rattle.std.specs.Prelude.{◌≡◌, ◌≢◌, ◌<◌, slice_index, ℕ, ℤ, pos, List, [], ◌∷◌, length, Bool, ◌==◌, ◌&&◌, nat_le, if◌then◌else◌, codes, Option, Some, None}
+use Rattle.std.specs.Char.{is_ascii_digit}
+use Rattle.std.specs.List.{list_all, slice_split, onto_first}
+use Rattle.std.specs.Str.{bytes_eq}
+use Rattle.std.specs.Str.Parse.{digits_value}
+use Rattle.ilp_connector.specs.Configuration.{peer_named}
+
+-- the lines of a text: each is ended by LF, and the last may lack it
+abbrev pub lines_of : List ℕ → List (List ℕ)
+lines_of [] = []
+lines_of (octet ∷ octets) = if octet == 10 then [] ∷ lines_of octets else onto_first octet (lines_of octets)
+
+-- an octet does not stand below a place
+abbrev pub HasNoneBelow : ℕ → List ℕ → ℕ → Type 0
+HasNoneBelow octet text end = (k : ℕ) → k < end → slice_index text k ≢ octet
+
+-- it stands there first
+abbrev pub StandsFirst : ℕ → List ℕ → ℕ → Type 0
+StandsFirst octet text end = (end < length text) × (slice_index text end ≡ octet) × HasNoneBelow octet text end
+
+-- what a line asks for, where packets are hexadecimal text
+pub data Form : Type 0 where
+  hold : (now : ℤ) (peer : ℕ) (packet : List ℕ) → Form
+  answer : (now : ℤ) (number : ℕ) (packet : Option (List ℕ)) → Form
+  report : Form
+  silent : Form
+  bad : Form
+
+-- an octet that a line may have
+abbrev pub is_printable : ℕ → Bool
+is_printable octet = nat_le 32 octet && nat_le octet 126
+
+-- the number that a text of at most so many decimal digits writes
+abbrev pub number_in : ℕ → List ℕ → Option ℕ
+number_in most text = if nat_le 1 (length text) && nat_le (length text) most && list_all is_ascii_digit text then Some (digits_value 10 text) else None
+
+-- a moment is told by 1 to 15 digits, an entry by 1 to 9
+abbrev pub moment_in : List ℕ → Option ℕ
+moment_in text = number_in 15 text
+
+abbrev pub entry_in : List ℕ → Option ℕ
+entry_in text = number_in 9 text
+
+-- some hexadecimal text; that it is one is seen where it is decoded
+abbrev pub hold_form : Option ℕ → Option ℕ → List ℕ → Form
+hold_form (Some now) (Some peer) (digit ∷ digits) = hold (pos now) peer (digit ∷ digits)
+hold_form _ _ _ = bad
+
+abbrev pub answer_form : Option ℕ → Option ℕ → List ℕ → Form
+answer_form (Some now) (Some number) (digit ∷ digits) =
+    if bytes_eq (digit ∷ digits) (codes "none") then answer (pos now) number None
+    else answer (pos now) number (Some (digit ∷ digits))
+answer_form _ _ _ = bad
+
+-- `report`, `hold AT PEER HEX`, `answer AT N HEX` and `answer AT N none`
+abbrev pub form_of_fields : List (List ℕ) → List (List ℕ) → Form
+form_of_fields names (word ∷ []) = if bytes_eq word (codes "report") then report else bad
+form_of_fields names (word ∷ now ∷ third ∷ packet ∷ []) =
+    if bytes_eq word (codes "hold") then hold_form (moment_in now) (peer_named names third) packet
+    else (if bytes_eq word (codes "answer") then answer_form (moment_in now) (entry_in third) packet
+    else bad)
+form_of_fields names _ = bad
+
+-- the space between two fields
+abbrev pub is_space : ℕ → Bool
+is_space octet = octet == 32
+
+-- an empty line asks for nothing, nor does one that begins with `#`; fields are separated by one space
+abbrev pub form_of : List (List ℕ) → List ℕ → Form
+form_of names [] = silent
+form_of names (octet ∷ octets) =
+    if octet == 35 then silent
+    else (if list_all is_printable (octet ∷ octets) then form_of_fields names (slice_split is_space (octet ∷ octets))
+    else bad)

@@ -1,0 +1,69 @@
+-- What each reply prints.
+use Rattle.std.specs.Prelude.{ℕ, ◌+◌, List, [], ◌∷◌, ◌++◌, Option, Some, None, codes}
+use Rattle.std.specs.Fmt.{decimal}
+use Rattle.hex.specs.Hex.{encode_lower}
+use Rattle.ilp_journal.specs.declared.entry.Cause.{Cause}
+use Rattle.ilp_journal.specs.declared.entry.Cause.TheVariants.{Late, WrongPreimage, NoReply, Peer}
+use Rattle.ilp_journal.specs.Journal.{Entries}
+use Rattle.ilp_journal.specs.Balance.{balance}
+use Rattle.ilp_connector.specs.declared.calls.HoldFault.{HoldFault}
+use Rattle.ilp_connector.specs.declared.calls.HoldFault.TheVariants as hold_fault
+use Rattle.ilp_connector.specs.declared.calls.Outcome.{Outcome}
+use Rattle.ilp_connector.specs.declared.calls.Outcome.TheVariants as outcome
+use Rattle.ilp_connector.specs.declared.refusal.Refusal.{Refusal}
+use Rattle.ilp_connector.specs.declared.refusal.Refusal.TheVariants as refusals
+use Rattle.ilp_connector.specs.declared.reply.Reply.{Reply}
+use Rattle.ilp_connector.specs.declared.reply.Reply.TheVariants.{Silent, BadLine, BadPacket, Held, Rejected, Answered, NotOpen, Report}
+use Rattle.ilp_connector.specs.Configuration.{Configuration, name_of}
+use Rattle.ilp_connector.specs.Refusals.{refusal_text, refusal_name}
+use Rattle.ilp_connector.specs.Report.{report_line}
+
+-- the refusal that a Prepare met
+abbrev pub refusal_of : HoldFault → Refusal
+refusal_of hold_fault.Expired = refusals.Expired
+refusal_of hold_fault.TooShort = refusals.TooShort
+refusal_of hold_fault.Full = refusals.Full
+refusal_of hold_fault.Memory = refusals.Memory
+
+-- the code of the Reject that its sender gets
+abbrev pub reject_code : HoldFault → List ℕ
+reject_code hold_fault.Expired = codes "R00"
+reject_code hold_fault.TooShort = codes "R02"
+reject_code hold_fault.Full = codes "T03"
+reject_code hold_fault.Memory = codes "T00"
+
+abbrev pub rejected_text : HoldFault → List ℕ
+rejected_text fault = codes "reject " ++ (reject_code fault ++ (codes " " ++ (refusal_name (refusal_of fault) ++ codes "\n")))
+
+-- why a hold was released; the code of a peer's Reject is hexadecimal
+abbrev pub cause_text : Cause → List ℕ
+cause_text Late = codes "Late"
+cause_text WrongPreimage = codes "WrongPreimage"
+cause_text NoReply = codes "NoReply"
+cause_text (Peer code) = codes "Peer " ++ encode_lower code
+
+-- how the hold n ended
+abbrev pub outcome_text : ℕ → Outcome → List ℕ
+outcome_text n (outcome.Fulfilled entry) = codes "entry " ++ (decimal entry ++ (codes " fulfilled " ++ (decimal n ++ codes "\n")))
+outcome_text n (outcome.Released entry cause) = codes "entry " ++ (decimal entry ++ (codes " released " ++ (decimal n ++ (codes " " ++ (cause_text cause ++ codes "\n")))))
+
+-- the hold n is not open, for the entry that answered it, if one did
+abbrev pub not_open_text : ℕ → Option ℕ → List ℕ
+not_open_text n None = codes "not open " ++ (decimal n ++ codes "\n")
+not_open_text n (Some entry) = codes "not open " ++ (decimal n ++ (codes " by " ++ (decimal entry ++ codes "\n")))
+
+-- the balance of each peer, the first of them in the place `first`
+abbrev pub balance_lines : Entries → ℕ → List (List ℕ) → List ℕ
+balance_lines j first [] = []
+balance_lines j first (name ∷ names) = report_line (codes "balance") name (balance j first) ++ balance_lines j (first + 1) names
+
+-- what a reply prints, over the journal that its line left
+abbrev pub reply_text : Configuration → Entries → Reply → List ℕ
+reply_text C j Silent = []
+reply_text C j BadLine = codes "bad line\n"
+reply_text C j (BadPacket refusal) = codes "bad packet " ++ (refusal_text refusal ++ codes "\n")
+reply_text C j (Held held) = codes "held " ++ (decimal held.number ++ (codes " to " ++ (name_of C.peers held.to ++ (codes " out " ++ (decimal held.out ++ codes "\n")))))
+reply_text C j (Rejected fault) = rejected_text fault
+reply_text C j (Answered hold outcome) = outcome_text hold outcome
+reply_text C j (NotOpen hold closer) = not_open_text hold closer
+reply_text C j Report = balance_lines j 0 C.peers

@@ -1,0 +1,193 @@
+//! Running one line of a script.
+ghost use Rattle.std.specs.Prelude.{◌≡◌, IfOk, OnOk, OnErr, MatchOption, IsErr, Ok, false};
+ghost use Rattle.hex.specs.Hex.{decode_of};
+ghost use Rattle.ilp_packet.specs.Reading.{reading};
+ghost use Rattle.ilp_connector.specs.Kept.{with_entry};
+ghost use Rattle.ilp_connector.specs.Step as steps;
+ghost use Rattle.ilp_connector.specs.Replay as replays;
+ghost use Rattle.ilp_connector.specs.Replay.{line_step};
+
+use crate::calls::{HoldFault, NotOpen, PeerReply};
+use crate::form::{Form, parse};
+use crate::ledger::Ledger;
+use crate::refusal::Refusal;
+use crate::reply::Reply;
+use hex::FromHexError;
+use ilp_packet::{Packet, PacketFault};
+use std::alloc::{AllocError, Allocator};
+
+/// The actor that a script's entries are booked by.
+const ACTOR: u32 = 0;
+
+/// Runs one line. Where memory is refused, nothing was booked.
+#[tactic(auto, unfolding(crate::specs::Replay::line_step))]
+pub(crate) fn run_line<A: Allocator + Copy>(
+    alloc: A,
+    ledger: &mut Ledger<'_, A>,
+    line: &[u8],
+) -> Result<Reply, AllocError>
+    ensures reply { IfOk result (λ reply.
+        reply ≡ (line_step ledger.old.config ledger.old.entries line.now).reply) }
+    ensures entry { OnOk result (ledger.new ≡ with_entry ledger.old
+        (line_step ledger.old.config ledger.old.entries line.now).entry) }
+    ensures err { OnErr result (ledger.new ≡ ledger.old) }
+{
+    match parse(ledger.config(), line) {
+        Form::Hold { now, peer, packet } => run_hold(alloc, ledger, now, peer, packet),
+        Form::Answer {
+            now,
+            number,
+            packet: Some(packet),
+        } => run_answer(alloc, ledger, now, number, packet),
+        Form::Answer {
+            now,
+            number,
+            packet: None,
+        } => Ok(answer(ledger, now, number, PeerReply::NoReply)),
+        Form::Report => Ok(Reply::Report),
+        Form::Silent => Ok(Reply::Silent),
+        Form::Bad => Ok(Reply::BadLine),
+    }
+}
+
+// A packet of a peer.
+fn run_hold<A: Allocator + Copy>(
+    alloc: A,
+    ledger: &mut Ledger<'_, A>,
+    now: i64,
+    peer: u32,
+    packet: &[u8],
+) -> Result<Reply, AllocError>
+    ensures reply { IfOk result (λ reply. reply ≡ (replays.hold_text ledger.old.config
+        ledger.old.entries now peer (decode_of packet.now)).reply) }
+    ensures entry { OnOk result (ledger.new ≡ with_entry ledger.old (replays.hold_text
+        ledger.old.config ledger.old.entries now peer (decode_of packet.now)).entry) }
+    ensures err { OnErr result (ledger.new ≡ ledger.old) }
+{
+    let Some(octets) = decode(alloc, packet)? else {
+        return Ok(Reply::BadLine);
+    };
+    hold_octets(ledger, now, peer, &octets)
+}
+
+fn hold_octets<A: Allocator>(
+    ledger: &mut Ledger<'_, A>,
+    now: i64,
+    peer: u32,
+    octets: &[u8],
+) -> Result<Reply, AllocError>
+    ensures reply { IfOk result (λ reply. reply ≡ (replays.hold_packet ledger.old.config
+        ledger.old.entries now peer (reading octets.now)).reply) }
+    ensures entry { OnOk result (ledger.new ≡ with_entry ledger.old (replays.hold_packet
+        ledger.old.config ledger.old.entries now peer (reading octets.now)).entry) }
+    ensures err { OnErr result (ledger.new ≡ ledger.old) }
+{
+    let prepare = match Packet::read(octets) {
+        Ok(Packet::Prepare(prepare)) => prepare,
+        Ok(Packet::Fulfill(_)) => return Ok(Reply::BadPacket(Refusal::NotPrepare)),
+        Ok(Packet::Reject(_)) => return Ok(Reply::BadPacket(Refusal::NotPrepare)),
+        Err(fault) => return Ok(Reply::BadPacket(packet_refusal(fault))),
+    };
+    match ledger.hold(ACTOR, peer, &prepare, now) {
+        Ok(held) => Ok(Reply::Held(held)),
+        Err(fault) => {
+            let reply = rejected(fault)?;
+            Ok(reply)
+        }
+    }
+}
+
+// Want of memory is no reply.
+fn rejected(fault: HoldFault) -> Result<Reply, AllocError>
+    ensures { IfOk result (λ reply.
+        (reply ≡ Reply.Rejected fault) × (steps.is_memory (Err fault) ≡ false)) }
+{
+    match fault {
+        HoldFault::Memory => Err(AllocError),
+        HoldFault::Expired => Ok(Reply::Rejected(fault)),
+        HoldFault::TooShort => Ok(Reply::Rejected(fault)),
+        HoldFault::Full => Ok(Reply::Rejected(fault)),
+    }
+}
+
+// What came back for a hold.
+fn run_answer<A: Allocator + Copy>(
+    alloc: A,
+    ledger: &mut Ledger<'_, A>,
+    now: i64,
+    number: u32,
+    packet: &[u8],
+) -> Result<Reply, AllocError>
+    ensures reply { IfOk result (λ reply. reply
+        ≡ (replays.answer_text ledger.old.entries now number (decode_of packet.now)).reply) }
+    ensures entry { OnOk result (ledger.new ≡ with_entry ledger.old
+        (replays.answer_text ledger.old.entries now number (decode_of packet.now)).entry) }
+    ensures err { OnErr result (ledger.new ≡ ledger.old) }
+{
+    let Some(octets) = decode(alloc, packet)? else {
+        return Ok(Reply::BadLine);
+    };
+    let reply = came_back(&octets);
+    Ok(answer(ledger, now, number, reply))
+}
+
+fn answer<A: Allocator>(
+    ledger: &mut Ledger<'_, A>,
+    now: i64,
+    number: u32,
+    reply: PeerReply,
+) -> Reply
+    ensures reply { result ≡ (replays.answer_with ledger.old.entries now number reply).reply }
+    ensures entry { ledger.new ≡ with_entry ledger.old
+        (replays.answer_with ledger.old.entries now number reply).entry }
+{
+    match ledger.answer(ACTOR, number, reply, now) {
+        Ok(outcome) => Reply::Answered {
+            hold: number,
+            outcome,
+        },
+        Err(NotOpen { closer }) => Reply::NotOpen {
+            hold: number,
+            closer,
+        },
+    }
+}
+
+// Octets that are no packet, and a Prepare, count as no reply.
+fn came_back(octets: &[u8]) -> PeerReply
+    ensures { result ≡ replays.came_back (reading octets.now) }
+{
+    match Packet::read(octets) {
+        Ok(Packet::Fulfill(fulfill)) => PeerReply::Fulfil(*fulfill.preimage),
+        Ok(Packet::Reject(reject)) => PeerReply::Reject(*reject.code),
+        Ok(Packet::Prepare(_)) => PeerReply::NoReply,
+        Err(_) => PeerReply::NoReply,
+    }
+}
+
+fn packet_refusal(fault: PacketFault) -> Refusal
+    ensures { result ≡ replays.packet_refusal fault }
+{
+    match fault {
+        PacketFault::Truncated => Refusal::Truncated,
+        PacketFault::BadPrefix => Refusal::BadPrefix,
+        PacketFault::TooLong => Refusal::TooLong,
+        PacketFault::UnknownType => Refusal::UnknownType,
+        PacketFault::Trailing => Refusal::Trailing,
+        PacketFault::BadExpiry => Refusal::BadExpiry,
+        PacketFault::BadAddress => Refusal::BadAddress,
+        PacketFault::FieldTooLong => Refusal::FieldTooLong,
+    }
+}
+
+// The octets of a hexadecimal text, if it is one.
+fn decode<A: Allocator>(alloc: A, text: &[u8]) -> Result<Option<Vec<u8, A>>, AllocError>
+    ensures { IfOk result (λ decoded. MatchOption decoded (IsErr (decode_of text.now))
+        (λ octets. decode_of text.now ≡ Ok octets.items)) }
+{
+    match hex::decode(alloc, text) {
+        Ok(octets) => Ok(Some(octets)),
+        Err(FromHexError::OutOfMemory) => Err(AllocError),
+        Err(_) => Ok(None),
+    }
+}

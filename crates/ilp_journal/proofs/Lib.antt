@@ -1,0 +1,4 @@
+pub mod Sums
+pub mod Naming
+pub mod Growth
+mod RowProofs

@@ -1,0 +1,6 @@
+pub mod Places
+pub mod Journal
+pub mod Balance
+pub mod Booked
+pub mod Rows
+pub use Rattle.ilp_oer.specs.Octets

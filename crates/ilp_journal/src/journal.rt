@@ -1,0 +1,133 @@
+//! The journal: entries that are only ever added, as far as its limit.
+
+ghost use Rattle.std.specs.Prelude.{◌≡◌, ◌+◌, ◌^◌, ◌<◌, ◌≤◌, pos, ◌+ℤ◌, ◌≤ℤ◌, [], ◌∷◌, ◌++◌, ◌↔◌, length, IsTrue, IsOk, IfOk, OnOk, OnErr, slice_get};
+ghost use Rattle.std.specs.Option.{option_copied};
+ghost use Rattle.ilp_journal.specs.Booked.{Booked};
+ghost use Rattle.ilp_journal.specs.Journal.{answer_of};
+ghost use Rattle.ilp_journal.specs.Balance.{balance};
+
+use crate::answers::first_answer;
+use crate::balances::owed;
+use crate::entry::Entry;
+use std::alloc::{AllocError, Allocator, Global};
+use std::marker::Model;
+
+/// A list of entries that tells how many more it takes without memory. An entry's number is its
+/// place in the list, from 0.
+#[derive(Drop)]
+pub struct Journal<A: Allocator = Global> {
+    entries: Vec<Entry, A>,
+    limit: u32,
+}
+
+impl<A: Allocator> Model for Journal<A> {
+    ghost use Rattle.std.specs.Prelude.{◌-◌, ◌≤◌, ◌<◌, ◌^◌, vec_len, vec_capacity};
+    ghost use Rattle.ilp_journal.specs.Booked.{Booked};
+
+    ghost Value = { Booked };
+
+    ghost view = { λ j. record {
+      entries = j.entries.items;
+      spare = vec_capacity j.entries - vec_len j.entries;
+      limit = j.limit;
+    } };
+
+    ghost invariant = { λ j. (vec_len j.entries ≤ j.limit) × (j.limit < 2 ^ 32) };
+}
+
+impl<A: Allocator> Journal<A> {
+    /// A journal with no entry, for at most `limit` of them. It is refused only for want of
+    /// memory, and takes none so far.
+    pub fn new(alloc: A, limit: u32) -> Result<Journal<A>, AllocError>
+        ensures ok { IsOk result }
+        ensures empty { IfOk result (λ j. j.entries ≡ []) }
+        ensures limit { IfOk result (λ j. j.limit ≡ limit) }
+    {
+        Ok(Journal {
+            entries: Vec::new(alloc),
+            limit,
+        })
+    }
+
+    /// How many entries there are: the number that the next one gets.
+    pub fn len(&self) -> u32
+        ensures count { result ≡ length self.now.entries }
+        ensures within { length self.now.entries ≤ self.now.limit }
+    {
+        self.entries.len() as u32
+    }
+
+    pub fn is_empty(&self) -> bool
+        ensures { IsTrue result ↔ (self.now.entries ≡ []) }
+    {
+        self.entries.is_empty()
+    }
+
+    /// How many entries there may be at most.
+    pub fn limit(&self) -> u32
+        ensures { result ≡ self.now.limit }
+    {
+        self.limit
+    }
+
+    /// How many more entries fit without memory, whatever the limit.
+    pub fn spare(&self) -> usize
+        ensures { result ≡ self.now.spare }
+    {
+        self.entries.capacity() - self.entries.len()
+    }
+
+    /// The entry of this number.
+    pub fn get(&self, number: u32) -> Option<&Entry>
+        ensures { option_copied result ≡ slice_get self.now.entries number }
+    {
+        self.entries.get(number as usize)
+    }
+
+    /// Makes room for `additional` more entries. `AllocError` tells that memory is short.
+    pub fn reserve(&mut self, additional: usize) -> Result<(), AllocError>
+        ensures entries { self.new.entries ≡ self.old.entries }
+        ensures limit { self.new.limit ≡ self.old.limit }
+        ensures ok { OnOk result (additional ≤ self.new.spare) }
+        ensures kept { self.old.spare ≤ self.new.spare }
+
+        // It takes memory only where that room is missing, and a refusal leaves all as it was.
+        ensures enough { additional ≤ self.old.spare → IsOk result }
+        ensures unmoved { additional ≤ self.old.spare → self.new ≡ self.old }
+        ensures refused { OnErr result (self.old.spare < additional) }
+        ensures err { OnErr result (self.new ≡ self.old) }
+    {
+        if additional <= self.spare() {
+            return Ok(());
+        }
+        self.entries.reserve(additional)
+    }
+
+    /// Adds an entry, into room that is there: `spare` and `len` tell whether it is.
+    pub fn push_reserved(&mut self, entry: Entry)
+        requires room { 1 ≤ self.old.spare }
+        requires limit { length self.old.entries < self.old.limit }
+        ensures entries { self.new.entries ≡ self.old.entries ++ entry ∷ [] }
+        ensures used { self.new.spare + 1 ≡ self.old.spare }
+        ensures limit { self.new.limit ≡ self.old.limit }
+    {
+        self.entries.push_reserved(entry);
+    }
+
+    /// What the connector owes the peer, in units of the peer's asset: all that its balance rose
+    /// by, less all that it fell by. Each call adds up all entries.
+    pub fn balance(&self, peer: u32) -> i128
+        ensures sum { result ≡ balance self.now.entries peer }
+        ensures low { pos 0 ≤ℤ (result +ℤ pos (2 ^ 96)) }
+        ensures high { result ≤ℤ pos (2 ^ 96) }
+    {
+        owed(&self.entries, peer)
+    }
+
+    /// The number of the first entry that fulfills or releases the hold of this number.
+    pub fn answer_of(&self, hold: u32) -> Option<u32>
+        ensures { result ≡ answer_of self.now.entries hold }
+    {
+        first_answer(&self.entries, hold)
+    }
+}

@@ -1,0 +1,14 @@
+//! The journal of a connector: the list of what it booked, and the balances that this comes to.
+#![tactic(auto)]
+
+mod answers;
+mod balances;
+mod entry;
+mod journal;
+pub mod laws;
+
+pub use entry::{Ask, Cause, Credited, Entry, Hold, What};
+pub use journal::Journal;
+
+#[cfg(test)]
+mod tests;

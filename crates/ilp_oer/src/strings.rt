@@ -1,0 +1,102 @@
+//! Octet strings (RFC 0030, variable-length octet strings): the length of the content, told by the
+//! shortest prefix, and then the content.
+ghost use Rattle.std.specs.Prelude.{◌≡◌, ℕ, ◌+◌, ◌^◌, ◌<◌, ◌≤◌, List, ◌++◌, length, Some, IsOk, OnOk, OnErr, IfOk, IfErr, IsOkAnd};
+ghost use Rattle.ilp_oer.specs.OctetString.{prefix, spelling, Splits, fault_of};
+
+use crate::fault::OerFault;
+use crate::octets::Octets;
+use std::alloc::{AllocError, Allocator};
+
+/// The most octets of a content. A longer one has no spelling here.
+pub const MAX_CONTENT: usize = 65_535;
+
+/// Reads the octet string at the front of the input: its content, and the rest of the input.
+///
+/// Only the shortest prefix of a length is read, and no length above `MAX_CONTENT`. The first of
+/// these faults is answered: no octet at all is `Truncated`; a first octet of `0x80` is
+/// `BadPrefix`; one above `0x82` is `TooLong`; a missing octet of the length is `Truncated`; a
+/// longer prefix than the length needs is `BadPrefix`; fewer octets than the length is `Truncated`.
+pub fn read_octets(input: &[u8]) -> Result<(&[u8], &[u8]), OerFault>
+    ensures ok { IfOk result (λ parts. Splits input.now parts.0.now parts.1.now) }
+    ensures every { (content rest : List ℕ) → Splits input.now content rest
+        → IsOkAnd result (λ parts. (parts.0.now ≡ content) × (parts.1.now ≡ rest)) }
+    ensures fault { IfErr result (λ fault. fault_of input.now ≡ Some fault) }
+{
+    let (len, rest) = read_len(input)?;
+    if rest.len() < len {
+        return Err(OerFault::Truncated);
+    }
+    Ok(rest.split_at(len))
+}
+
+// The length at the front of the input, and the rest of the input.
+fn read_len(input: &[u8]) -> Result<(usize, &[u8]), OerFault>
+    ensures within { IfOk result (λ parts. parts.0 ≤ MAX_CONTENT) }
+    ensures ok { IfOk result (λ parts. input.now ≡ prefix parts.0 ++ parts.1.now) }
+    ensures fault { IfErr result (λ fault. fault_of input.now ≡ Some fault) }
+{
+    match input {
+        [] => Err(OerFault::Truncated),
+        [first, rest @ ..] if *first < 0x80 => Ok((usize::from(*first), rest)),
+        [0x80, ..] => Err(OerFault::BadPrefix),
+        [0x81, low, rest @ ..] => {
+            if *low < 0x80 {
+                return Err(OerFault::BadPrefix);
+            }
+            Ok((usize::from(*low), rest))
+        }
+        [0x82, high, low, rest @ ..] => {
+            if *high == 0 {
+                return Err(OerFault::BadPrefix);
+            }
+            Ok((usize::from(*high) * 0x100 + usize::from(*low), rest))
+        }
+        [0x81 | 0x82, ..] => Err(OerFault::Truncated),
+        _ => Err(OerFault::TooLong),
+    }
+}
+
+/// Appends the octet string of the content, which has at most `MAX_CONTENT` octets.
+///
+/// It is refused only where room for it is missing and memory for that is refused. Then the list is
+/// as before.
+pub fn write_octets<A: Allocator>(out: &mut Octets<A>, content: &[u8]) -> Result<(), AllocError>
+    requires { length content.now ≤ MAX_CONTENT }
+    ensures ok { OnOk result (out.new.octets ≡ out.old.octets ++ spelling content.now) }
+
+    // As `append` of the spelling.
+    ensures enough { length (spelling content.now) ≤ out.old.spare → IsOk result }
+    ensures used { length (spelling content.now) ≤ out.old.spare
+        → out.new.spare + length (spelling content.now) ≡ out.old.spare }
+    ensures refused { OnErr result (out.old.spare < length (spelling content.now)) }
+    ensures err { OnErr result (out.new ≡ out.old) }
+{
+    let len = content.len();
+    let low = (len % 0x100) as u8;
+    if len < 0x80 {
+        write_parts(out, &[low], content)
+    } else if len < 0x100 {
+        write_parts(out, &[0x81, low], content)
+    } else {
+        write_parts(out, &[0x82, (len / 0x100) as u8, low], content)
+    }
+}
+
+// Appends both or neither.
+fn write_parts<A: Allocator>(
+    out: &mut Octets<A>,
+    first: &[u8],
+    second: &[u8],
+) -> Result<(), AllocError>
+    requires { length first.now + length second.now < 2 ^ 64 }
+    ensures ok { OnOk result (out.new.octets ≡ out.old.octets ++ (first.now ++ second.now)) }
+    ensures enough { length (first.now ++ second.now) ≤ out.old.spare → IsOk result }
+    ensures used { length (first.now ++ second.now) ≤ out.old.spare
+        → out.new.spare + length (first.now ++ second.now) ≡ out.old.spare }
+    ensures refused { OnErr result (out.old.spare < length (first.now ++ second.now)) }
+    ensures err { OnErr result (out.new ≡ out.old) }
+{
+    out.reserve(first.len() + second.len())?;
+    out.append(first)?;
+    out.append(second)
+}

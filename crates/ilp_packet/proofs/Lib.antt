@@ -1,0 +1,9 @@
+pub mod ExpiryLemmas
+pub mod MomentLemmas
+pub mod AddressLemmas
+pub mod TakingLemmas
+pub mod StringLemmas
+pub mod FieldLemmas
+pub mod ContentLemmas
+pub mod ReadingLemmas
+pub mod SpellingLemmas

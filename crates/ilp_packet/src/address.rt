@@ -1,0 +1,82 @@
+//! ILP addresses (RFC 0015).
+ghost use Rattle.std.specs.Prelude.{◌≡◌, ◌↔◌, ◌&&◌, false, position, IsTrue};
+ghost use Rattle.std.specs.List.{before_first, after_first};
+ghost use Rattle.ilp_packet.specs.Address as address;
+ghost use Rattle.ilp_packet.specs.Address.{IsAddress, is_dot, is_scheme, are_segments, is_segment_octet};
+
+/// The greatest number of octets of an address.
+const MAX_ADDRESS: usize = 1023;
+
+/// Whether octets are an address: a scheme, and then one or more segments, each a dot and one or
+/// more of `A-Z a-z 0-9 _ ~ -`, in at most 1,023 octets (RFC 0015, "Address Requirements").
+#[tactic(auto, unfolding(crate::specs::Address::is_address))]
+pub fn is_address(octets: &[u8]) -> bool
+    ensures address { IsTrue result ↔ IsAddress octets.now }
+    ensures test { result ≡ address.is_address octets.now }
+{
+    octets.len() <= MAX_ADDRESS && is_scheme_with_segments(octets)
+}
+
+// Whether octets are a scheme, and then one or more segments, each behind a dot.
+fn is_scheme_with_segments(octets: &[u8]) -> bool
+    ensures { result ≡ (is_scheme (before_first is_dot octets.now)
+        && are_segments false (after_first is_dot octets.now)) }
+{
+    match first_dot(octets) {
+        None => false,
+        Some(dot) => begins_address(&octets[..dot]) && are_all_segments(&octets[dot + 1..]),
+    }
+}
+
+// The place of the first dot.
+fn first_dot(octets: &[u8]) -> Option<usize>
+    ensures { result ≡ position is_dot octets.now }
+{
+    octets.iter().position(|octet| *octet == b'.')
+}
+
+// Whether a text is one of the schemes.
+#[tactic(auto, unfolding(crate::specs::Address::is_scheme))]
+fn begins_address(text: &[u8]) -> bool
+    ensures { result ≡ is_scheme text.now }
+{
+    matches!(
+        text,
+        b"g" | b"private"
+            | b"example"
+            | b"peer"
+            | b"self"
+            | b"test"
+            | b"test1"
+            | b"test2"
+            | b"test3"
+            | b"local"
+    )
+}
+
+// Whether octets are segments with a dot between any two.
+fn are_all_segments(octets: &[u8]) -> bool
+    ensures { result ≡ are_segments false octets.now }
+{
+    let mut begun = false;
+    for octet in octets {
+        if *octet == b'.' {
+            if !begun {
+                return false;
+            }
+            begun = false;
+        } else if is_allowed(*octet) {
+            begun = true;
+        } else {
+            return false;
+        }
+    }
+    begun
+}
+
+// Whether a segment may have this octet.
+fn is_allowed(octet: u8) -> bool
+    ensures { result ≡ is_segment_octet octet }
+{
+    matches!(octet, b'A'..=b'Z' | b'a'..=b'z' | b'0'..=b'9' | b'_' | b'~' | b'-')
+}

@@ -1,0 +1,21 @@
+//! Packets of the Interledger Protocol version 4 (RFC 0027), read from octets: Prepare, Fulfill
+//! and Reject.
+#![tactic(auto)]
+
+mod address;
+mod contents;
+mod fault;
+mod fields;
+mod laws;
+mod packet;
+
+pub use address::is_address;
+pub use fault::PacketFault;
+pub use laws::{
+    addresses_are_tested, expiries_are_tested, octets_spell_one_packet, packets_have_one_spelling,
+    readings_are_spellings,
+};
+pub use packet::{Fulfill, Packet, Prepare, Reject};
+
+#[cfg(test)]
+mod tests;

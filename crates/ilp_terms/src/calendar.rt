@@ -1,0 +1,43 @@
+//! Dates of the years 0 to 9999, over `jiff`.
+ghost use Rattle.std.specs.Prelude.{◌≡◌, ◌≤◌, SomeIff, IfSome};
+ghost use Rattle.ilp_terms.specs.Calendar as calendar;
+ghost use Rattle.ilp_terms.specs.Calendar.{IsDate, IsDayNumber};
+
+use jiff::civil::Date;
+use jiff_core::civil::Date as PlainDate;
+
+/// A date of the Gregorian calendar.
+#[derive(Clone, Copy)]
+pub(crate) struct CalendarDate {
+    pub(crate) year: u16,
+    pub(crate) month: u8,
+    pub(crate) day: u8,
+}
+
+/// The number of days from 1970-01-01 to a date, or None where the calendar has no such date.
+pub(crate) fn day_number(year: u16, month: u8, day: u8) -> Option<i32>
+    requires year_in { year ≤ 9999 }
+    requires month_in { month ≤ 99 }
+    requires day_in { day ≤ 99 }
+    ensures value { SomeIff result (IsDate year month day) (calendar.day_number year month day) }
+    ensures bound { IfSome result IsDayNumber }
+{
+    let Ok(date) = Date::new(year as i16, month as i8, day as i8) else {
+        return None;
+    };
+    Some(date.to_plain().to_unix_epoch_day())
+}
+
+/// The date so many days after 1970-01-01.
+pub(crate) fn date_with_number(number: i64) -> CalendarDate
+    requires { IsDayNumber number }
+    ensures date { IsDate result.year result.month result.day }
+    ensures number { calendar.day_number result.year result.month result.day ≡ number }
+{
+    let date = Date::from_plain(PlainDate::from_unix_epoch_day(number).unwrap());
+    CalendarDate {
+        year: date.year() as u16,
+        month: date.month() as u8,
+        day: date.day() as u8,
+    }
+}
