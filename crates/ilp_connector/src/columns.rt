@@ -1,5 +1,5 @@
 //! A line of the report: a label, a name and a number in columns.
-ghost use Rattle.std.specs.Prelude.{◌≡◌, ◌++◌, OnOk, IfOk, string_bytes, replicate};
+ghost use Rattle.std.specs.Prelude.{◌≡◌, ◌++◌, OnOk, string_bytes, replicate};
 ghost use Rattle.ilp_connector.specs.Report.{left, right, report_line};
 
 use std::alloc::{AllocError, Allocator};

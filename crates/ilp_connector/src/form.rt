@@ -1,15 +1,21 @@
 //! What a line of a script asks for.
-ghost use Rattle.std.specs.Prelude.{◌≡◌, ◌<◌, ◌≤◌, ◌^◌, ◌∷◌, [], List, ℕ, IfSome, Some, None, if◌then◌else◌};
+ghost use Rattle.std.specs.Prelude.{◌≡◌, ◌<◌, ◌≤◌, ◌^◌, ◌∷◌, IfSome};
 ghost use Rattle.std.specs.Char.{is_ascii_digit};
 ghost use Rattle.std.specs.List.{list_all, slice_split};
 ghost use Rattle.ilp_connector.specs.Configuration.{peer_named};
 ghost use Rattle.ilp_connector.specs.Script as script;
 ghost use Rattle.ilp_connector.specs.Script.{form_of, form_of_fields, is_space, is_printable, number_in};
-ghost use Rattle.ilp_connector.specs.Seen.{form_seen, fields_after, field_list, hex_seen};
+ghost use Rattle.ilp_connector.specs.Seen.{form_seen, fields_after, field_list};
 
 use crate::config::Config;
 use crate::lines::first_place;
 use std::str;
+
+/// The most digits of a moment.
+const MOMENT_DIGITS: usize = 15;
+
+/// The most digits of an entry's number.
+const ENTRY_DIGITS: usize = 9;
 
 /// What a line asks for. Packets are hexadecimal text, which is decoded later.
 #[derive(Clone, Copy)]
@@ -73,7 +79,7 @@ fn hold_form<'a>(config: &Config, now: &[u8], peer: &[u8], packet: &'a [u8]) -> 
     ensures { form_seen result ≡ script.hold_form (script.moment_in now.now)
         (peer_named config.now.peers peer.now) packet.now }
 {
-    let Some(now) = number_in(now, 15) else {
+    let Some(now) = number_in(now, MOMENT_DIGITS) else {
         return Form::Bad;
     };
     let Some(peer) = config.peer_by_name(peer) else {
@@ -94,10 +100,10 @@ fn answer_form<'a>(now: &[u8], number: &[u8], packet: &'a [u8]) -> Form<'a>
     ensures { form_seen result ≡ script.answer_form (script.moment_in now.now)
         (script.entry_in number.now) packet.now }
 {
-    let Some(now) = number_in(now, 15) else {
+    let Some(now) = number_in(now, MOMENT_DIGITS) else {
         return Form::Bad;
     };
-    let Some(number) = number_in(number, 9) else {
+    let Some(number) = number_in(number, ENTRY_DIGITS) else {
         return Form::Bad;
     };
     if packet.is_empty() {

@@ -23,7 +23,7 @@ const LAST_OF_ALL: i64 = 253_402_300_799_999;
 pub(crate) struct Ledger<'c, A: Allocator> {
     config: &'c Config,
     journal: Journal<A>,
-    open: u32,
+    open_count: u32,
 }
 
 impl<'c, A: Allocator> Model for Ledger<'c, A> {
@@ -33,7 +33,7 @@ impl<'c, A: Allocator> Model for Ledger<'c, A> {
 
     ghost view = { λ l. record { config = l.config.now; entries = l.journal.entries } };
 
-    ghost invariant = { λ l. IsKept l.config.now l.journal l.open };
+    ghost invariant = { λ l. IsKept l.config.now l.journal l.open_count };
 }
 
 impl<'c, A: Allocator> Ledger<'c, A> {
@@ -45,7 +45,7 @@ impl<'c, A: Allocator> Ledger<'c, A> {
         Ok(Ledger {
             config,
             journal,
-            open: 0,
+            open_count: 0,
         })
     }
 
@@ -71,8 +71,8 @@ impl<'c, A: Allocator> Ledger<'c, A> {
         now.min(LAST_OF_ALL).max(0).max(last_moment(&self.journal))
     }
 
-    #[tactic(auto, unfolding(crate::specs::Step::hold_step))]
     /// Holds a Prepare's amount against the balance of its sender. A refusal changes nothing.
+    #[tactic(auto, unfolding(crate::specs::Step::hold_step))]
     pub(crate) fn hold(
         &mut self,
         actor: u32,
@@ -103,11 +103,11 @@ impl<'c, A: Allocator> Ledger<'c, A> {
         ensures err { OnErr result (self.new ≡ self.old) }
     {
         let number = self.journal.len();
-        let open = u64::from(self.open);
-        if u64::from(number) + open + 2 > u64::from(self.config.limit()) {
+        let open_count = u64::from(self.open_count);
+        if u64::from(number) + open_count + 2 > u64::from(self.config.limit()) {
             return Err(HoldFault::Full);
         }
-        let Ok(()) = self.journal.reserve(self.open as usize + 2) else {
+        let Ok(()) = self.journal.reserve(self.open_count as usize + 2) else {
             return Err(HoldFault::Memory);
         };
         self.journal.push_reserved(Entry {
@@ -115,7 +115,7 @@ impl<'c, A: Allocator> Ledger<'c, A> {
             actor,
             what: What::Hold(hold),
         });
-        self.open += 1;
+        self.open_count += 1;
         Ok(Held {
             number,
             to: hold.to,
@@ -124,8 +124,8 @@ impl<'c, A: Allocator> Ledger<'c, A> {
         })
     }
 
-    #[tactic(auto, unfolding(crate::specs::Step::answer_step))]
     /// Books what came back for a hold, if it is open. Takes no memory: the hold has made room.
+    #[tactic(auto, unfolding(crate::specs::Step::answer_step))]
     pub(crate) fn answer(
         &mut self,
         actor: u32,
@@ -181,7 +181,7 @@ impl<'c, A: Allocator> Ledger<'c, A> {
     {
         let number = self.journal.len();
         self.journal.push_reserved(entry);
-        self.open -= 1;
+        self.open_count -= 1;
         number
     }
 }

@@ -1,5 +1,5 @@
 //! What a line of a script prints.
-ghost use Rattle.std.specs.Prelude.{◌≡◌, IfOk, OnOk, ◌++◌, string_bytes};
+ghost use Rattle.std.specs.Prelude.{◌≡◌, IfOk, string_bytes};
 ghost use Rattle.ilp_connector.specs.Text as texts;
 ghost use Rattle.ilp_connector.specs.Text.{reply_text, balance_lines};
 

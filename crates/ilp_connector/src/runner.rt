@@ -1,9 +1,9 @@
 //! A script of lines: read whole, run line by line, and what each line prints written.
-ghost use Rattle.std.specs.Prelude.{◌≡◌, ◌≢◌, ◌≤◌, OnOk, OnErr, IfSome, IsErrOf, length, [], ◌<◌};
-ghost use Rattle.std.specs.Io.KnownBytes.{Appends, Consumes};
+ghost use Rattle.std.specs.Prelude.{◌≡◌, ◌≢◌, ◌<◌, OnOk, OnErr, IfSome, IsErrOf, [], length};
+ghost use Rattle.std.specs.Io.KnownBytes.{Appends};
 ghost use Rattle.ilp_io.specs.Counts.{TalliesUpTo, CountsUp};
 ghost use Rattle.ilp_io.specs.Writing.{AppendsPrefix};
-ghost use Rattle.ilp_io.specs.Reading.{IsReadWhole, ConsumesFirst};
+ghost use Rattle.ilp_io.specs.Reading.{ConsumesFirst};
 ghost use Rattle.ilp_connector.specs.Replay.{text_of, Replays, Stops, failed_reads, failed_writes, fault_refusal};
 
 use crate::config::Config;

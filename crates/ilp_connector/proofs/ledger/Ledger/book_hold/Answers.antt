@@ -8,6 +8,6 @@ invariant_of-self-2 g c =
     let same = c.in-Ok.ensures.entries in
     let back = to_z-of_z c.ranges.moment in
     let room = c.in-Ok.ensures.ok in
-    kept_held c.self.inside.config.now c.self.inside.journal c.push_reserved.new.self c.self.inside.open c.args.actor c.args.moment c.args.hold c.self.invariant c.requires
+    kept_held c.self.inside.config.now c.self.inside.journal c.push_reserved.new.self c.self.inside.open_count c.args.actor c.args.moment c.args.hold c.self.invariant c.requires
     (omega (arith, c.limit.ensures))
     (cc (grown, same, back)) (omega (arith, room, c.push_reserved.ensures.used)) (c.push_reserved.ensures.limit ∙ c.in-Ok.ensures.limit)

@@ -25,5 +25,5 @@ overflow_sub-self g c =
 pub invariant_of-self : goal.invariant_of-self
 invariant_of-self g c =
     let once = let P : Kept → Type 0 = λ k. AnswersOnce k.entries c.args.entry in subst P (sym c.self.view_is) c.requires.once in
-    kept_closed c.self.inside.config.now c.self.inside.journal c.push_reserved.new.self c.self.inside.open c.args.entry c.self.invariant once c.requires.answer c.requires.last
+    kept_closed c.self.inside.config.now c.self.inside.journal c.push_reserved.new.self c.self.inside.open_count c.args.entry c.self.invariant once c.requires.answer c.requires.last
     c.push_reserved.ensures.entries c.push_reserved.ensures.used c.push_reserved.ensures.limit
