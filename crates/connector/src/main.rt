@@ -2,11 +2,10 @@
 #![tactic(auto)]
 
 use ilp_connector::{Config, Refusal, ReplayFault, replay};
-use std::env;
-use std::io;
 use std::io::ErrorKind;
 use std::process::ExitCode;
 use std::rt::Runtime;
+use std::{env, io};
 
 const USAGE: &str = "usage: connector packet HEX, check CONFIG, replay CONFIG, serve CONFIG";
 

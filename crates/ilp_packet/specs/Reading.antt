@@ -1,7 +1,8 @@
 -- Reading a packet (RFC 0027, RFC 0030) from left to right, with the first fault that is met.
-use Rattle.std.specs.Prelude.{◌≡◌, ℕ, ◌<◌, All, ℤ, Bool, true, false, not, List, [], ◌∷◌, length, take, drop, slice_index, Option, Some, None, Result, Ok, Err, nat_lt, ◌==◌, if◌then◌else◌}
+use Rattle.std.specs.Prelude.{◌≡◌, ℕ, ℤ, Bool, true, false, not, List, [], ◌∷◌, length, take, drop, slice_index, Option, Some, None, Result, Ok, Err, nat_lt, ◌==◌, if◌then◌else◌}
 use Rattle.std.specs.Result.{result_err}
 use Rattle.std.specs.Int.{w64, from_be_bytes}
+pub use Rattle.ilp_oer.specs.Octets.{AreOctets}
 use Rattle.ilp_oer.specs.OctetString as oer
 use Rattle.ilp_oer.specs.declared.fault.OerFault.{OerFault}
 use Rattle.ilp_oer.specs.declared.fault.OerFault.TheVariants as oer_faults
@@ -138,7 +139,3 @@ reading (number ∷ octets) =
 -- the first fault of octets; none where they stand for a packet
 abbrev pub fault_of : List ℕ → Option PacketFault
 fault_of octets = result_err (reading octets)
-
--- each number of a list is an octet
-abbrev pub AreOctets : List ℕ → Type 0
-AreOctets = All (λ octet. octet < 256)
