@@ -7,3 +7,6 @@ pub mod Script
 pub mod Seen
 pub mod Step
 pub mod Text
+pub use Rattle.ilp_io.specs.Counts
+pub use Rattle.ilp_io.specs.Reading
+pub use Rattle.ilp_io.specs.Writing

@@ -4,6 +4,8 @@ ghost use Rattle.std.specs.Prelude.{◌≡◌, Some, SomeIff};
 ghost use Rattle.ilp_terms.specs.Expiry.{IsExpiry, IsMoment};
 
 use super::*;
+use sha2::{Digest, Sha256};
+use std::test::Fail;
 
 #[test]
 fn reads_and_writes_known_expiries(rt: HostRuntime) {
@@ -95,4 +97,28 @@ fn meets_known_conditions(rt: HostRuntime) {
     assert!(rt; meets(&COUNT_DIGEST, &count));
     assert!(rt; !meets(&ZEROS_DIGEST, &count));
     assert!(rt; !meets(&zeros, &zeros));
+}
+
+// The examples of FIPS 180-4: a message of one block, the empty one, and one of two blocks.
+#[test]
+fn digests_the_standards_examples(rt: HostRuntime) -> Result<(), Fail> {
+    let examples: [(&str, &str); 3] = [
+        (
+            "abc",
+            "ba7816bf8f01cfea414140de5dae2223b00361a396177a9cb410ff61f20015ad",
+        ),
+        (
+            "",
+            "e3b0c44298fc1c149afbf4c8996fb92427ae41e4649b934ca495991b7852b855",
+        ),
+        (
+            "abcdbcdecdefdefgefghfghighijhijkijkljklmklmnlmnomnopnopq",
+            "248d6a61d20638b8e5c026930c3e6039a33ce45964ff2167f6ecedd419db06c1",
+        ),
+    ];
+    for (message, digest) in examples {
+        let found = hex::encode(rt.alloc(), Sha256::digest(message).as_slice())?;
+        assert_eq!(rt; found.as_str(), digest);
+    }
+    Ok(())
 }
