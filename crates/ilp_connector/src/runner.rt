@@ -47,7 +47,14 @@ impl ReplayFault {
     }
 }
 
+/// `NUMBER NAME`, as its refusal.
 impl fmt::Display for ReplayFault {
+    ghost use Rattle.std.specs.Prelude.{Some};
+    ghost use Rattle.ilp_connector.specs.Refusals.{refusal_text};
+    ghost use Rattle.ilp_connector.specs.Replay.{fault_refusal};
+
+    ghost output = { λ fault. Some (refusal_text (fault_refusal fault)) };
+
     fn fmt<W: fmt::Write>(&self, f: &mut fmt::Formatter<W>) -> fmt::Result {
         let refusal = self.refusal();
         write!(f, "{refusal}")
