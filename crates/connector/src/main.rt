@@ -1,7 +1,8 @@
-//! The connector's command line. So far it replays a script from standard input.
+//! The connector's command line. So far it describes a packet, and replays a script from standard
+//! input.
 #![tactic(auto)]
 
-use ilp_connector::{Config, Refusal, ReplayFault, replay};
+use ilp_connector::{Config, Refusal, ReplayFault, describe_packet, replay};
 use std::io::ErrorKind;
 use std::process::ExitCode;
 use std::rt::Runtime;
@@ -32,15 +33,34 @@ fn run<R: Runtime + AllocGlobal>(rt: &R) -> Ending {
         Err(_) => return Ending::Misused,
     };
     match (words.next(), words.next(), words.next()) {
-        (Some(command), Some(source), None) => run_command(rt, command.as_str(), source.as_str()),
+        (Some(command), Some(argument), None) => {
+            run_command(rt, command.as_str(), argument.as_str())
+        }
         _ => Ending::Misused,
     }
 }
 
-fn run_command<R: Runtime + AllocGlobal>(rt: &R, command: &str, source: &str) -> Ending {
-    if command != "replay" || source != "-" {
-        return Ending::Misused;
+fn run_command<R: Runtime + AllocGlobal>(rt: &R, command: &str, argument: &str) -> Ending {
+    match (command, argument) {
+        ("packet", text) => run_packet(rt, text),
+        ("replay", "-") => run_replay(rt),
+        _ => Ending::Misused,
     }
+}
+
+// Prints what a packet in hexadecimal says.
+fn run_packet<R: Runtime + AllocGlobal>(rt: &R, text: &str) -> Ending {
+    match describe_packet(rt.alloc(), text) {
+        Ok(line) => match rt.println(line.as_str()) {
+            Ok(()) => Ending::Done,
+            Err(_) => Ending::OutputFailed,
+        },
+        Err(refusal) => Ending::Refused(refusal),
+    }
+}
+
+// Runs the script of standard input over the built-in configuration.
+fn run_replay<R: Runtime + AllocGlobal>(rt: &R) -> Ending {
     let mut reader = rt.reader();
     let mut writer = io::writer(rt);
     match replay(rt.alloc(), &Config::built_in(), &mut reader, &mut writer) {

@@ -1,5 +1,6 @@
 pub mod Configuration
 pub mod Kept
+pub mod PacketText
 pub mod Refusals
 pub mod Replay
 pub mod Report

@@ -6,7 +6,6 @@ use Rattle.hex.specs.declared.error.FromHexError.{FromHexError}
 use Rattle.ilp_io.specs.Reading.{IsReadWhole}
 use Rattle.ilp_io.specs.Writing.{AppendsPrefix}
 use Rattle.ilp_packet.specs.declared.fault.PacketFault.{PacketFault}
-use Rattle.ilp_packet.specs.declared.fault.PacketFault.TheVariants as packet_fault
 use Rattle.ilp_packet.specs.Packet.{PlainPacket, prepare, fulfill, reject}
 use Rattle.ilp_packet.specs.Reading.{reading}
 use Rattle.ilp_journal.specs.Journal.{Entries}
@@ -22,23 +21,13 @@ use Rattle.ilp_connector.specs.declared.reply.Reply.{Reply}
 use Rattle.ilp_connector.specs.declared.reply.Reply.TheVariants as replies
 use Rattle.ilp_connector.specs.declared.runner.ReplayFault.{ReplayFault}
 use Rattle.ilp_connector.specs.declared.runner.ReplayFault.TheVariants as replay_fault
+use Rattle.ilp_connector.specs.Refusals.{packet_refusal}
 use Rattle.ilp_connector.specs.Configuration.{Configuration}
 use Rattle.ilp_connector.specs.Script.{lines_of, Form, hold, answer, report, silent, bad, form_of}
 use Rattle.ilp_connector.specs.Step.{Made, appended, hold_step, answer_step}
 use Rattle.ilp_connector.specs.Text.{reply_text}
 
 -- ---- one line
-
--- the refusal of octets that are no packet
-abbrev pub packet_refusal : PacketFault → Refusal
-packet_refusal packet_fault.Truncated = refusals.Truncated
-packet_refusal packet_fault.BadPrefix = refusals.BadPrefix
-packet_refusal packet_fault.TooLong = refusals.TooLong
-packet_refusal packet_fault.UnknownType = refusals.UnknownType
-packet_refusal packet_fault.Trailing = refusals.Trailing
-packet_refusal packet_fault.BadExpiry = refusals.BadExpiry
-packet_refusal packet_fault.BadAddress = refusals.BadAddress
-packet_refusal packet_fault.FieldTooLong = refusals.FieldTooLong
 
 -- a reply that books nothing
 abbrev pub says : Reply → Made Reply

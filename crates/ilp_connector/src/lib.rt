@@ -4,6 +4,7 @@
 mod calls;
 mod columns;
 mod config;
+mod describe;
 mod form;
 mod ledger;
 mod line;
@@ -13,6 +14,7 @@ mod reply;
 mod runner;
 
 pub use config::Config;
+pub use describe::describe_packet;
 pub use refusal::Refusal;
 pub use runner::{ReplayFault, replay};
 

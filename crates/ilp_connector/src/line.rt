@@ -13,7 +13,7 @@ use crate::ledger::Ledger;
 use crate::refusal::Refusal;
 use crate::reply::Reply;
 use hex::FromHexError;
-use ilp_packet::{Packet, PacketFault};
+use ilp_packet::Packet;
 use std::alloc::{AllocError, Allocator};
 
 /// The actor that a script's entries are booked by.
@@ -86,7 +86,7 @@ fn hold_octets<A: Allocator>(
         Ok(Packet::Prepare(prepare)) => prepare,
         Ok(Packet::Fulfill(_)) => return Ok(Reply::BadPacket(Refusal::NotPrepare)),
         Ok(Packet::Reject(_)) => return Ok(Reply::BadPacket(Refusal::NotPrepare)),
-        Err(fault) => return Ok(Reply::BadPacket(packet_refusal(fault))),
+        Err(fault) => return Ok(Reply::BadPacket(Refusal::from(fault))),
     };
     match ledger.hold(ACTOR, peer, &prepare, now) {
         Ok(held) => Ok(Reply::Held(held)),
@@ -165,23 +165,8 @@ fn came_back(octets: &[u8]) -> PeerReply
     }
 }
 
-fn packet_refusal(fault: PacketFault) -> Refusal
-    ensures { result ≡ replays.packet_refusal fault }
-{
-    match fault {
-        PacketFault::Truncated => Refusal::Truncated,
-        PacketFault::BadPrefix => Refusal::BadPrefix,
-        PacketFault::TooLong => Refusal::TooLong,
-        PacketFault::UnknownType => Refusal::UnknownType,
-        PacketFault::Trailing => Refusal::Trailing,
-        PacketFault::BadExpiry => Refusal::BadExpiry,
-        PacketFault::BadAddress => Refusal::BadAddress,
-        PacketFault::FieldTooLong => Refusal::FieldTooLong,
-    }
-}
-
 // The octets of a hexadecimal text, if it is one.
-fn decode<A: Allocator>(alloc: A, text: &[u8]) -> Result<Option<Vec<u8, A>>, AllocError>
+pub(crate) fn decode<A: Allocator>(alloc: A, text: &[u8]) -> Result<Option<Vec<u8, A>>, AllocError>
     ensures { IfOk result (λ decoded. MatchOption decoded (IsErr (decode_of text.now))
         (λ octets. decode_of text.now ≡ Ok octets.items)) }
 {

@@ -2,6 +2,7 @@
 ghost use Rattle.std.specs.Prelude.{◌≡◌};
 ghost use Rattle.ilp_connector.specs.Refusals.{refusal_number, refusal_name};
 
+use ilp_packet::PacketFault;
 use std::fmt;
 
 /// A refusal, as programs print it: by its number and its name.
@@ -23,6 +24,8 @@ pub enum Refusal {
     BadAddress,
     /// A field is longer than its limit.
     FieldTooLong,
+    /// A text is no even number of hexadecimal digits.
+    BadHex,
     /// A packet is no Prepare.
     NotPrepare,
     /// A Prepare has expired.
@@ -55,6 +58,7 @@ impl Refusal {
             Refusal::BadExpiry => 6,
             Refusal::BadAddress => 7,
             Refusal::FieldTooLong => 8,
+            Refusal::BadHex => 9,
             Refusal::NotPrepare => 10,
             Refusal::Expired => 38,
             Refusal::TooShort => 39,
@@ -79,6 +83,7 @@ impl Refusal {
             Refusal::BadExpiry => "BadExpiry",
             Refusal::BadAddress => "BadAddress",
             Refusal::FieldTooLong => "FieldTooLong",
+            Refusal::BadHex => "BadHex",
             Refusal::NotPrepare => "NotPrepare",
             Refusal::Expired => "Expired",
             Refusal::TooShort => "TooShort",
@@ -103,5 +108,26 @@ impl fmt::Display for Refusal {
         let number = self.number();
         let name = self.name();
         write!(f, "{number} {name}")
+    }
+}
+
+/// Octets that are no packet.
+impl From<PacketFault> for Refusal {
+    ghost use Rattle.std.specs.Prelude.{◌≡◌};
+    ghost use Rattle.ilp_connector.specs.Refusals.{packet_refusal};
+
+    ghost from_gives = { λ fault result. result ≡ packet_refusal fault };
+
+    fn from(fault: PacketFault) -> Refusal {
+        match fault {
+            PacketFault::Truncated => Refusal::Truncated,
+            PacketFault::BadPrefix => Refusal::BadPrefix,
+            PacketFault::TooLong => Refusal::TooLong,
+            PacketFault::UnknownType => Refusal::UnknownType,
+            PacketFault::Trailing => Refusal::Trailing,
+            PacketFault::BadExpiry => Refusal::BadExpiry,
+            PacketFault::BadAddress => Refusal::BadAddress,
+            PacketFault::FieldTooLong => Refusal::FieldTooLong,
+        }
     }
 }

@@ -1,5 +1,5 @@
 //! Octets in memory.
-ghost use Rattle.std.specs.Prelude.{◌≡◌, ◌+◌, ◌<◌, ◌≤◌, [], ◌++◌, length, IsOk, OnOk, OnErr};
+ghost use Rattle.std.specs.Prelude.{◌≡◌, ◌+◌, ◌<◌, ◌≤◌, [], ◌++◌, length, IsOk, OnOk, OnErr, vec_len, vec_capacity};
 ghost use Rattle.ilp_oer.specs.Octets.{Held};
 
 use std::alloc::{AllocError, Allocator, Global};
@@ -9,18 +9,18 @@ use std::marker::Model;
 #[derive(Debug, Drop)]
 pub struct Octets<A: Allocator = Global> {
     row: Vec<u8, A>,
+    // How many more octets the row has room for at least. It is kept beside the row, since std does
+    // not say that the capacity stays as it is where octets are appended in one piece.
+    room: usize,
+    ghost fits: { vec_len row + room ≤ vec_capacity row },
 }
 
 impl<A: Allocator> Model for Octets<A> {
-    ghost use Rattle.std.specs.Prelude.{◌-◌, vec_len, vec_capacity};
     ghost use Rattle.ilp_oer.specs.Octets.{Held};
 
     ghost Value = { Held };
 
-    ghost view = { λ o. record {
-      octets = o.row.items;
-      spare = vec_capacity o.row - vec_len o.row;
-    } };
+    ghost view = { λ o. record { octets = o.row.items; spare = o.room } };
 }
 
 impl<A: Allocator> Octets<A> {
@@ -31,6 +31,7 @@ impl<A: Allocator> Octets<A> {
     {
         Octets {
             row: Vec::new(alloc),
+            room: 0,
         }
     }
 
@@ -46,6 +47,7 @@ impl<A: Allocator> Octets<A> {
         ensures octets { self.new.octets ≡ [] }
         ensures room { self.new.spare ≡ length self.old.octets + self.old.spare }
     {
+        self.room += self.row.len();
         self.row.clear();
     }
 
@@ -53,7 +55,7 @@ impl<A: Allocator> Octets<A> {
     pub fn spare(&self) -> usize
         ensures { result ≡ self.now.spare }
     {
-        self.row.capacity() - self.row.len()
+        self.room
     }
 
     /// Makes room for `additional` more octets, if there is less.
@@ -71,10 +73,12 @@ impl<A: Allocator> Octets<A> {
         ensures refused { OnErr result (self.old.spare < additional) }
         ensures err { OnErr result (self.new ≡ self.old) }
     {
-        if additional <= self.spare() {
+        if additional <= self.room {
             return Ok(());
         }
-        self.row.reserve(additional)
+        self.row.reserve(additional)?;
+        self.room = self.row.capacity() - self.row.len();
+        Ok(())
     }
 
     /// Appends the octets.
@@ -92,18 +96,8 @@ impl<A: Allocator> Octets<A> {
         ensures err { OnErr result (self.new ≡ self.old) }
     {
         self.reserve(octets.len())?;
-        self.fill(octets);
+        self.row.extend_from_slice(octets)?;
+        self.room -= octets.len();
         Ok(())
-    }
-
-    // Appends into room that is there.
-    fn fill(&mut self, octets: &[u8])
-        requires { length octets.now ≤ self.old.spare }
-        ensures octets { self.new.octets ≡ self.old.octets ++ octets.now }
-        ensures used { self.new.spare + length octets.now ≡ self.old.spare }
-    {
-        for octet in octets {
-            self.row.push_reserved(*octet);
-        }
     }
 }

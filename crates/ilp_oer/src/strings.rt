@@ -60,6 +60,7 @@ fn read_len(input: &[u8]) -> Result<(usize, &[u8]), OerFault>
 ///
 /// It is refused only where room for it is missing and memory for that is refused. Then the list is
 /// as before.
+#[inline]
 pub fn write_octets<A: Allocator>(out: &mut Octets<A>, content: &[u8]) -> Result<(), AllocError>
     requires { length content.now ≤ MAX_CONTENT }
     ensures ok { OnOk result (out.new.octets ≡ out.old.octets ++ spelling content.now) }
@@ -71,32 +72,48 @@ pub fn write_octets<A: Allocator>(out: &mut Octets<A>, content: &[u8]) -> Result
     ensures refused { OnErr result (out.old.spare < length (spelling content.now)) }
     ensures err { OnErr result (out.new ≡ out.old) }
 {
-    let len = content.len();
+    out.reserve(octets_len(content.len()))?;
+    write_prefix(out, content.len())?;
+    out.append(content)
+}
+
+/// Appends the prefix of an octet string whose content, of at most `MAX_CONTENT` octets, is to
+/// follow.
+///
+/// It is refused only where room for it is missing and memory for that is refused. Then the list is
+/// as before.
+#[inline]
+pub fn write_prefix<A: Allocator>(out: &mut Octets<A>, len: usize) -> Result<(), AllocError>
+    requires { len ≤ MAX_CONTENT }
+    ensures ok { OnOk result (out.new.octets ≡ out.old.octets ++ prefix len) }
+
+    // As `append` of the prefix.
+    ensures enough { length (prefix len) ≤ out.old.spare → IsOk result }
+    ensures used { length (prefix len) ≤ out.old.spare
+        → out.new.spare + length (prefix len) ≡ out.old.spare }
+    ensures refused { OnErr result (out.old.spare < length (prefix len)) }
+    ensures err { OnErr result (out.new ≡ out.old) }
+{
     let low = (len % 0x100) as u8;
     if len < 0x80 {
-        write_parts(out, &[low], content)
+        out.append(&[low])
     } else if len < 0x100 {
-        write_parts(out, &[0x81, low], content)
+        out.append(&[0x81, low])
     } else {
-        write_parts(out, &[0x82, (len / 0x100) as u8, low], content)
+        out.append(&[0x82, (len / 0x100) as u8, low])
     }
 }
 
-// Appends both or neither.
-fn write_parts<A: Allocator>(
-    out: &mut Octets<A>,
-    first: &[u8],
-    second: &[u8],
-) -> Result<(), AllocError>
-    requires { length first.now + length second.now < 2 ^ 64 }
-    ensures ok { OnOk result (out.new.octets ≡ out.old.octets ++ (first.now ++ second.now)) }
-    ensures enough { length (first.now ++ second.now) ≤ out.old.spare → IsOk result }
-    ensures used { length (first.now ++ second.now) ≤ out.old.spare
-        → out.new.spare + length (first.now ++ second.now) ≡ out.old.spare }
-    ensures refused { OnErr result (out.old.spare < length (first.now ++ second.now)) }
-    ensures err { OnErr result (out.new ≡ out.old) }
+/// How many octets an octet string has, with its prefix, whose content has `len`, at most
+/// `MAX_CONTENT`.
+#[inline]
+pub fn octets_len(len: usize) -> usize
+    requires { len ≤ MAX_CONTENT }
+    ensures { result ≡ length (prefix len) + len }
 {
-    out.reserve(first.len() + second.len())?;
-    out.append(first)?;
-    out.append(second)
+    match len {
+        0..=0x7f => 1 + len,
+        0x80..=0xff => 2 + len,
+        _ => 3 + len,
+    }
 }

@@ -1,5 +1,6 @@
-//! Octet strings by hand. The prefixes are those of `int.to_bytes(2, "big")` in Python.
+//! Octet strings by hand, and from a Python script.
 use super::*;
+use std::alloc::{AllocError, Global};
 use std::test::Fail;
 
 #[test]
@@ -31,21 +32,39 @@ fn reads_the_content_and_the_rest(rt: HostRuntime) {
     assert_eq!(rt; rest, &[9][..]);
 }
 
+// The octets 0, 1, .. 250, 0, 1, .., so many.
+fn counted(alloc: Global, len: usize) -> Result<Vec<u8>, AllocError> {
+    let mut octets = Vec::new(alloc);
+    for place in 0..len {
+        octets.push((place % 251) as u8)?;
+    }
+    Ok(octets)
+}
+
+// The heads and tails are those of `scripts/packet_vectors.py`.
 #[test]
 fn writes_and_reads_each_length(rt: HostRuntime) -> Result<(), Fail> {
-    for (len, prefix) in [
-        (0, &[0][..]),
-        (127, &[0x7f][..]),
-        (128, &[0x81, 0x80][..]),
-        (255, &[0x81, 0xff][..]),
-        (256, &[0x82, 1, 0][..]),
-        (MAX_CONTENT, &[0x82, 0xff, 0xff][..]),
-    ] {
-        let content = vec![in rt.alloc(); 5; len]?;
+    let known: [(usize, usize, &[u8], &[u8]); 6] = [
+        (0, 1, &[0], &[0]),
+        (127, 128, &[0x7f, 0, 1, 2], &[0x7d, 0x7e]),
+        (128, 130, &[0x81, 0x80, 0, 1], &[0x7e, 0x7f]),
+        (255, 257, &[0x81, 0xff, 0, 1], &[2, 3]),
+        (256, 259, &[0x82, 1, 0, 0, 1], &[3, 4]),
+        (
+            MAX_CONTENT,
+            65_538,
+            &[0x82, 0xff, 0xff, 0, 1],
+            &[0x16, 0x17],
+        ),
+    ];
+    for (len, whole, head, tail) in known {
+        let content = counted(rt.alloc(), len)?;
+        assert!(rt; content.len() <= MAX_CONTENT);
         let mut out = Octets::new(rt.alloc());
         write_octets(&mut out, &content)?;
-        assert_eq!(rt; out.as_slice().len(), prefix.len() + len);
-        assert_eq!(rt; &out.as_slice()[..prefix.len()], prefix);
+        assert_eq!(rt; out.as_slice().len(), whole);
+        assert!(rt; out.as_slice().starts_with(head), "{len}");
+        assert!(rt; out.as_slice().ends_with(tail), "{len}");
         let Ok((read, rest)) = read_octets(out.as_slice()) else {
             assert!(rt; false, "a written octet string of {len} octets was refused");
             return Ok(());

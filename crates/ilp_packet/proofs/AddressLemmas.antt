@@ -89,7 +89,7 @@ scheme_passes text found =
     let each = AllPass-from_list_all is_scheme schemes refl in
     subst (λ (t : List ℕ). is_scheme t ≡ true) found.2 (each found.0 text found.1)
 
-scheme_allowed : (text : List ℕ) → Contains schemes text → list_all is_segment_octet text ≡ true
+pub scheme_allowed : (text : List ℕ) → Contains schemes text → list_all is_segment_octet text ≡ true
 scheme_allowed text found =
     let each = AllPass-from_list_all (list_all is_segment_octet) schemes refl in
     subst (λ (t : List ℕ). list_all is_segment_octet t ≡ true) found.2 (each found.0 text found.1)

@@ -1,9 +1,11 @@
 pub mod ExpiryLemmas
 pub mod MomentLemmas
 pub mod AddressLemmas
+pub mod AddressText
 pub mod TakingLemmas
 pub mod StringLemmas
 pub mod FieldLemmas
 pub mod ContentLemmas
 pub mod ReadingLemmas
 pub mod SpellingLemmas
+pub mod WritingLemmas

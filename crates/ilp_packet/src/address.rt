@@ -54,24 +54,18 @@ fn begins_address(text: &[u8]) -> bool
     )
 }
 
-// Whether octets are segments with a dot between any two.
+// Whether octets are segments with a dot between any two. It looks at every octet, since a loop
+// that never ends early becomes vector code.
 fn are_all_segments(octets: &[u8]) -> bool
     ensures { result ≡ are_segments false octets.now }
 {
-    let mut begun = false;
+    let mut passed = true;
+    let mut before = b'.';
     for octet in octets {
-        if *octet == b'.' {
-            if !begun {
-                return false;
-            }
-            begun = false;
-        } else if is_allowed(*octet) {
-            begun = true;
-        } else {
-            return false;
-        }
+        passed &= is_allowed(*octet) | (*octet == b'.') & (before != b'.');
+        before = *octet;
     }
-    begun
+    passed && before != b'.'
 }
 
 // Whether a segment may have this octet.

@@ -7,11 +7,11 @@ use crate::contents::{read_content, read_fulfill, read_prepare, read_reject};
 use crate::fault::PacketFault;
 
 // The type octets of the packets.
-const PREPARE: u8 = 12;
+pub(crate) const PREPARE: u8 = 12;
 
-const FULFILL: u8 = 13;
+pub(crate) const FULFILL: u8 = 13;
 
-const REJECT: u8 = 14;
+pub(crate) const REJECT: u8 = 14;
 
 /// A packet, whose fields are slices of the octets that it was read from.
 #[derive(Clone, Copy, Debug, PartialEq, Eq)]

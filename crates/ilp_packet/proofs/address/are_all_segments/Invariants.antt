@@ -1,7 +1,8 @@
-use Rattle.std.proofs.Common.{◌≡◌, false, drop}
-use Rattle.ilp_packet.specs.Address.{are_segments}
+use Rattle.std.proofs.Common.{◌≡◌, false, not, ◌&&◌, drop}
+use Rattle.ilp_packet.specs.Address.{is_dot, are_segments}
 use Rattle.ilp_packet.proofs.address.are_all_segments.Given as goal
 
--- what is left decides
+-- what is left decides, unless an octet did before
 abbrev pub invariant-loop-octet : goal.invariant-loop-octet
-invariant-loop-octet l = are_segments l.begun (drop l.octet-index l.octets) ≡ are_segments false l.octets
+invariant-loop-octet l =
+    (l.passed && are_segments (not (is_dot l.before)) (drop l.octet-index l.octets)) ≡ are_segments false l.octets

@@ -1,0 +1,43 @@
+#!/bin/sh
+# Runs the benchmark bench/NAME: main.rt.in, a Rattle program over this repository's crates, and
+# baseline.rs, the same work in plain Rust. Prints the nanoseconds of a turn and their ratio.
+#
+#     scripts/bench.sh packets
+#     scripts/bench.sh quote
+#
+# It works on a copy of the repository in a temporary folder (TMPDIR says where). It needs rt, rustc
+# and python3. The Rattle program is proved before it is built (`rt run`): a build without proof
+# (`rt try`) has checks in it and is slower. In a fresh clone that takes some minutes. ROUNDS is how
+# often each program runs; of each row the least time counts, since other work on the machine can
+# only add to it.
+set -eu
+
+name=${1:?usage: scripts/bench.sh NAME}
+rounds=${ROUNDS:-15}
+top=$(cd "$(dirname "$0")/.." && pwd)
+bench="$top/bench/$name"
+work=$(mktemp -d)
+trap 'rm -rf "$work"' EXIT
+
+copy="$work/repository"
+mkdir "$copy"
+cp -r "$top/crates" "$top/crates.txt" "$top/HANDLES" "$copy"
+mkdir -p "$copy/crates/bench_$name/src"
+cp "$bench/main.rt.in" "$copy/crates/bench_$name/src/main.rt"
+printf '\nbench_%s: %s\n' "$name" "$(cat "$bench/uses")" >>"$copy/crates.txt"
+if [ -f "$bench/$name.py" ]; then python3 "$bench/$name.py"; fi >"$work/input"
+
+echo "proves and builds the Rattle program (rt run) ..." >&2
+cd "$copy/crates/bench_$name"
+rt run <"$work/input" >"$work/first" 2>"$work/log" || { cat "$work/log" >&2; exit 1; }
+cpu=$(sed -n 's/^logic=.* cpu=\([^ ]*\).*/\1/p' "$work/log" | tail -n 1)
+rustc --edition 2024 -O -C "target-cpu=$cpu" "$bench/baseline.rs" -o "$work/baseline"
+
+for _ in $(seq "$rounds"); do
+    "out/bench_$name" <"$work/input" | sed 's/^/rattle /'
+    "$work/baseline" <"$work/input" | sed 's/^/rust /'
+done >"$work/rows"
+
+echo "Rattle: proved and built by rt run, for $cpu. Rust: rustc -O for $cpu, std alone."
+echo "Nanoseconds of a turn, the least of $rounds rounds."
+python3 "$top/scripts/bench_table.py" "$work/rows"

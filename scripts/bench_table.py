@@ -1,0 +1,19 @@
+#!/usr/bin/env python3
+"""Prints the table of scripts/bench.sh. A line of the file that is named by the argument has
+`rattle` or `rust`, a row's name, how many turns were made, their nanoseconds, and a sum."""
+import sys
+
+best = {}
+sums = {}
+for line in open(sys.argv[1], encoding="ascii"):
+    side, row, turns, nanoseconds, told = line.split()
+    spent = int(nanoseconds) / int(turns)
+    best.setdefault(row, {}).setdefault(side, spent)
+    best[row][side] = min(best[row][side], spent)
+    if sums.setdefault(row, told) != told:
+        sys.exit(f"{row}: the two programs gave different answers")
+
+print(f"{'':30} {'Rattle':>10} {'Rust':>10} {'ratio':>6}")
+for row, spent in best.items():
+    rattle, rust = spent["rattle"], spent["rust"]
+    print(f"{row:30} {rattle:10.1f} {rust:10.1f} {rattle / rust:6.2f}")
