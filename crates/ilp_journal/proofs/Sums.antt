@@ -1,10 +1,12 @@
 -- Laws of sums and first places over a list, and of lists that grow at their end.
-use Rattle.std.proofs.Common.{◌≡◌, ℕ, zero, suc, ◌+◌, ◌≤◌, cond, List, [], ◌∷◌, ◌++◌, length, refl, sym, ap, subst, append_assoc, arith, add-zero, true, false}
-use Rattle.std.specs.Prelude.{Bool, Option, Some, is_some, slice_get, unwrap_or, option_map, ◌==◌}
+use Rattle.std.proofs.Common.{◌≡◌, ℕ, zero, suc, ◌+◌, ◌≤◌, ℤ, pos, ◌+ℤ◌, ◌-ℤ◌, cond, List, [], ◌∷◌, ◌++◌, length, refl, sym, ap, subst, append_assoc, arith, add-zero, zero-add, true, false}
+use Rattle.std.specs.Prelude.{Bool, Option, Some, None, is_some, slice_get, unwrap_or, option_map, ◌==◌}
 use Rattle.std.specs.Option.{option_or}
 use Rattle.std.proofs.lemmas.List.{append-nil}
 use Rattle.std.proofs.lemmas.Bool.{eq-eqb, ne_eqb, eqb-true, eqb-false}
-use Rattle.ilp_journal.specs.Places.{sum_from, first_from, EachAfter, Each}
+use Rattle.std.proofs.lemmas.Int.{ints}
+use Rattle.ilp_journal.specs.Places.{sum_from, int_sum_from, first_from, EachAfter, Each}
+use Rattle.ilp_journal.specs.Journal.{is_number}
 
 -- ---- a list grows at its end
 
@@ -33,6 +35,15 @@ EachAfter-parts P before (y ∷ ys) x each =
 -- the other way round
 pub Each-parts : {X : Type 0} (P : List X → X → Type 0) (xs : List X) (x : X) → Each P (xs ++ x ∷ []) → Each P xs × P xs x
 Each-parts P xs x each = EachAfter-parts P [] xs x each
+
+EachAfter-both : {X : Type 0} (P Q : List X → X → Type 0) (before xs : List X) → EachAfter P before xs → EachAfter Q before xs
+    → EachAfter (λ b x. P b x × Q b x) before xs
+EachAfter-both P Q before [] p q = tt
+EachAfter-both P Q before (x ∷ xs) p q = ((p.0, q.0), EachAfter-both P Q (before ++ x ∷ []) xs p.1 q.1)
+
+-- two facts that each hold of each element hold of it together
+pub Each-both : {X : Type 0} (P Q : List X → X → Type 0) (xs : List X) → Each P xs → Each Q xs → Each (λ b x. P b x × Q b x) xs
+Each-both P Q xs p q = EachAfter-both P Q [] xs p q
 
 -- ---- sums by place
 
@@ -70,6 +81,25 @@ sum_from_one f n (suc i) (x ∷ xs) =
     let e : n + suc i ≡ (n + 1) + i = omega arith in
     let rest : sum_from (λ k y. cond (k == n + suc i) (f y) 0) (n + 1) xs ≡ unwrap_or (option_map f (slice_get xs i)) 0 = rw e (sum_from_one f (n + 1) i xs) in
     rw here (omega (arith, rest))
+
+-- the sum of the element at the place that a number names
+pub sum_from_named : {X : Type 0} (f : X → ℕ) (o : Option ℕ) (xs : List X)
+    → sum_from (λ k x. cond (is_number k o) (f x) 0) 0 xs ≡ unwrap_or (option_map (λ i. unwrap_or (option_map f (slice_get xs i)) 0) o) 0
+sum_from_named f None xs = sum_from-zero _ 0 xs (λ k x low. refl)
+sum_from_named f (Some i) xs =
+    subst (λ n. sum_from (λ k x. cond (k == n) (f x) 0) 0 xs ≡ unwrap_or (option_map f (slice_get xs i)) 0) (zero-add i) (sum_from_one f 0 i xs)
+
+-- a sum of differences is the difference of the sums
+pub int_sum_from-difference : {X : Type 0} (test : X → Bool) (f g : ℕ → ℕ) (n : ℕ) (xs : List X)
+    → int_sum_from (λ k x. cond (test x) (pos (f k) -ℤ pos (g k)) (pos 0)) n xs
+    ≡ pos (sum_from (λ k x. cond (test x) (f k) 0) n xs) -ℤ pos (sum_from (λ k x. cond (test x) (g k) 0) n xs)
+int_sum_from-difference test f g n [] = refl
+int_sum_from-difference test f g n (x ∷ xs) = differ (test x) (f n) (g n) _ _ _ (int_sum_from-difference test f g (n + 1) xs)
+  where
+    differ : (b : Bool) (m k : ℕ) (rest : ℤ) (p q : ℕ) → rest ≡ pos p -ℤ pos q
+        → cond b (pos m -ℤ pos k) (pos 0) +ℤ rest ≡ pos (cond b m 0 + p) -ℤ pos (cond b k 0 + q)
+    differ true m k rest p q e = omega (arith, ints)
+    differ false m k rest p q e = omega (arith, ints)
 
 -- ---- first places
 

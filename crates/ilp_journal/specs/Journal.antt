@@ -1,5 +1,6 @@
 -- A journal is a list of entries, and an entry's number is its place. Here is what stands and what is open in it.
 use Rattle.std.specs.Prelude.{◌≡◌, ℕ, ◌+◌, ℤ, pos, Bool, false, List, Option, Some, None, is_none, IsNone, IsSome, IfSome, slice_get, option_and_then, option_map, unwrap_or, if◌then◌else◌, ◌==◌, fold}
+use Rattle.std.specs.List.{list_any}
 use Rattle.ilp_journal.specs.declared.entry.Entry.{Entry}
 use Rattle.ilp_journal.specs.declared.entry.What.{What}
 use Rattle.ilp_journal.specs.declared.entry.What.TheVariants as what
@@ -32,6 +33,16 @@ abbrev pub answered : What → Option ℕ
 answered (what.Fulfilled hold preimage) = Some hold
 answered (what.Released hold cause) = Some hold
 answered _ = None
+
+-- the number of the hold that it fulfills
+abbrev pub fulfilled : What → Option ℕ
+fulfilled (what.Fulfilled hold preimage) = Some hold
+fulfilled _ = None
+
+-- the number of the hold that it releases
+abbrev pub released : What → Option ℕ
+released (what.Released hold cause) = Some hold
+released _ = None
 
 -- the number of the settlement that it closes
 abbrev pub closed : What → Option ℕ
@@ -67,6 +78,10 @@ closing_of j n = first_from (λ _ (e : Entry). is_number n (closed e.what)) 0 j
 -- whether nothing answers the hold n
 abbrev pub is_unanswered : Entries → ℕ → Bool
 is_unanswered j n = is_none (answer_of j n)
+
+-- whether an entry fulfills the hold n
+abbrev pub is_fulfilled : Entries → ℕ → Bool
+is_fulfilled j n = list_any (λ (e : Entry). is_number n (fulfilled e.what)) j
 
 -- whether nothing closes the settlement n
 abbrev pub is_unclosed : Entries → ℕ → Bool

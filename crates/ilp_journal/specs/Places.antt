@@ -1,10 +1,15 @@
 -- Sums and first places over a list whose elements are named by their places, and facts of each element.
-use Rattle.std.specs.Prelude.{ℕ, ◌+◌, Bool, List, [], ◌∷◌, ◌++◌, Option, Some, None, if◌then◌else◌, ⊤}
+use Rattle.std.specs.Prelude.{ℕ, ◌+◌, ℤ, pos, ◌+ℤ◌, Bool, List, [], ◌∷◌, ◌++◌, Option, Some, None, if◌then◌else◌, ⊤}
 
 -- the sum of f of each place and element, the first place being n
 abbrev pub sum_from : {X : Type 0} → (ℕ → X → ℕ) → ℕ → List X → ℕ
 sum_from f n [] = 0
 sum_from f n (x ∷ xs) = f n x + sum_from f (n + 1) xs
+
+-- the same of whole numbers
+abbrev pub int_sum_from : {X : Type 0} → (ℕ → X → ℤ) → ℕ → List X → ℤ
+int_sum_from f n [] = pos 0
+int_sum_from f n (x ∷ xs) = f n x +ℤ int_sum_from f (n + 1) xs
 
 -- the first place whose element passes the test, the first of all being n
 abbrev pub first_from : {X : Type 0} → (ℕ → X → Bool) → ℕ → List X → Option ℕ

@@ -1,5 +1,6 @@
--- Worked journals: alice's hold of 100 units for bob, of which 3 are the fee, and a settlement of bob's.
-use Rattle.std.specs.Prelude.{◌≡◌, ℕ, ℤ, pos, negsuc, [], ◌∷◌, replicate, Some, None, codes}
+-- Worked journals: alice's hold of 100 units for bob, of which 3 are the fee, and a settlement of bob's; then payments
+-- between euros and yen.
+use Rattle.std.specs.Prelude.{◌≡◌, ℕ, ℤ, pos, negsuc, List, [], ◌∷◌, replicate, Some, None, codes}
 use Rattle.ilp_journal.specs.declared.entry.Entry.{Entry}
 use Rattle.ilp_journal.specs.declared.entry.What.{What}
 use Rattle.ilp_journal.specs.declared.entry.What.TheVariants as what
@@ -7,6 +8,7 @@ use Rattle.ilp_journal.specs.declared.entry.Hold.{Hold}
 use Rattle.ilp_journal.specs.declared.entry.Cause.TheVariants as cause
 use Rattle.ilp_journal.specs.Journal.{Entries, answer_of, open_hold_at, open_count, last_moment}
 use Rattle.ilp_journal.specs.Balance.{balance}
+use Rattle.ilp_journal.specs.TrialBalance as books
 
 -- alice is the peer 0
 abbrev pub alice : ℕ
@@ -94,3 +96,100 @@ pub record AnsweredRow : Type 0 where
 pub record MomentRow : Type 0 where
   pub before : last_moment [] ≡ pos 0
   pub last : last_moment (held ∷ released 0 ∷ fulfilled 0 ∷ []) ≡ pos 6
+
+-- ---- two assets
+
+-- carol is the peer 2
+abbrev pub carol : ℕ
+carol = 2
+
+-- an asset of two decimals
+abbrev pub euros : ℕ
+euros = 0
+
+-- an asset of none
+abbrev pub yen : ℕ
+yen = 1
+
+-- alice and carol have balances in euros, and bob has one in yen
+abbrev pub assets : List ℕ
+assets = euros ∷ yen ∷ euros ∷ []
+
+-- a Prepare is accepted
+abbrev pub hold_between : ℕ → ℕ → ℕ → ℕ → ℕ → Entry
+hold_between from to amount fee out = entry_at 5 (what.Hold (record terms { from = from; to = to; amount = amount; fee = fee; out = out }))
+
+-- alice pays 10.00 euros, of which 0.10 are the fee, and bob gets 1584 yen
+abbrev pub exchanged : Entry
+exchanged = hold_between alice bob 1000 10 1584
+
+-- carol settles an amount
+abbrev pub paid_in : ℕ → Entry
+paid_in amount =
+    entry_at 8 (what.Credited (record { peer = carol; key = record { octets = codes "k"; spare = 0 }; named = amount; scale = 2; credited = amount }))
+
+-- a settlement of an amount to carol is asked for
+abbrev pub asked_for : ℕ → Entry
+asked_for amount = entry_at 9 (what.Asked (record { peer = carol; amount = amount }))
+
+-- each kind of entry: the exchange, bob's open hold for carol, a hold that is released, carol's settlement, a settlement
+-- to bob that is made, one to carol that is refused, and an open hold in euros alone
+abbrev pub each_kind : Entries
+each_kind =
+    exchanged ∷ fulfilled 0 ∷ hold_between bob carol 400 4 247 ∷ hold_between carol alice 60 1 59 ∷ released 3
+    ∷ paid_in 250 ∷ asked ∷ asked_for 100 ∷ confirmed 6 ∷ undone 7 ∷ hold_between alice carol 20 2 18 ∷ []
+
+-- the sums of an asset
+pub record Books : Type 0 where
+  pub balances : ℤ
+  pub held : ℕ
+  pub fees : ℕ
+  pub bought : ℤ
+  pub sold : ℕ
+  pub settled : ℤ
+
+-- those that a journal comes to
+abbrev pub books_of : Entries → ℕ → Books
+books_of j x = record {
+  balances = books.balances assets j x;
+  held = books.held assets j x;
+  fees = books.fees assets j x;
+  bought = books.bought assets j x;
+  sold = books.sold assets j x;
+  settled = books.settled assets j x;
+}
+
+-- nothing was booked in an asset
+abbrev pub no_books : Books
+no_books = record { balances = pos 0; held = 0; fees = 0; bought = pos 0; sold = 0; settled = pos 0 }
+
+-- an open hold counts in its sender's asset alone, a fulfilled one in both
+pub record ExchangedRow : Type 0 where
+  pub open_in_euros : books_of (exchanged ∷ []) euros ≡ record no_books { balances = negsuc 999; held = 1000 }
+  pub open_in_yen : books_of (exchanged ∷ []) yen ≡ no_books
+  pub euros_bought : books_of (exchanged ∷ fulfilled 0 ∷ []) euros ≡ record no_books { balances = negsuc 999; fees = 10; bought = pos 990 }
+  pub yen_sold : books_of (exchanged ∷ fulfilled 0 ∷ []) yen ≡ record no_books { balances = pos 1584; sold = 1584 }
+  pub given_back : books_of (exchanged ∷ released 0 ∷ []) euros ≡ no_books
+
+-- all kinds at once: 250 euro cents were settled with the connector, and it settled 80 yen
+pub record EachKindRow : Type 0 where
+  pub in_euros : books_of each_kind euros ≡ record { balances = negsuc 769; held = 20; fees = 10; bought = pos 990; sold = 0; settled = pos 250 }
+  pub in_yen : books_of each_kind yen ≡ record { balances = pos 1104; held = 400; fees = 0; bought = pos 0; sold = 1584; settled = negsuc 79 }
+
+-- where the fee exceeds the amount less than nothing is bought; a peer without an asset counts in none; a settlement that
+-- is undone twice counts twice; and a hold that is released twice unbalances the books
+pub record OddBooksRow : Type 0 where
+  pub high_fee : books_of (hold_between alice carol 5 7 3 ∷ fulfilled 0 ∷ []) euros
+      ≡ record { balances = negsuc 1; held = 0; fees = 7; bought = negsuc 1; sold = 3; settled = pos 0 }
+  pub no_asset : books_of (hold_between 9 8 100 3 97 ∷ fulfilled 0 ∷ []) euros ≡ no_books
+  pub undone_twice : books_of (asked_for 100 ∷ undone 0 ∷ undone 0 ∷ []) euros ≡ record no_books { balances = pos 100; settled = pos 100 }
+  pub released_twice : books_of (exchanged ∷ released 0 ∷ released 0 ∷ []) euros ≡ record no_books { balances = pos 1000 }
+
+-- what is released counts no more, nor what stands before the place
+pub record TotalsRow : Type 0 where
+  pub euros_in : books.total_in assets 0 each_kind euros ≡ 1020
+  pub yen_in : books.total_in assets 0 each_kind yen ≡ 400
+  pub euros_out : books.total_out assets 0 each_kind euros ≡ 265
+  pub yen_out : books.total_out assets 0 each_kind yen ≡ 1584
+  pub later_in : books.total_in assets 1 each_kind euros ≡ 20
+  pub later_out : books.total_out assets 1 each_kind yen ≡ 0

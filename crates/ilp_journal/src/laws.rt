@@ -1,11 +1,12 @@
 //! What holds of every journal. These functions do nothing: their contracts are the laws.
 
-ghost use Rattle.std.specs.Prelude.{◌≡◌, ℕ, ◌+◌, ◌<◌, ◌≤◌, pos, ◌+ℤ◌, ◌-ℤ◌, [], ◌∷◌, ◌++◌, Some, None, IsSome};
+ghost use Rattle.std.specs.Prelude.{◌≡◌, ℕ, ◌+◌, ◌<◌, ◌≤◌, pos, ◌+ℤ◌, ◌-ℤ◌, List, [], ◌∷◌, ◌++◌, length, Some, None, IsSome, if◌then◌else◌, nat_le};
 ghost use Rattle.ilp_journal.specs.declared.entry.Entry.{Entry};
 ghost use Rattle.ilp_journal.specs.Places.{Each};
-ghost use Rattle.ilp_journal.specs.Journal.{Entries, Answers, AnswersOnce, ClosesOnce, answer_of, hold_at, open_count, opening, closing};
+ghost use Rattle.ilp_journal.specs.Journal.{Entries, Answers, AnswersOnce, ClosesOnce, answer_of, answered, fulfilled, released, hold_at, of_hold, open_count, opening, closing};
 ghost use Rattle.ilp_journal.specs.Balance.{balance, rise, fall};
-ghost use Rattle.ilp_journal.specs.Rows.{FulfilledRow, ReleasedRow, SettledRow, UnnamedRow, AnsweredRow, MomentRow};
+ghost use Rattle.ilp_journal.specs.TrialBalance.{IsBalanced, amount_in, fee_in, amount_out, held, fees, bought, sold, settled, settled_in, settled_out, total_in, total_out, of_named, since};
+ghost use Rattle.ilp_journal.specs.Rows.{FulfilledRow, ReleasedRow, SettledRow, UnnamedRow, AnsweredRow, MomentRow, ExchangedRow, EachKindRow, OddBooksRow, TotalsRow};
 
 /// Where each answer and each closing names an earlier entry once, one more entry moves a balance
 /// by exactly what it does itself.
@@ -21,6 +22,58 @@ pub fn open_counts_grow()
     ensures { (j : Entries) (e : Entry)
         → Each AnswersOnce j → Each ClosesOnce j → AnswersOnce j e → ClosesOnce j e
         → open_count (j ++ e ∷ []) + closing e.what ≡ open_count j + opening e.what }
+{}
+
+/// The trial balance: where each answer names an earlier hold that had none, the balances of an
+/// asset's peers, its open holds, its fees and what was bought of it, less what was sold of it, are
+/// what was settled in it. `assets` lists each peer's asset, by the peer's place.
+pub fn journals_balance()
+    ensures { (assets : List ℕ) (j : Entries) (x : ℕ) → Each AnswersOnce j → IsBalanced assets j x }
+{}
+
+/// One more entry moves each sum of an asset by what it does itself: by its own amount where it is
+/// a hold, by those of the hold that it answers, and by what it settles.
+pub fn books_grow()
+    ensures held { (assets : List ℕ) (j : Entries) (e : Entry) (x : ℕ)
+        → Each AnswersOnce j → AnswersOnce j e
+        → held assets (j ++ e ∷ []) x + of_named j (amount_in assets x) (answered e.what)
+        ≡ held assets j x + of_hold (amount_in assets x) e.what }
+    ensures fees { (assets : List ℕ) (j : Entries) (e : Entry) (x : ℕ)
+        → Each AnswersOnce j → AnswersOnce j e
+        → fees assets (j ++ e ∷ []) x
+        ≡ fees assets j x + of_named j (fee_in assets x) (fulfilled e.what) }
+    ensures bought { (assets : List ℕ) (j : Entries) (e : Entry) (x : ℕ)
+        → Each AnswersOnce j → AnswersOnce j e
+        → bought assets (j ++ e ∷ []) x
+        ≡ bought assets j x +ℤ pos (of_named j (amount_in assets x) (fulfilled e.what))
+        -ℤ pos (of_named j (fee_in assets x) (fulfilled e.what)) }
+    ensures sold { (assets : List ℕ) (j : Entries) (e : Entry) (x : ℕ)
+        → Each AnswersOnce j → AnswersOnce j e
+        → sold assets (j ++ e ∷ []) x
+        ≡ sold assets j x + of_named j (amount_out assets x) (fulfilled e.what) }
+    ensures settled { (assets : List ℕ) (j : Entries) (e : Entry) (x : ℕ)
+        → Each ClosesOnce j → ClosesOnce j e
+        → settled assets (j ++ e ∷ []) x
+        ≡ settled assets j x +ℤ pos (settled_in assets j x e.what)
+        -ℤ pos (settled_out assets x e.what) }
+{}
+
+/// One more entry moves the amounts of the holds since a place that are open or fulfilled: a hold
+/// adds its own, and a release takes away those of the hold that it ends, where they stand at that
+/// place or later.
+pub fn totals_grow()
+    ensures amounts_in { (assets : List ℕ) (j : Entries) (e : Entry) (x : ℕ) (base : ℕ)
+        → Each AnswersOnce j → AnswersOnce j e
+        → total_in assets base (j ++ e ∷ []) x
+        + of_named j (amount_in assets x) (since base (released e.what))
+        ≡ total_in assets base j x
+        + (if nat_le base (length j) then of_hold (amount_in assets x) e.what else 0) }
+    ensures amounts_out { (assets : List ℕ) (j : Entries) (e : Entry) (x : ℕ) (base : ℕ)
+        → Each AnswersOnce j → AnswersOnce j e
+        → total_out assets base (j ++ e ∷ []) x
+        + of_named j (amount_out assets x) (since base (released e.what))
+        ≡ total_out assets base j x
+        + (if nat_le base (length j) then of_hold (amount_out assets x) e.what else 0) }
 {}
 
 /// The answer of a hold is the first entry that names it; there is none where no entry does.
@@ -46,4 +99,8 @@ pub fn rows()
     ensures unnamed { UnnamedRow }
     ensures answered { AnsweredRow }
     ensures moment { MomentRow }
+    ensures exchanged { ExchangedRow }
+    ensures each_kind { EachKindRow }
+    ensures odd_books { OddBooksRow }
+    ensures totals { TotalsRow }
 {}

@@ -1,11 +1,13 @@
 //! Each growth refused in turn, crate by crate, and packets that are cut short.
 
+mod assets;
 mod cut_packets;
 mod journals;
 mod octet_strings;
 mod reading;
 mod replaying;
 mod writing;
+mod writing_packets;
 
 /// More growths than any of these calls makes.
 const GROWTHS: u64 = 1_000;
