@@ -1,7 +1,10 @@
-//! The connector's command line. So far it describes a packet, and replays a script from standard
-//! input.
+//! The connector's command line. So far it describes a packet, checks a configuration, and replays a
+//! script from standard input.
 #![tactic(auto)]
 
+mod checking;
+
+use checking::run_check;
 use ilp_connector::{Config, Refusal, ReplayFault, describe_packet, replay};
 use std::io::ErrorKind;
 use std::process::ExitCode;
@@ -11,10 +14,12 @@ use std::{env, io};
 const USAGE: &str = "usage: connector packet HEX, check CONFIG, replay CONFIG, serve CONFIG";
 
 /// How the program ended.
-#[derive(Clone, Copy, Debug, PartialEq, Eq)]
+#[derive(Drop)]
 enum Ending {
     Done,
     Refused(Refusal),
+    /// It was refused, and this line says why.
+    Explained(Refusal, String),
     Misused,
     OutputFailed,
 }
@@ -43,6 +48,7 @@ fn run<R: Runtime + AllocGlobal>(rt: &R) -> Ending {
 fn run_command<R: Runtime + AllocGlobal>(rt: &R, command: &str, argument: &str) -> Ending {
     match (command, argument) {
         ("packet", text) => run_packet(rt, text),
+        ("check", path) => run_check(rt, path),
         ("replay", "-") => run_replay(rt),
         _ => Ending::Misused,
     }
@@ -51,11 +57,16 @@ fn run_command<R: Runtime + AllocGlobal>(rt: &R, command: &str, argument: &str) 
 // Prints what a packet in hexadecimal says.
 fn run_packet<R: Runtime + AllocGlobal>(rt: &R, text: &str) -> Ending {
     match describe_packet(rt.alloc(), text) {
-        Ok(line) => match rt.println(line.as_str()) {
-            Ok(()) => Ending::Done,
-            Err(_) => Ending::OutputFailed,
-        },
+        Ok(line) => print_line(rt, line.as_str()),
         Err(refusal) => Ending::Refused(refusal),
+    }
+}
+
+// Prints the one line of a command that is done.
+fn print_line<R: Runtime>(rt: &R, line: &str) -> Ending {
+    match rt.println(line) {
+        Ok(()) => Ending::Done,
+        Err(_) => Ending::OutputFailed,
     }
 }
 
@@ -74,14 +85,24 @@ fn run_replay<R: Runtime + AllocGlobal>(rt: &R) -> Ending {
 fn status<R: Runtime + AllocGlobal>(rt: &R, ending: Ending) -> u8 {
     match ending {
         Ending::Done => 0,
-        Ending::Refused(refusal) => match rt.println(format_args!("refused {refusal}")) {
-            Ok(()) => 1,
-            Err(_) => 3,
-        },
+        Ending::Refused(refusal) => status_of_refusal(rt, refusal),
+        Ending::Explained(refusal, why) => {
+            let status = status_of_refusal(rt, refusal);
+            let _ = rt.eprintln(why.as_str());
+            status
+        }
         Ending::Misused => {
             let _ = rt.eprintln(USAGE);
             2
         }
         Ending::OutputFailed => 3,
+    }
+}
+
+// Prints a refusal, and gives the exit status of the program that it ends.
+fn status_of_refusal<R: Runtime>(rt: &R, refusal: Refusal) -> u8 {
+    match rt.println(format_args!("refused {refusal}")) {
+        Ok(()) => 1,
+        Err(_) => 3,
     }
 }

@@ -1,3 +1,5 @@
+pub mod CheckText
+pub mod ConfigReading
 pub mod Configuration
 pub mod Kept
 pub mod PacketText

@@ -1,11 +1,15 @@
 -- Refusals by number and name: the one table of both.
-use Rattle.std.specs.Prelude.{ℕ, List, ◌++◌, codes}
+use Rattle.std.specs.Prelude.{ℕ, List, [], ◌++◌, Option, Some, None, codes}
 use Rattle.std.specs.Fmt.{decimal}
+use Rattle.ilp_fields.specs.declared.fault.Field.{Field}
+use Rattle.ilp_fields.specs.declared.fault.ConfigFault.{ConfigFault}
+use Rattle.ilp_fields.specs.declared.fault.ConfigFault.TheVariants as config_fault
+use Rattle.ilp_accounts.specs.Keys.{key}
 use Rattle.ilp_packet.specs.declared.fault.PacketFault.{PacketFault}
 use Rattle.ilp_packet.specs.declared.fault.PacketFault.TheVariants as packet_fault
 use Rattle.ilp_connector.specs.declared.refusal.Refusal.{Refusal}
 use Rattle.ilp_connector.specs.declared.refusal.Refusal.TheVariants as refusals
-use Rattle.ilp_connector.specs.declared.refusal.Refusal.TheVariants.{Truncated, BadPrefix, TooLong, UnknownType, Trailing, BadExpiry, BadAddress, FieldTooLong, BadHex, NotPrepare, Expired, TooShort, Full, Memory, ReadFault, WriteFault, ScriptTooLong}
+use Rattle.ilp_connector.specs.declared.refusal.Refusal.TheVariants.{Truncated, BadPrefix, TooLong, UnknownType, Trailing, BadExpiry, BadAddress, FieldTooLong, BadHex, NotPrepare, DoubleAsset, NoSuchAsset, ScaleGap, ZeroPrice, DoublePrice, ConfigUnread, NotToml, Missing, BadValue, DoublePeer, DoubleToken, DoubleRoute, BadLevels, Expired, TooShort, Full, Memory, ReadFault, WriteFault, ScriptTooLong}
 
 -- a number, and a name
 abbrev pub refusal_row : Refusal → ℕ × List ℕ
@@ -19,6 +23,19 @@ refusal_row BadAddress = (7, codes "BadAddress")
 refusal_row FieldTooLong = (8, codes "FieldTooLong")
 refusal_row BadHex = (9, codes "BadHex")
 refusal_row NotPrepare = (10, codes "NotPrepare")
+refusal_row DoubleAsset = (11, codes "DoubleAsset")
+refusal_row NoSuchAsset = (12, codes "NoSuchAsset")
+refusal_row ScaleGap = (13, codes "ScaleGap")
+refusal_row ZeroPrice = (14, codes "ZeroPrice")
+refusal_row DoublePrice = (18, codes "DoublePrice")
+refusal_row ConfigUnread = (20, codes "ConfigUnread")
+refusal_row NotToml = (21, codes "NotToml")
+refusal_row (Missing field) = (22, codes "Missing")
+refusal_row (BadValue field) = (23, codes "BadValue")
+refusal_row DoublePeer = (24, codes "DoublePeer")
+refusal_row DoubleToken = (25, codes "DoubleToken")
+refusal_row DoubleRoute = (26, codes "DoubleRoute")
+refusal_row BadLevels = (27, codes "BadLevels")
 refusal_row Expired = (38, codes "Expired")
 refusal_row TooShort = (39, codes "TooShort")
 refusal_row Full = (41, codes "Full")
@@ -33,9 +50,20 @@ refusal_number refusal = (refusal_row refusal).0
 abbrev pub refusal_name : Refusal → List ℕ
 refusal_name refusal = (refusal_row refusal).1
 
--- how a refusal is printed: its number, a space and its name
+-- the field of a configuration that a refusal names
+abbrev pub refusal_field : Refusal → Option Field
+refusal_field (Missing field) = Some field
+refusal_field (BadValue field) = Some field
+refusal_field _ = None
+
+-- a space and the key of a field, where there is one
+abbrev pub field_text : Option Field → List ℕ
+field_text None = []
+field_text (Some field) = codes " " ++ key field
+
+-- how a refusal is printed: its number, its name and the field that it names, with a space between them
 abbrev pub refusal_text : Refusal → List ℕ
-refusal_text refusal = decimal (refusal_number refusal) ++ codes " " ++ refusal_name refusal
+refusal_text refusal = decimal (refusal_number refusal) ++ (codes " " ++ (refusal_name refusal ++ field_text (refusal_field refusal)))
 
 -- the refusal of octets that are no packet
 abbrev pub packet_refusal : PacketFault → Refusal
@@ -47,3 +75,19 @@ packet_refusal packet_fault.Trailing = refusals.Trailing
 packet_refusal packet_fault.BadExpiry = refusals.BadExpiry
 packet_refusal packet_fault.BadAddress = refusals.BadAddress
 packet_refusal packet_fault.FieldTooLong = refusals.FieldTooLong
+
+-- the refusal of octets that give no configuration
+abbrev pub config_refusal : ConfigFault → Refusal
+config_refusal config_fault.NotToml = refusals.NotToml
+config_refusal (config_fault.Missing field) = refusals.Missing field
+config_refusal (config_fault.BadValue field) = refusals.BadValue field
+config_refusal config_fault.DoubleAsset = refusals.DoubleAsset
+config_refusal config_fault.NoSuchAsset = refusals.NoSuchAsset
+config_refusal config_fault.ZeroPrice = refusals.ZeroPrice
+config_refusal config_fault.DoublePrice = refusals.DoublePrice
+config_refusal config_fault.ScaleGap = refusals.ScaleGap
+config_refusal config_fault.DoublePeer = refusals.DoublePeer
+config_refusal config_fault.DoubleToken = refusals.DoubleToken
+config_refusal config_fault.DoubleRoute = refusals.DoubleRoute
+config_refusal config_fault.BadLevels = refusals.BadLevels
+config_refusal config_fault.Memory = refusals.Memory

@@ -1,9 +1,12 @@
 //! The programs of an ILPv4 connector, as calls over any reader and writer.
 #![tactic(auto)]
 
+mod built_in;
 mod calls;
+mod checking;
 mod columns;
 mod config;
+mod config_file;
 mod describe;
 mod form;
 mod ledger;
@@ -13,7 +16,10 @@ mod refusal;
 mod reply;
 mod runner;
 
+pub use built_in::BUILT_IN;
+pub use checking::check;
 pub use config::Config;
+pub use config_file::{CONFIG_LIMIT, read_config};
 pub use describe::describe_packet;
 pub use refusal::Refusal;
 pub use runner::{ReplayFault, replay};

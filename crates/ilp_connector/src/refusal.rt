@@ -1,11 +1,14 @@
 //! Refusals by number and name.
 ghost use Rattle.std.specs.Prelude.{◌≡◌};
-ghost use Rattle.ilp_connector.specs.Refusals.{refusal_number, refusal_name};
+ghost use Rattle.ilp_connector.specs.Refusals.{refusal_number, refusal_name, refusal_field};
 
+use ilp_accounts::{ConfigFault, Field};
 use ilp_packet::PacketFault;
+use std::error::Error;
 use std::fmt;
 
-/// A refusal, as programs print it: by its number and its name.
+/// A refusal, as programs print it: by its number, its name and the field that it names, if it
+/// names one.
 #[derive(Clone, Copy, Debug, PartialEq, Eq)]
 pub enum Refusal {
     /// Octets are missing.
@@ -28,6 +31,32 @@ pub enum Refusal {
     BadHex,
     /// A packet is no Prepare.
     NotPrepare,
+    /// An asset is given twice.
+    DoubleAsset,
+    /// An asset is named that is not given.
+    NoSuchAsset,
+    /// The scales of a price differ by more than 9.
+    ScaleGap,
+    /// A price has a 0.
+    ZeroPrice,
+    /// A pair of assets has a price already.
+    DoublePrice,
+    /// A configuration can't be read, or has more than 1,048,576 octets.
+    ConfigUnread,
+    /// A configuration is not TOML.
+    NotToml,
+    /// A field or an array of a configuration is absent, or an array is empty, that is required.
+    Missing { field: Field },
+    /// A field of a configuration has a value of another type, or outside its range.
+    BadValue { field: Field },
+    /// A peer's name is given twice.
+    DoublePeer,
+    /// A peer's token is given twice.
+    DoubleToken,
+    /// A route's prefix is given twice.
+    DoubleRoute,
+    /// The levels of a peer are out of order.
+    BadLevels,
     /// A Prepare has expired.
     Expired,
     /// A Prepare leaves too little time.
@@ -60,6 +89,19 @@ impl Refusal {
             Refusal::FieldTooLong => 8,
             Refusal::BadHex => 9,
             Refusal::NotPrepare => 10,
+            Refusal::DoubleAsset => 11,
+            Refusal::NoSuchAsset => 12,
+            Refusal::ScaleGap => 13,
+            Refusal::ZeroPrice => 14,
+            Refusal::DoublePrice => 18,
+            Refusal::ConfigUnread => 20,
+            Refusal::NotToml => 21,
+            Refusal::Missing { .. } => 22,
+            Refusal::BadValue { .. } => 23,
+            Refusal::DoublePeer => 24,
+            Refusal::DoubleToken => 25,
+            Refusal::DoubleRoute => 26,
+            Refusal::BadLevels => 27,
             Refusal::Expired => 38,
             Refusal::TooShort => 39,
             Refusal::Full => 41,
@@ -85,6 +127,19 @@ impl Refusal {
             Refusal::FieldTooLong => "FieldTooLong",
             Refusal::BadHex => "BadHex",
             Refusal::NotPrepare => "NotPrepare",
+            Refusal::DoubleAsset => "DoubleAsset",
+            Refusal::NoSuchAsset => "NoSuchAsset",
+            Refusal::ScaleGap => "ScaleGap",
+            Refusal::ZeroPrice => "ZeroPrice",
+            Refusal::DoublePrice => "DoublePrice",
+            Refusal::ConfigUnread => "ConfigUnread",
+            Refusal::NotToml => "NotToml",
+            Refusal::Missing { .. } => "Missing",
+            Refusal::BadValue { .. } => "BadValue",
+            Refusal::DoublePeer => "DoublePeer",
+            Refusal::DoubleToken => "DoubleToken",
+            Refusal::DoubleRoute => "DoubleRoute",
+            Refusal::BadLevels => "BadLevels",
             Refusal::Expired => "Expired",
             Refusal::TooShort => "TooShort",
             Refusal::Full => "Full",
@@ -94,9 +149,20 @@ impl Refusal {
             Refusal::ScriptTooLong => "ScriptTooLong",
         }
     }
+
+    /// The field of a configuration that it names.
+    pub fn field(self) -> Option<Field>
+        ensures { result ≡ refusal_field self }
+    {
+        match self {
+            Refusal::Missing { field } => Some(field),
+            Refusal::BadValue { field } => Some(field),
+            _ => None,
+        }
+    }
 }
 
-/// `NUMBER NAME`.
+/// `NUMBER NAME`, and the key of the field that it names after a space.
 impl fmt::Display for Refusal {
     ghost use Rattle.std.specs.Prelude.{Some, ◌++◌, ◌∷◌, []};
     ghost use Rattle.std.specs.Fmt.{decimal};
@@ -107,9 +173,17 @@ impl fmt::Display for Refusal {
     fn fmt<W: fmt::Write>(&self, f: &mut fmt::Formatter<W>) -> fmt::Result {
         let number = self.number();
         let name = self.name();
-        write!(f, "{number} {name}")
+        match self.field() {
+            Some(field) => {
+                let key = field.key();
+                write!(f, "{number} {name} {key}")
+            }
+            None => write!(f, "{number} {name}"),
+        }
     }
 }
+
+impl Error for Refusal {}
 
 /// Octets that are no packet.
 impl From<PacketFault> for Refusal {
@@ -128,6 +202,32 @@ impl From<PacketFault> for Refusal {
             PacketFault::BadExpiry => Refusal::BadExpiry,
             PacketFault::BadAddress => Refusal::BadAddress,
             PacketFault::FieldTooLong => Refusal::FieldTooLong,
+        }
+    }
+}
+
+/// Octets that give no configuration.
+impl From<ConfigFault> for Refusal {
+    ghost use Rattle.std.specs.Prelude.{◌≡◌};
+    ghost use Rattle.ilp_connector.specs.Refusals.{config_refusal};
+
+    ghost from_gives = { λ fault result. result ≡ config_refusal fault };
+
+    fn from(fault: ConfigFault) -> Refusal {
+        match fault {
+            ConfigFault::NotToml => Refusal::NotToml,
+            ConfigFault::Missing { field } => Refusal::Missing { field },
+            ConfigFault::BadValue { field } => Refusal::BadValue { field },
+            ConfigFault::DoubleAsset => Refusal::DoubleAsset,
+            ConfigFault::NoSuchAsset => Refusal::NoSuchAsset,
+            ConfigFault::ZeroPrice => Refusal::ZeroPrice,
+            ConfigFault::DoublePrice => Refusal::DoublePrice,
+            ConfigFault::ScaleGap => Refusal::ScaleGap,
+            ConfigFault::DoublePeer => Refusal::DoublePeer,
+            ConfigFault::DoubleToken => Refusal::DoubleToken,
+            ConfigFault::DoubleRoute => Refusal::DoubleRoute,
+            ConfigFault::BadLevels => Refusal::BadLevels,
+            ConfigFault::Memory => Refusal::Memory,
         }
     }
 }

@@ -3,6 +3,8 @@ use ilp_io::{Counting, Narrow, Pieces, Recording, WhenFull};
 use std::alloc::{AllocError, Global};
 use std::test::Fail;
 
+mod config_reading;
+mod configurations;
 mod describing;
 
 /// 2025-01-01T00:00:00Z, the moment T of these scripts, in milliseconds since 1970 (by Python's datetime).

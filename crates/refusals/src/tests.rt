@@ -1,8 +1,10 @@
 //! Each growth refused in turn, crate by crate, and packets that are cut short.
 
 mod assets;
+mod configurations;
 mod cut_packets;
 mod journals;
+mod lookups;
 mod octet_strings;
 mod reading;
 mod replaying;

@@ -1,0 +1,16 @@
+use Rattle.std.proofs.Common.{refl, ap, ◌∙◌, Err}
+use Rattle.ilp_lookup.specs.Route.{prefixes}
+use Rattle.ilp_accounts.proofs.Lookups.{among, fresh}
+use Rattle.ilp_accounts.proofs.route.insert.Goals as goal
+
+pub returns-in-Ok-clause-ok : goal.returns-in-Ok-clause-ok
+returns-in-Ok-clause-ok c = (
+  fresh (prefixes c.args.routes.now) c.args.prefix.now c.in-Ok.field-0 (rw (← c.as_bytes.ensures.value, ← c.in-Ok.is) c.insert.ensures.double),
+  rw (← c.as_bytes.ensures.value) c.in-Ok.ensures.ok,
+)
+
+pub returns-in-Err-Double-clause-err : goal.returns-in-Err-Double-clause-err
+returns-in-Err-Double-clause-err c = λ other. (
+  among c.args.prefix.now (prefixes c.args.routes.now) (rw (← c.as_bytes.ensures.value) (c.insert.ensures.double.0 (c.in-Err-Double.is ∙ ap Err c.in-Err-Double.field-0-is))),
+  refl,
+)

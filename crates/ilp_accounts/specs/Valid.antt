@@ -1,0 +1,71 @@
+-- What every configuration that was read has.
+use Rattle.std.specs.Prelude.{◌≡◌, ◌≢◌, ℕ, ◌<◌, ◌≤◌, pos, ◌≤ℤ◌, ◌<ℤ◌, List, length, All, IsTrue, IsSome, IfSome, None}
+use Rattle.std.specs.List.{AllPairs}
+use Rattle.ilp_lookup.specs.Route.{Route, prefixes}
+use Rattle.ilp_assets.specs.Faults.{fault_of}
+use Rattle.ilp_fields.specs.declared.form.Form.{Form}
+use Rattle.ilp_fields.specs.declared.form.Form.TheVariants as form
+use Rattle.ilp_accounts.specs.declared.peer.Levels.{Levels}
+use Rattle.ilp_fields.specs.Forms.{admits}
+use Rattle.ilp_accounts.specs.Configuration.{PlainSettings, PlainPeer, Configuration, peer_names, peer_tokens}
+
+-- no two texts are equal
+abbrev pub AreDistinct : List (List ℕ) → Type 0
+AreDistinct texts = AllPairs (λ text later. text ≢ later) texts
+
+abbrev pub HasForm : Form → List ℕ → Type 0
+HasForm f text = IsTrue (admits f text)
+
+-- the number lies between the two, both included
+abbrev pub IsWithin : ℕ → ℕ → ℕ → Type 0
+IsWithin least most n = (least ≤ n) × (n ≤ most)
+
+pub record AreSettings (s : PlainSettings) : Type 0 where
+  pub address : HasForm form.Address s.address
+  pub run : HasForm form.Run s.run
+  pub listen : HasForm form.Place s.listen
+  pub engine_listen : HasForm form.Place s.engine_listen
+  pub path : HasForm form.Path s.path
+  pub workers : IsWithin 1 64 s.workers
+  pub journal : IsWithin 2 16777216 s.journal
+  pub window_ms : IsWithin 0 3600000 s.window_ms
+  pub max_hold_ms : IsWithin 1 3600000 s.max_hold_ms
+  pub sweep_ms : IsWithin 1 60000 s.sweep_ms
+  pub settle_ms : IsWithin 1 60000 s.settle_ms
+
+-- least <= settle_to < threshold
+pub record AreOrdered (p : PlainPeer) (levels : Levels) : Type 0 where
+  pub engine : IsSome p.engine
+  pub least : p.least ≤ℤ levels.settle_to
+  pub settle_to : levels.settle_to <ℤ levels.threshold
+
+-- a peer whose asset is one of so many
+pub record IsPeer (assets : ℕ) (p : PlainPeer) : Type 0 where
+  pub name : HasForm form.Name p.name
+  pub asset : p.asset < assets
+  pub token : HasForm form.Token p.token
+  pub out_token : HasForm form.Token p.out_token
+  pub host : HasForm form.Place p.host
+  pub out_path : HasForm form.Path p.out_path
+  pub least : p.least ≤ℤ pos 0
+  pub fee_ppm : p.fee_ppm ≤ 1000000
+  pub engine : IfSome p.engine (HasForm form.Place)
+  pub levels : IfSome p.levels (AreOrdered p)
+
+-- a route to one of so many peers
+pub record IsRouteTo (peers : ℕ) (r : Route) : Type 0 where
+  pub prefix : HasForm form.Prefix r.prefix
+  pub peer : r.peer < peers
+
+pub record IsValid (c : Configuration) : Type 0 where
+  pub settings : AreSettings c.settings
+  pub asset_count : IsWithin 1 64 (length c.table.assets)
+  pub price_count : length c.table.prices ≤ 4032
+  pub sound : fault_of c.table.assets c.table.prices ≡ None
+  pub peer_count : IsWithin 1 256 (length c.peers)
+  pub peers : All (IsPeer (length c.table.assets)) c.peers
+  pub names : AreDistinct (peer_names c.peers)
+  pub tokens : AreDistinct (peer_tokens c.peers)
+  pub route_count : length c.routes ≤ 4096
+  pub routes : All (IsRouteTo (length c.peers)) c.routes
+  pub prefixes : AreDistinct (prefixes c.routes)

@@ -1,0 +1,117 @@
+//! What stands at the top of a configuration.
+ghost use Rattle.std.specs.Prelude.{◌≡◌, IfOk};
+ghost use Rattle.toml.specs.View.{table_view};
+ghost use Rattle.ilp_fields.specs.Checks.{Reads};
+ghost use Rattle.ilp_accounts.specs.Views.{plain_settings, read_settings};
+ghost use Rattle.ilp_accounts.specs.Configuration.{settings_of};
+ghost use Rattle.ilp_accounts.specs.Faults.{settings_fault};
+
+use ilp_fields::{ConfigFault, Field, Form, defaulted_number, defaulted_text, required_text};
+use std::alloc::{AllocError, Global};
+use toml::Table;
+
+// The settings, with their texts in the table.
+#[derive(Clone, Copy)]
+pub(crate) struct SettingsFields<'a> {
+    address: &'a str,
+    run: &'a str,
+    listen: &'a str,
+    engine_listen: &'a str,
+    path: &'a str,
+    workers: u32,
+    journal: u32,
+    window_ms: u32,
+    max_hold_ms: u32,
+    sweep_ms: u32,
+    settle_ms: u32,
+}
+
+// What holds for the connector as a whole.
+#[derive(Debug, Drop)]
+pub(crate) struct Settings {
+    pub(crate) address: String,
+    pub(crate) run: String,
+    pub(crate) listen: String,
+    pub(crate) engine_listen: String,
+    pub(crate) path: String,
+    pub(crate) workers: u32,
+    pub(crate) journal: u32,
+    pub(crate) window_ms: u32,
+    pub(crate) max_hold_ms: u32,
+    pub(crate) sweep_ms: u32,
+    pub(crate) settle_ms: u32,
+}
+
+// Reads the top fields.
+#[tactic(auto, unfolding(crate::specs::Faults::settings_fault, crate::specs::Configuration::settings_of))]
+pub(crate) fn settings_of(table: &Table) -> Result<SettingsFields<'_>, ConfigFault>
+    ensures { Reads read_settings result
+        (settings_fault (table_view table.now)) (settings_of (table_view table.now)) }
+{
+    let address = required_text(table, Field::Address, Form::Address)?;
+    let run = required_text(table, Field::Run, Form::Run)?;
+    let listen = defaulted_text(table, Field::Listen, Form::Place, "127.0.0.1:7768")?;
+    let engine_listen = defaulted_text(table, Field::EngineListen, Form::Place, "127.0.0.1:7769")?;
+    let path = defaulted_text(table, Field::Path, Form::Path, "/ilp")?;
+    let workers = defaulted_number(table, Field::Workers, 1, 64, 4)?;
+    let journal = defaulted_number(table, Field::Journal, 2, 16_777_216, 65_536)?;
+    let window_ms = defaulted_number(table, Field::WindowMs, 0, 3_600_000, 1_000)?;
+    let max_hold_ms = defaulted_number(table, Field::MaxHoldMs, 1, 3_600_000, 30_000)?;
+    let sweep_ms = defaulted_number(table, Field::SweepMs, 1, 60_000, 100)?;
+    let settle_ms = defaulted_number(table, Field::SettleMs, 1, 60_000, 1_000)?;
+    Ok(SettingsFields {
+        address,
+        run,
+        listen,
+        engine_listen,
+        path,
+        workers,
+        journal,
+        window_ms,
+        max_hold_ms,
+        sweep_ms,
+        settle_ms,
+    })
+}
+
+impl SettingsFields<'_> {
+    // The same with texts of their own.
+    pub(crate) fn owned(self, alloc: Global) -> Result<Settings, AllocError>
+        ensures { IfOk result (λ settings. plain_settings settings ≡ read_settings self.entry) }
+    {
+        Ok(Settings {
+            address: String::from_str(alloc, self.address)?,
+            run: String::from_str(alloc, self.run)?,
+            listen: String::from_str(alloc, self.listen)?,
+            engine_listen: String::from_str(alloc, self.engine_listen)?,
+            path: String::from_str(alloc, self.path)?,
+            workers: self.workers,
+            journal: self.journal,
+            window_ms: self.window_ms,
+            max_hold_ms: self.max_hold_ms,
+            sweep_ms: self.sweep_ms,
+            settle_ms: self.settle_ms,
+        })
+    }
+}
+
+impl Settings {
+    // The settings as they stand in a table.
+    pub(crate) fn fields(&self) -> SettingsFields<'_>
+        ensures { read_settings result ≡ plain_settings self.now }
+    {
+        SettingsFields {
+            address: self.address.as_str(),
+            run: self.run.as_str(),
+            listen: self.listen.as_str(),
+            engine_listen: self.engine_listen.as_str(),
+            path: self.path.as_str(),
+            workers: self.workers,
+            journal: self.journal,
+            window_ms: self.window_ms,
+            max_hold_ms: self.max_hold_ms,
+            sweep_ms: self.sweep_ms,
+            settle_ms: self.settle_ms,
+        }
+    }
+}

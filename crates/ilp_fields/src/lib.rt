@@ -1,0 +1,18 @@
+//! The fields of a configuration: how the texts, numbers and assets that stand in a table of TOML
+//! are read, and what each refusal says.
+#![tactic(auto)]
+
+mod fault;
+mod fields;
+mod form;
+mod named;
+
+pub use fault::{ConfigFault, Field};
+pub use fields::{
+    defaulted_amount, defaulted_number, defaulted_text, optional_integer, optional_text,
+    required_asset, required_integer, required_number, required_text, tables_at,
+};
+pub use form::Form;
+
+#[cfg(test)]
+mod tests;

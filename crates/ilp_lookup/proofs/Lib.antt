@@ -1,0 +1,5 @@
+mod Keys
+mod Places
+mod Found
+mod Longest
+mod OneRoute
