@@ -1,15 +1,18 @@
 //! The connector's command line. So far it describes a packet, checks a configuration, and replays a
-//! script from standard input.
+//! script from standard input over one.
 #![tactic(auto)]
 
 mod checking;
+mod configuring;
+mod replaying;
 
 use checking::run_check;
-use ilp_connector::{Config, Refusal, ReplayFault, describe_packet, replay};
+use ilp_connector::{Refusal, describe_packet};
+use replaying::run_replay;
+use std::env;
 use std::io::ErrorKind;
 use std::process::ExitCode;
 use std::rt::Runtime;
-use std::{env, io};
 
 const USAGE: &str = "usage: connector packet HEX, check CONFIG, replay CONFIG, serve CONFIG";
 
@@ -49,7 +52,7 @@ fn run_command<R: Runtime + AllocGlobal>(rt: &R, command: &str, argument: &str) 
     match (command, argument) {
         ("packet", text) => run_packet(rt, text),
         ("check", path) => run_check(rt, path),
-        ("replay", "-") => run_replay(rt),
+        ("replay", path) => run_replay(rt, path),
         _ => Ending::Misused,
     }
 }
@@ -67,17 +70,6 @@ fn print_line<R: Runtime>(rt: &R, line: &str) -> Ending {
     match rt.println(line) {
         Ok(()) => Ending::Done,
         Err(_) => Ending::OutputFailed,
-    }
-}
-
-// Runs the script of standard input over the built-in configuration.
-fn run_replay<R: Runtime + AllocGlobal>(rt: &R) -> Ending {
-    let mut reader = rt.reader();
-    let mut writer = io::writer(rt);
-    match replay(rt.alloc(), &Config::built_in(), &mut reader, &mut writer) {
-        Ok(()) => Ending::Done,
-        Err(ReplayFault::WriteFault) => Ending::OutputFailed,
-        Err(fault) => Ending::Refused(fault.refusal()),
     }
 }
 

@@ -1,11 +1,20 @@
-//! Reads the examples of configurations, and prints what each has, or why it is none.
+//! Reads the examples of configurations, and prints what each has, or why it is none; and what the
+//! examples of scripts print over theirs.
 #![tactic(auto)]
 
 use ilp_accounts::{Config, ConfigFault, explain};
+use ilp_connector::replay;
 use std::alloc::{AllocError, Global};
+use std::rt::Runtime;
 use std::{fs, io};
 
 const EXAMPLES: [&str; 3] = ["two_peers.toml", "three_assets.toml", "settlement.toml"];
+
+// Scripts, with the configuration that each runs over.
+const SCRIPTS: [(&str, &str); 2] = [
+    ("two_peers.script", "two_peers.toml"),
+    ("three_assets.script", "three_assets.toml"),
+];
 
 fn main(rt: HostRuntime) -> io::Result<()> {
     for name in EXAMPLES {
@@ -13,7 +22,33 @@ fn main(rt: HostRuntime) -> io::Result<()> {
         let line = line_of(rt.alloc(), &octets)?;
         println!(rt; "{name}: {line}")?;
     }
+    for (script, configuration) in SCRIPTS {
+        println!(rt; "{script}:")?;
+        run_script(&rt, script, configuration)?;
+    }
     Ok(())
+}
+
+fn run_script<R: Runtime + AllocGlobal>(
+    rt: &R,
+    script: &str,
+    configuration: &str,
+) -> io::Result<()> {
+    let octets = fs::read(rt, configuration)?;
+    let script = fs::read(rt, script)?;
+    match Config::read(rt.alloc(), &octets) {
+        Ok(config) => replay_over(rt, &config, &script),
+        Err(fault) => println!(rt; "no configuration: {fault}"),
+    }
+}
+
+fn replay_over<R: Runtime + AllocGlobal>(rt: &R, config: &Config, script: &[u8]) -> io::Result<()> {
+    let mut reader = script;
+    let mut writer = io::writer(rt);
+    match replay(rt.alloc(), config, &mut reader, &mut writer) {
+        Ok(()) => Ok(()),
+        Err(fault) => println!(rt; "stopped by {fault}"),
+    }
 }
 
 fn line_of(alloc: Global, octets: &[u8]) -> Result<String, AllocError> {

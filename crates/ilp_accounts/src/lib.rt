@@ -16,6 +16,3 @@ pub use config::Config;
 pub use explanation::explain;
 pub use ilp_fields::{ConfigFault, Field};
 pub use peer::Levels;
-
-#[cfg(test)]
-mod tests;

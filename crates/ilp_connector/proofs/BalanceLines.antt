@@ -1,11 +1,21 @@
 -- The balance lines, one after another.
 use Rattle.std.proofs.Common.{◌≡◌, ℕ, ℤ, zero, suc, ◌+◌, ◌<◌, List, [], ◌∷◌, ◌++◌, length, drop, refl, ap, ◌∙◌, arith, sym, append_assoc}
-use Rattle.std.specs.Prelude.{codes}
+use Rattle.std.specs.Prelude.{codes, slice_get, unwrap_or}
 use Rattle.ilp_journal.specs.Journal.{Entries}
 use Rattle.ilp_journal.specs.Balance.{balance}
-use Rattle.ilp_connector.specs.Configuration.{name_of}
+use Rattle.ilp_accounts.specs.Configuration.{PlainPeer, nobody, peer_names}
 use Rattle.ilp_connector.specs.Report.{report_line}
 use Rattle.ilp_connector.specs.Text.{balance_lines}
+
+-- the name at a place, empty where there is none
+abbrev pub name_of : List (List ℕ) → ℕ → List ℕ
+name_of names peer = unwrap_or (slice_get names peer) []
+
+-- the name of the peer at a place is the name there
+pub name_at : (peers : List PlainPeer) (k : ℕ) → k < length (peer_names peers) → (unwrap_or (slice_get peers k) nobody).name ≡ name_of (peer_names peers) k
+name_at [] k within = absurd (omega (arith, within))
+name_at (p ∷ ps) zero within = refl
+name_at (p ∷ ps) (suc k) within = name_at ps k (omega (arith, within))
 
 -- the names from a place on begin with the name there
 pub drop-name : (names : List (List ℕ)) (k : ℕ) → k < length names → drop k names ≡ name_of names k ∷ drop (k + 1) names

@@ -1,14 +1,11 @@
 -- Parts of a text that were written one after another.
-use Rattle.std.proofs.Common.{◌≡◌, ℕ, List, ◌∷◌, ◌++◌, Option, sym, ◌∙◌, ap, append_assoc}
+use Rattle.std.proofs.Common.{◌≡◌, ℕ, List, [], ◌∷◌, ◌++◌, length, Option, sym, ◌∙◌, ap, subst, arith, append_assoc, append-nil}
 use Rattle.std.specs.Io.KnownBytes.{Appends}
 use Rattle.std.proofs.KnownBytes.{Appends-trans}
 use Rattle.ilp_io.specs.Writing.{AppendsPrefix, AppendsProperPrefix}
-use Rattle.ilp_journal.specs.Journal.{Entries}
-use Rattle.ilp_connector.specs.Configuration.{Configuration}
+use Rattle.ilp_book.specs.Kept.{PlainBook}
 use Rattle.ilp_connector.specs.Script.{lines_of}
 use Rattle.ilp_connector.specs.declared.reply.Reply.{Reply}
-use Rattle.ilp_connector.specs.Kept.{Kept, with_entry}
-use Rattle.ilp_connector.specs.Step.{appended}
 use Rattle.ilp_connector.specs.Text.{reply_text}
 use Rattle.ilp_connector.specs.Replay.{text_from, line_step, line_text, after_line}
 
@@ -28,30 +25,25 @@ prefix_after before between after written part more text first next whole = reco
 }
 
 -- the text of a script that has a first line
-pub text_from-line : (C : Configuration) (j : Entries) (script line more : List ℕ) → lines_of script ≡ line ∷ lines_of more
-    → text_from C j (lines_of script) ≡ line_text C j line ++ text_from C (after_line C j line) (lines_of more)
-text_from-line C j script line more lines = ap (text_from C j) lines
+pub text_from-line : (book : PlainBook) (script line more : List ℕ) → lines_of script ≡ line ∷ lines_of more
+    → text_from book (lines_of script) ≡ line_text book line ++ text_from (after_line book line) (lines_of more)
+text_from-line book script line more lines = ap (text_from book) lines
 
 -- after a line, what it prints and the text of the lines after it stand in the place of the rest
-pub text_from-step : (C : Configuration) (j after : Entries) (rest line more written text whole : List ℕ)
-    → lines_of rest ≡ line ∷ lines_of more → text ≡ line_text C j line → after ≡ after_line C j line
-    → written ++ text_from C j (lines_of rest) ≡ whole → written ++ (text ++ text_from C after (lines_of more)) ≡ whole
-text_from-step C j after rest line more written text whole lines told booked before =
-    rw (told, booked) (ap (λ (xs : List ℕ). written ++ xs) (sym (text_from-line C j rest line more lines)) ∙ before)
-
--- the configuration stays, and the entries are those after the line
-pub line_booked : (C : Configuration) (before after : Kept) (line : List ℕ) → before.config ≡ C → after ≡ with_entry before (line_step before.config before.entries line).entry
-    → (after.config ≡ C) × (after.entries ≡ after_line C before.entries line)
-line_booked C before after line same booked = (
-  ap (λ (k : Kept). k.config) booked ∙ same,
-  ap (λ (k : Kept). k.entries) booked ∙ ap (λ (D : Configuration). appended before.entries (line_step D before.entries line).entry) same,
-)
+pub text_from-step : (book after : PlainBook) (rest line more written text whole : List ℕ)
+    → lines_of rest ≡ line ∷ lines_of more → text ≡ line_text book line → after ≡ after_line book line
+    → written ++ text_from book (lines_of rest) ≡ whole → written ++ (text ++ text_from after (lines_of more)) ≡ whole
+text_from-step book after rest line more written text whole lines told booked before =
+    rw (told, booked) (ap (λ (xs : List ℕ). written ++ xs) (sym (text_from-line book rest line more lines)) ∙ before)
 
 -- what was printed is the line's text
-pub line_printed : (C : Configuration) (before after : Kept) (line text : List ℕ) (reply : Reply) → before.config ≡ C → after ≡ with_entry before (line_step before.config before.entries line).entry
-    → reply ≡ (line_step before.config before.entries line).reply → text ≡ reply_text after.config after.entries reply → text ≡ line_text C before.entries line
-line_printed C before after line text reply same booked replied printed =
-    let now = line_booked C before after line same booked in
-    printed ∙ ap (λ (D : Configuration). reply_text D after.entries reply) now.0
-    ∙ ap (λ (j : Entries). reply_text C j reply) now.1
-    ∙ ap (λ (r : Reply). reply_text C (after_line C before.entries line) r) (replied ∙ ap (λ (D : Configuration). (line_step D before.entries line).reply) same)
+pub line_printed : (book after : PlainBook) (line text : List ℕ) (reply : Reply) → after ≡ after_line book line
+    → reply ≡ (line_step book line).reply → text ≡ reply_text after reply → text ≡ line_text book line
+line_printed book after line text reply booked replied printed =
+    printed ∙ ap (λ (b : PlainBook). reply_text b reply) booked ∙ ap (λ (r : Reply). reply_text (after_line book line) r) replied
+
+-- where nothing is left, all was written
+pub all_written : (before after : Option (List ℕ)) (book : PlainBook) (rest written text : List ℕ) → length rest ≡ 0 → written ++ text_from book (lines_of rest) ≡ text
+    → Appends before after written → Appends before after text
+all_written before after book [] written text none whole wrote = subst (Appends before after) (sym (append-nil written) ∙ whole) wrote
+all_written before after book (octet ∷ rest) written text none whole wrote = absurd (omega (arith, none))

@@ -1,14 +1,11 @@
 pub mod CheckText
 pub mod ConfigReading
-pub mod Configuration
-pub mod Kept
 pub mod PacketText
 pub mod Refusals
 pub mod Replay
 pub mod Report
 pub mod Script
 pub mod Seen
-pub mod Step
 pub mod Text
 pub use Rattle.ilp_io.specs.Counts
 pub use Rattle.ilp_io.specs.Reading

@@ -1,15 +1,19 @@
 -- Refusals by number and name: the one table of both.
 use Rattle.std.specs.Prelude.{ℕ, List, [], ◌++◌, Option, Some, None, codes}
-use Rattle.std.specs.Fmt.{decimal}
+use Rattle.std.specs.Fmt.{decimal, signed_decimal}
 use Rattle.ilp_fields.specs.declared.fault.Field.{Field}
 use Rattle.ilp_fields.specs.declared.fault.ConfigFault.{ConfigFault}
 use Rattle.ilp_fields.specs.declared.fault.ConfigFault.TheVariants as config_fault
 use Rattle.ilp_accounts.specs.Keys.{key}
 use Rattle.ilp_packet.specs.declared.fault.PacketFault.{PacketFault}
 use Rattle.ilp_packet.specs.declared.fault.PacketFault.TheVariants as packet_fault
+use Rattle.ilp_assets.specs.declared.quote.QuoteFault.{QuoteFault}
+use Rattle.ilp_assets.specs.declared.quote.QuoteFault.TheVariants as quote_fault
+use Rattle.ilp_book.specs.declared.calls.HoldFault.{HoldFault}
+use Rattle.ilp_book.specs.declared.calls.HoldFault.TheVariants as hold_fault
 use Rattle.ilp_connector.specs.declared.refusal.Refusal.{Refusal}
 use Rattle.ilp_connector.specs.declared.refusal.Refusal.TheVariants as refusals
-use Rattle.ilp_connector.specs.declared.refusal.Refusal.TheVariants.{Truncated, BadPrefix, TooLong, UnknownType, Trailing, BadExpiry, BadAddress, FieldTooLong, BadHex, NotPrepare, DoubleAsset, NoSuchAsset, ScaleGap, ZeroPrice, DoublePrice, ConfigUnread, NotToml, Missing, BadValue, DoublePeer, DoubleToken, DoubleRoute, BadLevels, Expired, TooShort, Full, Memory, ReadFault, WriteFault, ScriptTooLong}
+use Rattle.ilp_connector.specs.declared.refusal.Refusal.TheVariants.{Truncated, BadPrefix, TooLong, UnknownType, Trailing, BadExpiry, BadAddress, FieldTooLong, BadHex, NotPrepare, DoubleAsset, NoSuchAsset, ScaleGap, ZeroPrice, NoPrice, RoundsToNothing, OutTooLarge, DoublePrice, ConfigUnread, NotToml, Missing, BadValue, DoublePeer, DoubleToken, DoubleRoute, BadLevels, AmountTooLarge, NoRoute, BackToSender, Expired, TooShort, Full, TotalFull, BelowLeast, Memory, ReadFault, WriteFault, ScriptTooLong}
 
 -- a number, and a name
 abbrev pub refusal_row : Refusal → ℕ × List ℕ
@@ -27,6 +31,9 @@ refusal_row DoubleAsset = (11, codes "DoubleAsset")
 refusal_row NoSuchAsset = (12, codes "NoSuchAsset")
 refusal_row ScaleGap = (13, codes "ScaleGap")
 refusal_row ZeroPrice = (14, codes "ZeroPrice")
+refusal_row NoPrice = (15, codes "NoPrice")
+refusal_row RoundsToNothing = (16, codes "RoundsToNothing")
+refusal_row OutTooLarge = (17, codes "OutTooLarge")
 refusal_row DoublePrice = (18, codes "DoublePrice")
 refusal_row ConfigUnread = (20, codes "ConfigUnread")
 refusal_row NotToml = (21, codes "NotToml")
@@ -36,9 +43,14 @@ refusal_row DoublePeer = (24, codes "DoublePeer")
 refusal_row DoubleToken = (25, codes "DoubleToken")
 refusal_row DoubleRoute = (26, codes "DoubleRoute")
 refusal_row BadLevels = (27, codes "BadLevels")
+refusal_row (AmountTooLarge max) = (35, codes "AmountTooLarge")
+refusal_row NoRoute = (36, codes "NoRoute")
+refusal_row BackToSender = (37, codes "BackToSender")
 refusal_row Expired = (38, codes "Expired")
 refusal_row TooShort = (39, codes "TooShort")
 refusal_row Full = (41, codes "Full")
+refusal_row TotalFull = (42, codes "TotalFull")
+refusal_row (BelowLeast balance) = (43, codes "BelowLeast")
 refusal_row Memory = (44, codes "Memory")
 refusal_row ReadFault = (61, codes "ReadFault")
 refusal_row WriteFault = (64, codes "WriteFault")
@@ -56,14 +68,21 @@ refusal_field (Missing field) = Some field
 refusal_field (BadValue field) = Some field
 refusal_field _ = None
 
--- a space and the key of a field, where there is one
-abbrev pub field_text : Option Field → List ℕ
-field_text None = []
-field_text (Some field) = codes " " ++ key field
+-- what a refusal names, each after a space: a field of the configuration, the greatest amount, or the balance
+abbrev pub detail_text : Refusal → List ℕ
+detail_text (Missing field) = codes " " ++ key field
+detail_text (BadValue field) = codes " " ++ key field
+detail_text (AmountTooLarge max) = codes " " ++ decimal max
+detail_text (BelowLeast balance) = codes " " ++ signed_decimal balance
+detail_text _ = []
 
--- how a refusal is printed: its number, its name and the field that it names, with a space between them
+-- its name, and what it names
+abbrev pub named_text : Refusal → List ℕ
+named_text refusal = refusal_name refusal ++ detail_text refusal
+
+-- how a refusal is printed: its number, its name, and what it names, with a space between them
 abbrev pub refusal_text : Refusal → List ℕ
-refusal_text refusal = decimal (refusal_number refusal) ++ (codes " " ++ (refusal_name refusal ++ field_text (refusal_field refusal)))
+refusal_text refusal = decimal (refusal_number refusal) ++ (codes " " ++ named_text refusal)
 
 -- the refusal of octets that are no packet
 abbrev pub packet_refusal : PacketFault → Refusal
@@ -91,3 +110,22 @@ config_refusal config_fault.DoubleToken = refusals.DoubleToken
 config_refusal config_fault.DoubleRoute = refusals.DoubleRoute
 config_refusal config_fault.BadLevels = refusals.BadLevels
 config_refusal config_fault.Memory = refusals.Memory
+
+-- the refusal of a Prepare whose amount has no quote
+abbrev pub quote_refusal : QuoteFault → Refusal
+quote_refusal quote_fault.NoPrice = refusals.NoPrice
+quote_refusal quote_fault.OutTooLarge = refusals.OutTooLarge
+quote_refusal quote_fault.RoundsToNothing = refusals.RoundsToNothing
+
+-- the refusal of a Prepare that is not held
+abbrev pub hold_refusal : HoldFault → Refusal
+hold_refusal (hold_fault.AmountTooLarge max) = refusals.AmountTooLarge max
+hold_refusal hold_fault.NoRoute = refusals.NoRoute
+hold_refusal hold_fault.BackToSender = refusals.BackToSender
+hold_refusal hold_fault.Expired = refusals.Expired
+hold_refusal hold_fault.TooShort = refusals.TooShort
+hold_refusal (hold_fault.Quote fault) = quote_refusal fault
+hold_refusal hold_fault.Full = refusals.Full
+hold_refusal hold_fault.TotalFull = refusals.TotalFull
+hold_refusal (hold_fault.BelowLeast balance) = refusals.BelowLeast balance
+hold_refusal hold_fault.Memory = refusals.Memory

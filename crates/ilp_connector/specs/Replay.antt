@@ -8,13 +8,19 @@ use Rattle.ilp_io.specs.Writing.{AppendsPrefix}
 use Rattle.ilp_packet.specs.declared.fault.PacketFault.{PacketFault}
 use Rattle.ilp_packet.specs.Packet.{PlainPacket, prepare, fulfill, reject}
 use Rattle.ilp_packet.specs.Reading.{reading}
-use Rattle.ilp_journal.specs.Journal.{Entries}
-use Rattle.ilp_connector.specs.declared.calls.Held.{Held}
-use Rattle.ilp_connector.specs.declared.calls.HoldFault.{HoldFault}
-use Rattle.ilp_connector.specs.declared.calls.PeerReply.{PeerReply}
-use Rattle.ilp_connector.specs.declared.calls.PeerReply.TheVariants as peer_reply
-use Rattle.ilp_connector.specs.declared.calls.Outcome.{Outcome}
-use Rattle.ilp_connector.specs.declared.calls.NotOpen.{NotOpen}
+use Rattle.ilp_journal.specs.declared.entry.Cause.TheVariants as cause
+use Rattle.ilp_accounts.specs.Configuration.{Configuration, peer_names}
+use Rattle.ilp_book.specs.declared.calls.Held.{Held}
+use Rattle.ilp_book.specs.declared.calls.HoldFault.{HoldFault}
+use Rattle.ilp_book.specs.declared.calls.PeerReply.{PeerReply}
+use Rattle.ilp_book.specs.declared.calls.PeerReply.TheVariants as peer_reply
+use Rattle.ilp_book.specs.declared.calls.Outcome.{Outcome}
+use Rattle.ilp_book.specs.declared.calls.Outcome.TheVariants as outcome
+use Rattle.ilp_book.specs.declared.calls.NotOpen.{NotOpen}
+use Rattle.ilp_book.specs.Made.{Made}
+use Rattle.ilp_book.specs.HoldStep.{asked, hold_step}
+use Rattle.ilp_book.specs.AnswerStep.{answer_step, expire_step}
+use Rattle.ilp_book.specs.Kept.{PlainBook, with_entry}
 use Rattle.ilp_connector.specs.declared.refusal.Refusal.{Refusal}
 use Rattle.ilp_connector.specs.declared.refusal.Refusal.TheVariants as refusals
 use Rattle.ilp_connector.specs.declared.reply.Reply.{Reply}
@@ -22,9 +28,7 @@ use Rattle.ilp_connector.specs.declared.reply.Reply.TheVariants as replies
 use Rattle.ilp_connector.specs.declared.runner.ReplayFault.{ReplayFault}
 use Rattle.ilp_connector.specs.declared.runner.ReplayFault.TheVariants as replay_fault
 use Rattle.ilp_connector.specs.Refusals.{packet_refusal}
-use Rattle.ilp_connector.specs.Configuration.{Configuration}
-use Rattle.ilp_connector.specs.Script.{lines_of, Form, hold, answer, report, silent, bad, form_of}
-use Rattle.ilp_connector.specs.Step.{Made, appended, hold_step, answer_step}
+use Rattle.ilp_connector.specs.Script.{lines_of, Form, hold, answer, expire, report, silent, bad, form_of}
 use Rattle.ilp_connector.specs.Text.{reply_text}
 
 -- ---- one line
@@ -41,14 +45,18 @@ abbrev pub answer_reply : ℕ → Result Outcome NotOpen → Reply
 answer_reply number (Ok outcome) = replies.Answered number outcome
 answer_reply number (Err refused) = replies.NotOpen number refused.closer
 
+abbrev pub expire_reply : ℕ → Option ℕ → Reply
+expire_reply entry (Some number) = replies.Answered number (outcome.Released entry cause.Late)
+expire_reply entry None = replies.NoneDue
+
 -- a packet of a peer, by the actor 0 and with no growth refused: only a Prepare can be held
-abbrev pub hold_packet : Configuration → Entries → ℤ → ℕ → Result PlainPacket PacketFault → Made Reply
-hold_packet C j now peer (Ok (prepare p)) =
-    let made = hold_step C j 0 peer p now false in
+abbrev pub hold_packet : PlainBook → ℤ → ℕ → Result PlainPacket PacketFault → Made Reply
+hold_packet book now peer (Ok (prepare p)) =
+    let made = hold_step book.config book.base book.entries 0 peer (asked book.config p) now false in
     record { reply = hold_reply made.reply; entry = made.entry }
-hold_packet C j now peer (Ok (fulfill f)) = says (replies.BadPacket refusals.NotPrepare)
-hold_packet C j now peer (Ok (reject r)) = says (replies.BadPacket refusals.NotPrepare)
-hold_packet C j now peer (Err fault) = says (replies.BadPacket (packet_refusal fault))
+hold_packet book now peer (Ok (fulfill f)) = says (replies.BadPacket refusals.NotPrepare)
+hold_packet book now peer (Ok (reject r)) = says (replies.BadPacket refusals.NotPrepare)
+hold_packet book now peer (Err fault) = says (replies.BadPacket (packet_refusal fault))
 
 -- what came back: octets that are no packet, and a Prepare, count as no reply
 abbrev pub came_back : Result PlainPacket PacketFault → PeerReply
@@ -57,50 +65,61 @@ came_back (Ok (fulfill f)) = peer_reply.Fulfil f.preimage
 came_back (Ok (reject r)) = peer_reply.Reject r.code
 came_back (Err fault) = peer_reply.NoReply
 
-abbrev pub answer_with : Entries → ℤ → ℕ → PeerReply → Made Reply
-answer_with j now number reply =
-    let made = answer_step j 0 number reply now in
+abbrev pub answer_with : PlainBook → ℤ → ℕ → PeerReply → Made Reply
+answer_with book now number reply =
+    let made = answer_step book.entries 0 number reply now in
     record { reply = answer_reply number made.reply; entry = made.entry }
 
--- hexadecimal text that is none makes a bad line
-abbrev pub hold_text : Configuration → Entries → ℤ → ℕ → Result (List ℕ) FromHexError → Made Reply
-hold_text C j now peer (Ok octets) = hold_packet C j now peer (reading octets)
-hold_text C j now peer (Err fault) = says replies.BadLine
+-- the release of one hold whose deadline has come
+abbrev pub expire_due : PlainBook → ℤ → Made Reply
+expire_due book now =
+    let made = expire_step book.entries 0 now in
+    record { reply = expire_reply (length book.entries) made.reply; entry = made.entry }
 
-abbrev pub answer_text : Entries → ℤ → ℕ → Result (List ℕ) FromHexError → Made Reply
-answer_text j now number (Ok octets) = answer_with j now number (came_back (reading octets))
-answer_text j now number (Err fault) = says replies.BadLine
+-- hexadecimal text that is none makes a bad line
+abbrev pub hold_text : PlainBook → ℤ → ℕ → Result (List ℕ) FromHexError → Made Reply
+hold_text book now peer (Ok octets) = hold_packet book now peer (reading octets)
+hold_text book now peer (Err fault) = says replies.BadLine
+
+abbrev pub answer_text : PlainBook → ℤ → ℕ → Result (List ℕ) FromHexError → Made Reply
+answer_text book now number (Ok octets) = answer_with book now number (came_back (reading octets))
+answer_text book now number (Err fault) = says replies.BadLine
 
 -- what a line replies, and the entry that it books
-abbrev pub form_step : Configuration → Entries → Form → Made Reply
-form_step C j (hold now peer packet) = hold_text C j now peer (decode_of packet)
-form_step C j (answer now number (Some packet)) = answer_text j now number (decode_of packet)
-form_step C j (answer now number None) = answer_with j now number peer_reply.NoReply
-form_step C j report = says replies.Report
-form_step C j silent = says replies.Silent
-form_step C j bad = says replies.BadLine
+abbrev pub form_step : PlainBook → Form → Made Reply
+form_step book (hold now peer packet) = hold_text book now peer (decode_of packet)
+form_step book (answer now number (Some packet)) = answer_text book now number (decode_of packet)
+form_step book (answer now number None) = answer_with book now number peer_reply.NoReply
+form_step book (expire now) = expire_due book now
+form_step book report = says replies.Report
+form_step book silent = says replies.Silent
+form_step book bad = says replies.BadLine
 
-unfoldable pub line_step : Configuration → Entries → List ℕ → Made Reply
-line_step C j line = form_step C j (form_of C.peers line)
+unfoldable pub line_step : PlainBook → List ℕ → Made Reply
+line_step book line = form_step book (form_of (peer_names book.config.peers) line)
 
--- the entries after a line
-abbrev pub after_line : Configuration → Entries → List ℕ → Entries
-after_line C j line = appended j (line_step C j line).entry
+-- the book after a line
+abbrev pub after_line : PlainBook → List ℕ → PlainBook
+after_line book line = with_entry book (line_step book line).entry
 
--- what a line prints: the text of its reply over the entries that it left
-abbrev pub line_text : Configuration → Entries → List ℕ → List ℕ
-line_text C j line = reply_text C (after_line C j line) (line_step C j line).reply
+-- what a line prints: the text of its reply over the book that it left
+abbrev pub line_text : PlainBook → List ℕ → List ℕ
+line_text book line = reply_text (after_line book line) (line_step book line).reply
 
 -- ---- a script
 
--- what lines print, one after another, from some entries on
-abbrev pub text_from : Configuration → Entries → List (List ℕ) → List ℕ
-text_from C j [] = []
-text_from C j (line ∷ lines) = line_text C j line ++ text_from C (after_line C j line) lines
+-- what lines print, one after another, from a book on
+abbrev pub text_from : PlainBook → List (List ℕ) → List ℕ
+text_from book [] = []
+text_from book (line ∷ lines) = line_text book line ++ text_from (after_line book line) lines
+
+-- a book of this configuration, in which nothing was booked
+abbrev pub new_book : Configuration → PlainBook
+new_book C = record { config = C; base = 0; entries = [] }
 
 -- what a script prints
 abbrev pub text_of : Configuration → List ℕ → List ℕ
-text_of C script = text_from C [] (lines_of script)
+text_of C script = text_from (new_book C) (lines_of script)
 
 -- ---- reading and writing
 

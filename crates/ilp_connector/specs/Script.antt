@@ -4,7 +4,7 @@ use Rattle.std.specs.Char.{is_ascii_digit}
 use Rattle.std.specs.List.{list_all, slice_split, onto_first}
 use Rattle.std.specs.Str.{bytes_eq}
 use Rattle.std.specs.Str.Parse.{digits_value}
-use Rattle.ilp_connector.specs.Configuration.{peer_named}
+use Rattle.ilp_accounts.specs.Configuration.{place_named}
 
 -- the lines of a text: each is ended by LF, and the last may lack it
 abbrev pub lines_of : List ℕ → List (List ℕ)
@@ -23,6 +23,7 @@ StandsFirst octet text end = (end < length text) × (slice_index text end ≡ oc
 pub data Form : Type 0 where
   hold : (now : ℤ) (peer : ℕ) (packet : List ℕ) → Form
   answer : (now : ℤ) (number : ℕ) (packet : Option (List ℕ)) → Form
+  expire : (now : ℤ) → Form
   report : Form
   silent : Form
   bad : Form
@@ -53,11 +54,16 @@ answer_form (Some now) (Some number) (digit ∷ digits) =
     else answer (pos now) number (Some (digit ∷ digits))
 answer_form _ _ _ = bad
 
--- `report`, `hold AT PEER HEX`, `answer AT N HEX` and `answer AT N none`
+abbrev pub expire_form : Option ℕ → Form
+expire_form (Some now) = expire (pos now)
+expire_form None = bad
+
+-- `report`, `expire AT`, `hold AT PEER HEX`, `answer AT N HEX` and `answer AT N none`
 abbrev pub form_of_fields : List (List ℕ) → List (List ℕ) → Form
 form_of_fields names (word ∷ []) = if bytes_eq word (codes "report") then report else bad
+form_of_fields names (word ∷ now ∷ []) = if bytes_eq word (codes "expire") then expire_form (moment_in now) else bad
 form_of_fields names (word ∷ now ∷ third ∷ packet ∷ []) =
-    if bytes_eq word (codes "hold") then hold_form (moment_in now) (peer_named names third) packet
+    if bytes_eq word (codes "hold") then hold_form (moment_in now) (place_named names third) packet
     else (if bytes_eq word (codes "answer") then answer_form (moment_in now) (entry_in third) packet
     else bad)
 form_of_fields names _ = bad

@@ -6,34 +6,35 @@ use Rattle.ilp_journal.specs.declared.entry.Cause.{Cause}
 use Rattle.ilp_journal.specs.declared.entry.Cause.TheVariants.{Late, WrongPreimage, NoReply, Peer}
 use Rattle.ilp_journal.specs.Journal.{Entries}
 use Rattle.ilp_journal.specs.Balance.{balance}
-use Rattle.ilp_connector.specs.declared.calls.HoldFault.{HoldFault}
-use Rattle.ilp_connector.specs.declared.calls.HoldFault.TheVariants as hold_fault
-use Rattle.ilp_connector.specs.declared.calls.Outcome.{Outcome}
-use Rattle.ilp_connector.specs.declared.calls.Outcome.TheVariants as outcome
-use Rattle.ilp_connector.specs.declared.refusal.Refusal.{Refusal}
-use Rattle.ilp_connector.specs.declared.refusal.Refusal.TheVariants as refusals
+use Rattle.ilp_assets.specs.declared.quote.QuoteFault.TheVariants as quote_fault
+use Rattle.ilp_accounts.specs.Configuration.{peer_at, peer_names}
+use Rattle.ilp_book.specs.declared.calls.HoldFault.{HoldFault}
+use Rattle.ilp_book.specs.declared.calls.HoldFault.TheVariants as hold_fault
+use Rattle.ilp_book.specs.declared.calls.Outcome.{Outcome}
+use Rattle.ilp_book.specs.declared.calls.Outcome.TheVariants as outcome
+use Rattle.ilp_book.specs.Kept.{PlainBook}
 use Rattle.ilp_connector.specs.declared.reply.Reply.{Reply}
-use Rattle.ilp_connector.specs.declared.reply.Reply.TheVariants.{Silent, BadLine, BadPacket, Held, Rejected, Answered, NotOpen, Report}
-use Rattle.ilp_connector.specs.Configuration.{Configuration, name_of}
-use Rattle.ilp_connector.specs.Refusals.{refusal_text, refusal_name}
+use Rattle.ilp_connector.specs.declared.reply.Reply.TheVariants.{Silent, BadLine, BadPacket, Held, Rejected, Answered, NotOpen, NoneDue, Report}
+use Rattle.ilp_connector.specs.Refusals.{refusal_text, named_text, hold_refusal}
 use Rattle.ilp_connector.specs.Report.{report_line}
 
--- the refusal that a Prepare met
-abbrev pub refusal_of : HoldFault → Refusal
-refusal_of hold_fault.Expired = refusals.Expired
-refusal_of hold_fault.TooShort = refusals.TooShort
-refusal_of hold_fault.Full = refusals.Full
-refusal_of hold_fault.Memory = refusals.Memory
-
--- the code of the Reject that its sender gets
+-- the code of the Reject that the sender of a refused Prepare gets
 abbrev pub reject_code : HoldFault → List ℕ
+reject_code (hold_fault.AmountTooLarge max) = codes "F08"
+reject_code hold_fault.NoRoute = codes "F02"
+reject_code hold_fault.BackToSender = codes "F02"
 reject_code hold_fault.Expired = codes "R00"
 reject_code hold_fault.TooShort = codes "R02"
+reject_code (hold_fault.Quote quote_fault.NoPrice) = codes "F02"
+reject_code (hold_fault.Quote quote_fault.OutTooLarge) = codes "F03"
+reject_code (hold_fault.Quote quote_fault.RoundsToNothing) = codes "R01"
 reject_code hold_fault.Full = codes "T03"
+reject_code hold_fault.TotalFull = codes "T04"
+reject_code (hold_fault.BelowLeast balance) = codes "T04"
 reject_code hold_fault.Memory = codes "T00"
 
 abbrev pub rejected_text : HoldFault → List ℕ
-rejected_text fault = codes "reject " ++ (reject_code fault ++ (codes " " ++ (refusal_name (refusal_of fault) ++ codes "\n")))
+rejected_text fault = codes "reject " ++ (reject_code fault ++ (codes " " ++ (named_text (hold_refusal fault) ++ codes "\n")))
 
 -- why a hold was released; the code of a peer's Reject is hexadecimal
 abbrev pub cause_text : Cause → List ℕ
@@ -57,13 +58,18 @@ abbrev pub balance_lines : Entries → ℕ → List (List ℕ) → List ℕ
 balance_lines j first [] = []
 balance_lines j first (name ∷ names) = report_line (codes "balance") name (balance j first) ++ balance_lines j (first + 1) names
 
--- what a reply prints, over the journal that its line left
-abbrev pub reply_text : Configuration → Entries → Reply → List ℕ
-reply_text C j Silent = []
-reply_text C j BadLine = codes "bad line\n"
-reply_text C j (BadPacket refusal) = codes "bad packet " ++ (refusal_text refusal ++ codes "\n")
-reply_text C j (Held held) = codes "held " ++ (decimal held.number ++ (codes " to " ++ (name_of C.peers held.to ++ (codes " out " ++ (decimal held.out ++ codes "\n")))))
-reply_text C j (Rejected fault) = rejected_text fault
-reply_text C j (Answered hold outcome) = outcome_text hold outcome
-reply_text C j (NotOpen hold closer) = not_open_text hold closer
-reply_text C j Report = balance_lines j 0 C.peers
+-- the name of a peer, empty where there is no such peer
+abbrev pub name_of : PlainBook → ℕ → List ℕ
+name_of book peer = (peer_at book.config peer).name
+
+-- what a reply prints, over the book that its line left
+abbrev pub reply_text : PlainBook → Reply → List ℕ
+reply_text book Silent = []
+reply_text book BadLine = codes "bad line\n"
+reply_text book (BadPacket refusal) = codes "bad packet " ++ (refusal_text refusal ++ codes "\n")
+reply_text book (Held held) = codes "held " ++ (decimal held.number ++ (codes " to " ++ (name_of book held.to ++ (codes " out " ++ (decimal held.out ++ codes "\n")))))
+reply_text book (Rejected fault) = rejected_text fault
+reply_text book (Answered hold outcome) = outcome_text hold outcome
+reply_text book (NotOpen hold closer) = not_open_text hold closer
+reply_text book NoneDue = codes "none due\n"
+reply_text book Report = balance_lines book.entries 0 (peer_names book.config.peers)

@@ -1,14 +1,14 @@
 //! What a line of a script asks for.
-ghost use Rattle.std.specs.Prelude.{◌≡◌, ◌<◌, ◌≤◌, ◌^◌, ◌∷◌, IfSome};
+ghost use Rattle.std.specs.Prelude.{◌≡◌, ◌<◌, ◌≤◌, ◌^◌, ◌∷◌, length, IfSome};
 ghost use Rattle.std.specs.Char.{is_ascii_digit};
 ghost use Rattle.std.specs.List.{list_all, slice_split};
-ghost use Rattle.ilp_connector.specs.Configuration.{peer_named};
+ghost use Rattle.ilp_accounts.specs.Configuration.{peer_names, place_named};
 ghost use Rattle.ilp_connector.specs.Script as script;
 ghost use Rattle.ilp_connector.specs.Script.{form_of, form_of_fields, is_space, is_printable, number_in};
-ghost use Rattle.ilp_connector.specs.Seen.{form_seen, fields_after, field_list};
+ghost use Rattle.ilp_connector.specs.Seen.{form_seen, IsOfPeers, fields_after, field_list};
 
-use crate::config::Config;
 use crate::lines::first_place;
+use ilp_accounts::Config;
 use std::str;
 
 /// The most digits of a moment.
@@ -30,6 +30,9 @@ pub(crate) enum Form<'a> {
         number: u32,
         packet: Option<&'a [u8]>,
     },
+    Expire {
+        now: i64,
+    },
     Report,
     Silent,
     Bad,
@@ -39,13 +42,15 @@ pub(crate) enum Form<'a> {
 #[derive(Clone, Copy)]
 enum Fields<'a> {
     One(&'a [u8]),
+    Two(&'a [u8], &'a [u8]),
     Four(&'a [u8], &'a [u8], &'a [u8], &'a [u8]),
     Other,
 }
 
 /// What a line asks for.
 pub(crate) fn parse<'a>(config: &Config, line: &'a [u8]) -> Form<'a>
-    ensures { form_seen result ≡ form_of config.now.peers line.now }
+    ensures form { form_seen result ≡ form_of (peer_names config.now.peers) line.now }
+    ensures known { IsOfPeers (length config.now.peers) result }
 {
     match line {
         [] | [b'#', ..] => Form::Silent,
@@ -60,10 +65,13 @@ pub(crate) fn parse<'a>(config: &Config, line: &'a [u8]) -> Form<'a>
 
 // What the fields of a line ask for.
 fn form_of_fields<'a>(config: &Config, line: &'a [u8]) -> Form<'a>
-    ensures { form_seen result ≡ form_of_fields config.now.peers (slice_split is_space line.now) }
+    ensures form { form_seen result
+        ≡ form_of_fields (peer_names config.now.peers) (slice_split is_space line.now) }
+    ensures known { IsOfPeers (length config.now.peers) result }
 {
     match split_fields(line) {
         Fields::One(word) if word == b"report".as_slice() => Form::Report,
+        Fields::Two(word, now) if word == b"expire".as_slice() => expire_form(now),
         Fields::Four(word, now, peer, packet) if word == b"hold".as_slice() => {
             hold_form(config, now, peer, packet)
         }
@@ -76,13 +84,14 @@ fn form_of_fields<'a>(config: &Config, line: &'a [u8]) -> Form<'a>
 
 // A Prepare of a peer.
 fn hold_form<'a>(config: &Config, now: &[u8], peer: &[u8], packet: &'a [u8]) -> Form<'a>
-    ensures { form_seen result ≡ script.hold_form (script.moment_in now.now)
-        (peer_named config.now.peers peer.now) packet.now }
+    ensures form { form_seen result ≡ script.hold_form (script.moment_in now.now)
+        (place_named (peer_names config.now.peers) peer.now) packet.now }
+    ensures known { IsOfPeers (length config.now.peers) result }
 {
     let Some(now) = number_in(now, MOMENT_DIGITS) else {
         return Form::Bad;
     };
-    let Some(peer) = config.peer_by_name(peer) else {
+    let Some(peer) = peer_named(config, peer) else {
         return Form::Bad;
     };
     if packet.is_empty() {
@@ -92,6 +101,24 @@ fn hold_form<'a>(config: &Config, now: &[u8], peer: &[u8], packet: &'a [u8]) -> 
         now: now as i64,
         peer,
         packet,
+    }
+}
+
+// The peer of a name.
+fn peer_named(config: &Config, name: &[u8]) -> Option<u32>
+    ensures place { result ≡ place_named (peer_names config.now.peers) name.now }
+    ensures known { IfSome result (λ peer. peer < length config.now.peers) }
+{
+    config.peer_by_name(name)
+}
+
+// The release of a hold whose deadline has come.
+fn expire_form<'a>(now: &[u8]) -> Form<'a>
+    ensures { form_seen result ≡ script.expire_form (script.moment_in now.now) }
+{
+    match number_in(now, MOMENT_DIGITS) {
+        Some(now) => Form::Expire { now: now as i64 },
+        None => Form::Bad,
     }
 }
 
@@ -131,7 +158,7 @@ fn split_fields(line: &[u8]) -> Fields<'_>
     };
     let (second, rest) = cut(rest);
     let Some(rest) = rest else {
-        return Fields::Other;
+        return Fields::Two(first, second);
     };
     let (third, rest) = cut(rest);
     let Some(rest) = rest else {

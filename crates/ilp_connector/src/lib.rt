@@ -2,14 +2,11 @@
 #![tactic(auto)]
 
 mod built_in;
-mod calls;
 mod checking;
 mod columns;
-mod config;
 mod config_file;
 mod describe;
 mod form;
-mod ledger;
 mod line;
 mod lines;
 mod refusal;
@@ -18,11 +15,8 @@ mod runner;
 
 pub use built_in::BUILT_IN;
 pub use checking::check;
-pub use config::Config;
 pub use config_file::{CONFIG_LIMIT, read_config};
 pub use describe::describe_packet;
 pub use refusal::Refusal;
 pub use runner::{ReplayFault, replay};
 
-#[cfg(test)]
-mod tests;

@@ -1,8 +1,10 @@
 //! Refusals by number and name.
 ghost use Rattle.std.specs.Prelude.{◌≡◌};
-ghost use Rattle.ilp_connector.specs.Refusals.{refusal_number, refusal_name, refusal_field};
+ghost use Rattle.ilp_connector.specs.Refusals.{refusal_number, refusal_name};
 
 use ilp_accounts::{ConfigFault, Field};
+use ilp_assets::QuoteFault;
+use ilp_book::HoldFault;
 use ilp_packet::PacketFault;
 use std::error::Error;
 use std::fmt;
@@ -39,6 +41,12 @@ pub enum Refusal {
     ScaleGap,
     /// A price has a 0.
     ZeroPrice,
+    /// A pair of assets has no price.
+    NoPrice,
+    /// Nothing would go out of an amount that is not 0.
+    RoundsToNothing,
+    /// More would go out than a packet carries.
+    OutTooLarge,
     /// A pair of assets has a price already.
     DoublePrice,
     /// A configuration can't be read, or has more than 1,048,576 octets.
@@ -57,12 +65,22 @@ pub enum Refusal {
     DoubleRoute,
     /// The levels of a peer are out of order.
     BadLevels,
+    /// A Prepare's amount is greater than this, the most that its sender may send.
+    AmountTooLarge { max: u64 },
+    /// A Prepare's destination is routed to no peer.
+    NoRoute,
+    /// A Prepare's destination is routed to its sender.
+    BackToSender,
     /// A Prepare has expired.
     Expired,
     /// A Prepare leaves too little time.
     TooShort,
     /// The journal is full.
     Full,
+    /// The holds of an asset would come to more than a packet carries.
+    TotalFull,
+    /// The sender's balance, which is this, would fall below its least.
+    BelowLeast { balance: i128 },
     /// Memory was refused.
     Memory,
     /// A read failed.
@@ -93,6 +111,9 @@ impl Refusal {
             Refusal::NoSuchAsset => 12,
             Refusal::ScaleGap => 13,
             Refusal::ZeroPrice => 14,
+            Refusal::NoPrice => 15,
+            Refusal::RoundsToNothing => 16,
+            Refusal::OutTooLarge => 17,
             Refusal::DoublePrice => 18,
             Refusal::ConfigUnread => 20,
             Refusal::NotToml => 21,
@@ -102,9 +123,14 @@ impl Refusal {
             Refusal::DoubleToken => 25,
             Refusal::DoubleRoute => 26,
             Refusal::BadLevels => 27,
+            Refusal::AmountTooLarge { .. } => 35,
+            Refusal::NoRoute => 36,
+            Refusal::BackToSender => 37,
             Refusal::Expired => 38,
             Refusal::TooShort => 39,
             Refusal::Full => 41,
+            Refusal::TotalFull => 42,
+            Refusal::BelowLeast { .. } => 43,
             Refusal::Memory => 44,
             Refusal::ReadFault => 61,
             Refusal::WriteFault => 64,
@@ -131,6 +157,9 @@ impl Refusal {
             Refusal::NoSuchAsset => "NoSuchAsset",
             Refusal::ScaleGap => "ScaleGap",
             Refusal::ZeroPrice => "ZeroPrice",
+            Refusal::NoPrice => "NoPrice",
+            Refusal::RoundsToNothing => "RoundsToNothing",
+            Refusal::OutTooLarge => "OutTooLarge",
             Refusal::DoublePrice => "DoublePrice",
             Refusal::ConfigUnread => "ConfigUnread",
             Refusal::NotToml => "NotToml",
@@ -140,45 +169,58 @@ impl Refusal {
             Refusal::DoubleToken => "DoubleToken",
             Refusal::DoubleRoute => "DoubleRoute",
             Refusal::BadLevels => "BadLevels",
+            Refusal::AmountTooLarge { .. } => "AmountTooLarge",
+            Refusal::NoRoute => "NoRoute",
+            Refusal::BackToSender => "BackToSender",
             Refusal::Expired => "Expired",
             Refusal::TooShort => "TooShort",
             Refusal::Full => "Full",
+            Refusal::TotalFull => "TotalFull",
+            Refusal::BelowLeast { .. } => "BelowLeast",
             Refusal::Memory => "Memory",
             Refusal::ReadFault => "ReadFault",
             Refusal::WriteFault => "WriteFault",
             Refusal::ScriptTooLong => "ScriptTooLong",
         }
     }
-
-    /// The field of a configuration that it names.
-    pub fn field(self) -> Option<Field>
-        ensures { result ≡ refusal_field self }
-    {
-        match self {
-            Refusal::Missing { field } => Some(field),
-            Refusal::BadValue { field } => Some(field),
-            _ => None,
-        }
-    }
 }
 
-/// `NUMBER NAME`, and the key of the field that it names after a space.
+/// `NUMBER NAME`, and after a space what it names: the key of a field, the greatest amount, or the
+/// balance.
 impl fmt::Display for Refusal {
-    ghost use Rattle.std.specs.Prelude.{Some, ◌++◌, ◌∷◌, []};
-    ghost use Rattle.std.specs.Fmt.{decimal};
+    ghost use Rattle.std.specs.Prelude.{Some};
     ghost use Rattle.ilp_connector.specs.Refusals.{refusal_text};
 
     ghost output = { λ refusal. Some (refusal_text refusal) };
 
     fn fmt<W: fmt::Write>(&self, f: &mut fmt::Formatter<W>) -> fmt::Result {
         let number = self.number();
-        let name = self.name();
-        match self.field() {
-            Some(field) => {
+        let named = Named(*self);
+        write!(f, "{number} {named}")
+    }
+}
+
+/// A refusal without its number.
+#[derive(Clone, Copy)]
+pub(crate) struct Named(pub Refusal);
+
+/// `NAME`, and after a space what it names.
+impl fmt::Display for Named {
+    ghost use Rattle.std.specs.Prelude.{Some};
+    ghost use Rattle.ilp_connector.specs.Refusals.{named_text};
+
+    ghost output = { λ named. Some (named_text named.0) };
+
+    fn fmt<W: fmt::Write>(&self, f: &mut fmt::Formatter<W>) -> fmt::Result {
+        let name = self.0.name();
+        match self.0 {
+            Refusal::Missing { field } | Refusal::BadValue { field } => {
                 let key = field.key();
-                write!(f, "{number} {name} {key}")
+                write!(f, "{name} {key}")
             }
-            None => write!(f, "{number} {name}"),
+            Refusal::AmountTooLarge { max } => write!(f, "{name} {max}"),
+            Refusal::BelowLeast { balance } => write!(f, "{name} {balance}"),
+            _ => write!(f, "{name}"),
         }
     }
 }
@@ -228,6 +270,31 @@ impl From<ConfigFault> for Refusal {
             ConfigFault::DoubleRoute => Refusal::DoubleRoute,
             ConfigFault::BadLevels => Refusal::BadLevels,
             ConfigFault::Memory => Refusal::Memory,
+        }
+    }
+}
+
+/// A Prepare that is not held.
+impl From<HoldFault> for Refusal {
+    ghost use Rattle.std.specs.Prelude.{◌≡◌};
+    ghost use Rattle.ilp_connector.specs.Refusals.{hold_refusal};
+
+    ghost from_gives = { λ fault result. result ≡ hold_refusal fault };
+
+    fn from(fault: HoldFault) -> Refusal {
+        match fault {
+            HoldFault::AmountTooLarge { max } => Refusal::AmountTooLarge { max },
+            HoldFault::NoRoute => Refusal::NoRoute,
+            HoldFault::BackToSender => Refusal::BackToSender,
+            HoldFault::Expired => Refusal::Expired,
+            HoldFault::TooShort => Refusal::TooShort,
+            HoldFault::Quote(QuoteFault::NoPrice) => Refusal::NoPrice,
+            HoldFault::Quote(QuoteFault::OutTooLarge) => Refusal::OutTooLarge,
+            HoldFault::Quote(QuoteFault::RoundsToNothing) => Refusal::RoundsToNothing,
+            HoldFault::Full => Refusal::Full,
+            HoldFault::TotalFull => Refusal::TotalFull,
+            HoldFault::BelowLeast { balance } => Refusal::BelowLeast { balance },
+            HoldFault::Memory => Refusal::Memory,
         }
     }
 }

@@ -6,12 +6,12 @@ ghost use Rattle.ilp_io.specs.Writing.{AppendsPrefix};
 ghost use Rattle.ilp_io.specs.Reading.{ConsumesFirst};
 ghost use Rattle.ilp_connector.specs.Replay.{text_of, Replays, Stops, failed_reads, failed_writes, fault_refusal};
 
-use crate::config::Config;
-use crate::ledger::Ledger;
 use crate::line::run_line;
 use crate::lines::split_line;
 use crate::refusal::Refusal;
 use crate::reply::reply_text;
+use ilp_accounts::Config;
+use ilp_book::Book;
 use ilp_io::{ReadFault, Sink, Source, put_all, read_to_limit};
 use std::alloc::Allocator;
 use std::error::Error;
@@ -63,7 +63,8 @@ impl fmt::Display for ReplayFault {
 
 impl Error for ReplayFault {}
 
-/// Reads a script to the reader's end, and writes what its lines print.
+/// Reads a script to the reader's end, and writes what its lines print, over a new book of the
+/// configuration.
 ///
 /// The script is read whole before its first line runs, in at most 1,048,577 reads: each gives an
 /// octet, the end or a failure.
@@ -122,16 +123,16 @@ fn run<W: Sink, A: Allocator + Copy>(
     ensures no_read { result ≢ Err ReplayFault.ReadFault }
     ensures not_long { result ≢ Err ReplayFault.ScriptTooLong }
 {
-    let Ok(mut ledger) = Ledger::new(alloc, config) else {
+    let Ok(mut book) = Book::new(alloc, config) else {
         return Err(ReplayFault::Memory);
     };
     let mut rest = script;
     while !rest.is_empty() {
         let (line, more) = split_line(rest);
-        let Ok(reply) = run_line(alloc, &mut ledger, line) else {
+        let Ok(reply) = run_line(alloc, &mut book, line) else {
             return Err(ReplayFault::Memory);
         };
-        let Ok(text) = reply_text(alloc, &ledger, reply) else {
+        let Ok(text) = reply_text(alloc, &book, reply) else {
             return Err(ReplayFault::Memory);
         };
         let Ok(()) = put_all(writer, text.as_bytes()) else {

@@ -2,4 +2,5 @@ mod Keys
 mod Places
 mod Found
 mod Longest
-mod OneRoute
+pub mod OneRoute
+pub mod RouteOf

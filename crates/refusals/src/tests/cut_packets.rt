@@ -1,7 +1,7 @@
 //! Packets that are cut short or go on, as lines of a script.
 
-use super::PREPARE;
-use ilp_connector::{Config, replay};
+use super::{PREPARE, lending};
+use ilp_connector::replay;
 use ilp_oer::{Octets, write_octets};
 use std::alloc::Global;
 use std::process::Abort;
@@ -12,7 +12,7 @@ fn printed(alloc: Global, packet: &str) -> Result<String, Fail> {
     let script = format!(in alloc; "hold 1735689600000 alice {packet}\n")?;
     let mut reader = script.as_bytes();
     let mut out = Vec::new(alloc);
-    replay(alloc, &Config::built_in(), &mut reader, &mut out)?;
+    replay(alloc, &lending(alloc)?, &mut reader, &mut out)?;
     Ok(String::from_utf8_lossy(alloc, &out)?)
 }
 

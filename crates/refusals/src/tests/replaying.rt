@@ -1,7 +1,7 @@
 //! Replaying scripts.
 
-use super::{GROWTHS, PREPARE};
-use ilp_connector::{Config, ReplayFault, replay};
+use super::{GROWTHS, PREPARE, PREPARE_BACK, lending};
+use ilp_connector::{ReplayFault, replay};
 use ilp_io::{Pieces, Recording};
 use refusing::Refusing;
 use std::alloc::{AllocError, Global};
@@ -31,7 +31,7 @@ fn each_form(alloc: Global) -> Result<String, AllocError> {
          \n\
          hold 1735689600000 alice {PREPARE}\n\
          answer 1735689600500 0 {FULFILL}\n\
-         hold 1735689600500 bob {PREPARE}\n\
+         hold 1735689600500 bob {PREPARE_BACK}\n\
          answer 1735689600500 2 {REJECT}\n\
          hold 1735689601000 alice {PREPARE}\n\
          answer 1735689601000 4 none\n\
@@ -45,6 +45,7 @@ fn each_form(alloc: Global) -> Result<String, AllocError> {
          hold 1735689601000 alice {PREPARE}\n\
          answer 1735689629000 8 {FULFILL}\n\
          hold 1735689629000 alice {PREPARE}\n\
+         expire 1735689629000\n\
          hold 1735689630000 alice {PREPARE}\n\
          report"
     )
@@ -67,6 +68,7 @@ const EACH_TEXT: &str = "held 0 to bob out 100\n\
     held 8 to bob out 100\n\
     entry 9 released 8 Late\n\
     reject R02 TooShort\n\
+    none due\n\
     reject R00 Expired\n\
     balance   alice                                         -100\n\
     balance   bob                                            100\n";
@@ -101,11 +103,12 @@ fn a_journal_that_fills(rt: HostRuntime) -> Result<(), Fail> {
 // of whole lines, and no shorter than where an earlier growth was refused.
 fn replay_each(rt: &(impl Abort + AllocGlobal), script: &str, text: &str) -> Result<(), Fail> {
     let mut before = 0;
+    let config = lending(rt.alloc())?;
     for passed in 0..GROWTHS {
         let heap = Refusing::after(rt.alloc(), passed);
         let mut reader = Pieces::new(script.as_bytes(), PIECE);
         let mut writer = Recording::new(rt.alloc());
-        let outcome = replay(&heap, &Config::built_in(), &mut reader, &mut writer);
+        let outcome = replay(&heap, &config, &mut reader, &mut writer);
         let written = writer.octets.as_slice();
         assert_eq!(rt; (reader.failures, writer.failures), (0, 0));
         if !heap.has_refused() {
@@ -129,11 +132,12 @@ fn replay_each(rt: &(impl Abort + AllocGlobal), script: &str, text: &str) -> Res
 fn into_a_sink_that_is_refused_memory(rt: HostRuntime) -> Result<(), Fail> {
     let script = each_form(rt.alloc())?;
     let mut failed_writes = 0u64;
+    let config = lending(rt.alloc())?;
     for passed in 0..GROWTHS {
         let heap = Refusing::after(rt.alloc(), passed);
         let mut reader = Pieces::new(script.as_bytes(), PIECE);
         let mut writer = Recording::new(&heap);
-        let outcome = replay(&heap, &Config::built_in(), &mut reader, &mut writer);
+        let outcome = replay(&heap, &config, &mut reader, &mut writer);
         let written = writer.octets.as_slice();
         if !heap.has_refused() {
             assert_eq!(rt; outcome, Ok(()));
@@ -159,11 +163,12 @@ fn into_a_sink_that_is_refused_memory(rt: HostRuntime) -> Result<(), Fail> {
 #[test]
 fn up_to_a_read_that_fails(rt: HostRuntime) -> Result<(), Fail> {
     let script = each_form(rt.alloc())?;
+    let config = lending(rt.alloc())?;
     for passed in 0..GROWTHS {
         let heap = Refusing::after(rt.alloc(), passed);
         let mut reader = Pieces::failing(script.as_bytes(), PIECE, script.len());
         let mut writer = Recording::new(rt.alloc());
-        let outcome = replay(&heap, &Config::built_in(), &mut reader, &mut writer);
+        let outcome = replay(&heap, &config, &mut reader, &mut writer);
         assert!(rt; writer.octets.is_empty());
         if !heap.has_refused() {
             assert_eq!(rt; outcome, Err(ReplayFault::ReadFault));
@@ -181,11 +186,12 @@ fn up_to_a_read_that_fails(rt: HostRuntime) -> Result<(), Fail> {
 #[test]
 fn a_script_that_is_too_long(rt: HostRuntime) -> Result<(), Fail> {
     let script = vec![in rt.alloc(); b'x'; MAX_SCRIPT + 1]?;
+    let config = lending(rt.alloc())?;
     for passed in 0..GROWTHS {
         let heap = Refusing::after(rt.alloc(), passed);
         let mut reader = script.as_slice();
         let mut writer = Recording::new(rt.alloc());
-        let outcome = replay(&heap, &Config::built_in(), &mut reader, &mut writer);
+        let outcome = replay(&heap, &config, &mut reader, &mut writer);
         assert!(rt; writer.octets.is_empty());
         if !heap.has_refused() {
             assert_eq!(rt; outcome, Err(ReplayFault::ScriptTooLong));

@@ -10,4 +10,4 @@ returns-in-Some-rest-3 c =
     let whole : slice_split is_space c.args.line.now
     ≡ c.cut.result.0.now ∷ c.cut-2.result.0.now ∷ c.cut-3.result.0.now ∷ c.cut-4.result.0.now ∷ slice_split is_space c.in-Some-rest-3.field-0.now = cc in
     let count = ap length whole in
-    (λ e. omega (arith, more, count, e), λ e. omega (arith, more, count, e))
+    (λ e. omega (arith, more, count, e), λ e. omega (arith, more, count, e), λ e. omega (arith, more, count, e))

@@ -10,9 +10,8 @@ abbrev pub invariant-loop-rest : goal.invariant-loop-rest
 invariant-loop-rest g l = record {
   written : List ℕ;
   wrote : Appends (g.W.Sink.contents l.fn.writer) (g.W.Sink.contents l.writer) written;
-  whole : written ++ text_from l.config l.ledger.entries (lines_of l.rest) ≡ text_of l.config l.script;
+  whole : written ++ text_from l.book (lines_of l.rest) ≡ text_of l.config l.script;
   writes : CountsUp (g.W.Sink.failures l.fn.writer) (g.W.Sink.failures l.writer) 0;
-  config : l.ledger.config ≡ l.config;
 }
 
 abbrev pub decreases-loop-rest : goal.decreases-loop-rest

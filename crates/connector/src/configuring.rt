@@ -1,0 +1,86 @@
+//! Where a command's configuration comes from.
+
+use crate::Ending;
+use ilp_connector::{BUILT_IN, CONFIG_LIMIT, Refusal, read_config};
+use std::alloc::AllocError;
+use std::io::Read;
+use std::rt::Runtime;
+use std::{fs, io};
+
+/// The octets of a configuration: the built-in one where the path is `-`, and else those of a file.
+pub(crate) fn octets_of<R: Runtime + AllocGlobal>(rt: &R, path: &str) -> Result<Vec<u8>, Ending> {
+    match path {
+        "-" => match Vec::from_slice(rt.alloc(), BUILT_IN.as_bytes()) {
+            Ok(octets) => Ok(octets),
+            Err(AllocError) => Err(Ending::Refused(Refusal::Memory)),
+        },
+        _ => octets_of_file(rt, path),
+    }
+}
+
+fn octets_of_file<R: Runtime + AllocGlobal>(rt: &R, path: &str) -> Result<Vec<u8>, Ending> {
+    let file = match fs::open(rt, path) {
+        Ok(file) => file,
+        Err(error) => {
+            let why = format!(in rt.alloc(); "{path:?}: {error}");
+            return Err(refused(Refusal::ConfigUnread, why));
+        }
+    };
+    let mut reader = Noting::new(file);
+    match read_config(rt.alloc(), &mut reader) {
+        Ok(octets) => Ok(octets),
+        Err(Refusal::ConfigUnread) => {
+            let why = why_unread(rt, path, reader.error);
+            Err(refused(Refusal::ConfigUnread, why))
+        }
+        Err(refusal) => Err(Ending::Refused(refusal)),
+    }
+}
+
+// Why a file that was opened is no configuration: the error of a read, or its length.
+fn why_unread<R: AllocGlobal>(
+    rt: &R,
+    path: &str,
+    error: Option<io::Error>,
+) -> Result<String, AllocError> {
+    match error {
+        Some(error) => format!(in rt.alloc(); "{path:?}: {error}"),
+        None => format!(in rt.alloc(); "{path:?}: more than {CONFIG_LIMIT} octets"),
+    }
+}
+
+/// A refusal, and why it came where there was memory to say so.
+pub(crate) fn refused(refusal: Refusal, why: Result<String, AllocError>) -> Ending {
+    match why {
+        Ok(why) => Ending::Explained(refusal, why),
+        Err(AllocError) => Ending::Refused(refusal),
+    }
+}
+
+/// A reader that keeps the error of its last read that failed.
+#[derive(Drop)]
+struct Noting<R> {
+    reader: R,
+    error: Option<io::Error>,
+}
+
+impl<R> Noting<R> {
+    fn new(reader: R) -> Self {
+        Noting {
+            reader,
+            error: None,
+        }
+    }
+}
+
+impl<R: Read> Read for Noting<R> {
+    ghost remaining = { λ noting. R.remaining noting.reader };
+
+    fn read(&mut self, room: &mut [u8]) -> io::Result<usize> {
+        let outcome = self.reader.read(room);
+        if let Err(error) = outcome {
+            self.error = Some(error);
+        }
+        outcome
+    }
+}

@@ -1,0 +1,13 @@
+pub mod Known
+pub mod LawfulGrowth
+pub mod Refused
+pub mod InTime
+pub mod HoldSteps
+pub mod AnswerSteps
+pub mod SettleSteps
+pub mod Runs
+pub mod FirstAnswer
+pub mod Keeping
+pub mod Earliest
+pub mod Prefixes
+pub mod RowProofs

@@ -1,0 +1,90 @@
+//! Which holds are open, and how one ends.
+ghost use Rattle.std.specs.Prelude.{◌≡◌, length};
+ghost use Rattle.ilp_journal.specs.Journal.{open_hold_at};
+ghost use Rattle.ilp_book.specs.Terms.{meets};
+ghost use Rattle.ilp_book.specs.Open.{earlier, earliest, open_with_number};
+ghost use Rattle.ilp_book.specs.AnswerStep.{verdict};
+
+use crate::calls::PeerReply;
+use ilp_journal::{Cause, Hold, Journal, What};
+use std::alloc::Allocator;
+
+// The hold under a number, if it is open.
+pub(crate) fn open_hold_at<A: Allocator>(journal: &Journal<A>, number: u32) -> Option<Hold>
+    ensures { result ≡ open_hold_at journal.now.entries number }
+{
+    if journal.answer_of(number).is_some() {
+        return None;
+    }
+    match journal.get(number) {
+        Some(entry) => match &entry.what {
+            What::Hold(hold) => Some(*hold),
+            _ => None,
+        },
+        None => None,
+    }
+}
+
+// The open hold of least deadline, and of several the first, with its number.
+pub(crate) fn earliest_open<A: Allocator>(journal: &Journal<A>) -> Option<(u32, Hold)>
+    ensures { result ≡ earliest journal.now.entries }
+{
+    let mut earliest = None;
+    for number in 0..journal.len() {
+        earliest = earlier(earliest, open_with_number(journal, number));
+    }
+    earliest
+}
+
+// The hold under a number, if it is open, with the number.
+fn open_with_number<A: Allocator>(journal: &Journal<A>, number: u32) -> Option<(u32, Hold)>
+    ensures { result ≡ open_with_number journal.now.entries number }
+{
+    match open_hold_at(journal, number) {
+        Some(hold) => Some((number, hold)),
+        None => None,
+    }
+}
+
+// The one of two holds whose deadline comes first; the first, where both come at once.
+fn earlier(first: Option<(u32, Hold)>, second: Option<(u32, Hold)>) -> Option<(u32, Hold)>
+    ensures { result ≡ earlier first second }
+{
+    let Some(one) = first else {
+        return second;
+    };
+    let Some(other) = second else {
+        return first;
+    };
+    if other.1.deadline < one.1.deadline {
+        return second;
+    }
+    first
+}
+
+// The preimage that fulfills a hold, or the cause of its release. Lateness is seen first.
+#[tactic(auto, unfolding(crate::specs::AnswerStep::verdict))]
+pub(crate) fn verdict(hold: &Hold, moment: i64, reply: PeerReply) -> Result<[u8; 32], Cause>
+    ensures { result ≡ verdict hold.now moment reply }
+{
+    if hold.deadline <= moment {
+        return Err(Cause::Late);
+    }
+    let preimage = match reply {
+        PeerReply::Fulfil(preimage) => preimage,
+        PeerReply::BadFulfil => return Err(Cause::WrongPreimage),
+        PeerReply::Reject(code) => return Err(Cause::Peer(code)),
+        PeerReply::NoReply => return Err(Cause::NoReply),
+    };
+    if !meets(&hold.condition, &preimage) {
+        return Err(Cause::WrongPreimage);
+    }
+    Ok(preimage)
+}
+
+// Whether the preimage fulfills the condition.
+fn meets(condition: &[u8; 32], preimage: &[u8; 32]) -> bool
+    ensures { result ≡ meets condition.now preimage.now }
+{
+    ilp_terms::meets(condition, preimage)
+}

@@ -1,0 +1,17 @@
+//! The book of a connector (RFC 0027): what each call is answered and which entry it appends, and
+//! what the journal keeps by that.
+#![tactic(auto)]
+
+mod answers;
+mod book;
+mod calls;
+pub mod laws;
+mod moments;
+mod settlements;
+mod terms;
+mod totals;
+
+pub use book::Book;
+pub use calls::{
+    AskFault, Asked, CreditFault, Held, HoldFault, Kept, NotOpen, Outcome, PeerReply, Sums,
+};

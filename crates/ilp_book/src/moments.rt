@@ -1,0 +1,48 @@
+//! Moments, in milliseconds since 1970.
+ghost use Rattle.std.specs.Prelude.{◌≡◌, pos, ◌≤ℤ◌, ◌+ℤ◌, ◌-ℤ◌};
+ghost use Rattle.std.specs.Int.{int_min};
+ghost use Rattle.ilp_journal.specs.Journal.{last_moment};
+ghost use Rattle.ilp_book.specs.Terms.{last_of_all};
+
+use ilp_journal::Journal;
+use std::alloc::Allocator;
+
+/// 9999-12-31, 23:59:59.999.
+pub(crate) const LAST_OF_ALL: i64 = 253_402_300_799_999;
+
+// The moment of the last entry, or 0 before any.
+pub(crate) fn last_moment<A: Allocator>(journal: &Journal<A>) -> i64
+    ensures { result ≡ last_moment journal.now.entries }
+{
+    let len = journal.len();
+    if len == 0 {
+        return 0;
+    }
+    match journal.get(len - 1) {
+        Some(entry) => entry.moment,
+        None => 0,
+    }
+}
+
+// The moment that lies some milliseconds before another.
+pub(crate) fn before(moment: i64, span: u32) -> i64
+    requires { pos 0 ≤ℤ moment }
+    ensures { result ≡ moment -ℤ pos span }
+{
+    moment - i64::from(span)
+}
+
+// The moment that lies some milliseconds after another.
+pub(crate) fn after(moment: i64, span: u32) -> i64
+    requires { moment ≤ℤ last_of_all }
+    ensures { result ≡ moment +ℤ pos span }
+{
+    moment + i64::from(span)
+}
+
+// The sooner of two moments.
+pub(crate) fn sooner(one: i64, other: i64) -> i64
+    ensures { result ≡ int_min one other }
+{
+    one.min(other)
+}

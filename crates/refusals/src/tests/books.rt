@@ -1,0 +1,122 @@
+//! Books.
+
+use super::{GROWTHS, lending};
+use ilp_book::{Book, Held, HoldFault, Outcome, PeerReply};
+use ilp_journal::Cause;
+use ilp_packet::Prepare;
+use refusing::Refusing;
+use std::alloc::Allocator;
+use std::process::Abort;
+use std::test::Fail;
+
+// 2025-01-01T00:00:00Z.
+const START: i64 = 1_735_689_600_000;
+
+// The SHA-256 digest of 32 zero octets (by Python's hashlib).
+const CONDITION: [u8; 32] = [
+    0x66, 0x68, 0x7a, 0xad, 0xf8, 0x62, 0xbd, 0x77, 0x6c, 0x8f, 0xc1, 0x8b, 0x8e, 0x9f, 0x8e, 0x20,
+    0x08, 0x97, 0x14, 0x85, 0x6e, 0xe2, 0x33, 0xb3, 0x90, 0x2a, 0x59, 0x1d, 0x0d, 0x5f, 0x29, 0x25,
+];
+
+const PREPARE: Prepare<'static> = Prepare {
+    amount: 100,
+    expires: START + 30_000,
+    condition: &CONDITION,
+    destination: b"test.bob",
+    payload: b"",
+};
+
+const DEADLINE: i64 = START + 29_000;
+
+// How many holds are made.
+const HOLDS: u32 = 20;
+
+// A hold of alice; where it is refused memory it changes nothing, and succeeds when asked again.
+fn hold<A: Allocator>(rt: &impl Abort, book: &mut Book<A>) {
+    let number = book.len();
+    let owed = book.balance(0);
+    assert!(rt; book.config().peers() == 2);
+    let mut outcome = book.hold(0, 0, &PREPARE, START);
+    if outcome == Err(HoldFault::Memory) {
+        assert_eq!(rt; (book.len(), book.balance(0)), (number, owed));
+        assert!(rt; book.config().peers() == 2);
+        outcome = book.hold(0, 0, &PREPARE, START);
+    }
+    let held = Held {
+        number,
+        to: 1,
+        out: 100,
+        deadline: DEADLINE,
+    };
+    assert_eq!(rt; outcome, Ok(held));
+}
+
+#[test]
+fn holding(rt: HostRuntime) -> Result<(), Fail> {
+    let config = lending(rt.alloc())?;
+    for passed in 0..GROWTHS {
+        let heap = Refusing::after(rt.alloc(), passed);
+        let mut book = Book::new(&heap, &config)?;
+        for _ in 0..HOLDS {
+            hold(&rt, &mut book);
+        }
+        assert_eq!(rt; book.len(), HOLDS);
+        assert_eq!(rt; (book.balance(0), book.balance(1)), (-2_000, 0));
+        if !heap.has_refused() {
+            assert!(rt; passed > 0);
+            return Ok(());
+        }
+    }
+    assert!(rt; false, "some growth was always refused");
+    Ok(())
+}
+
+// What releases a hold, when it comes, and the cause that it is released for.
+const ANSWERS: [(PeerReply, i64, Cause); 5] = [
+    (PeerReply::Fulfil([1; 32]), START, Cause::WrongPreimage),
+    (PeerReply::BadFulfil, START, Cause::WrongPreimage),
+    (PeerReply::Reject(*b"F99"), START, Cause::Peer(*b"F99")),
+    (PeerReply::NoReply, START, Cause::NoReply),
+    (PeerReply::NoReply, DEADLINE, Cause::Late),
+];
+
+// Once the holds are made, the next growth is refused: so no answer and no sweep makes one.
+#[test]
+fn ending_holds_takes_no_memory(rt: HostRuntime) -> Result<(), Fail> {
+    let config = lending(rt.alloc())?;
+    for passed in 0..GROWTHS {
+        let heap = Refusing::after(rt.alloc(), passed);
+        let mut book = Book::new(&heap, &config)?;
+        for _ in 0..HOLDS {
+            hold(&rt, &mut book);
+        }
+        if heap.has_refused() {
+            continue;
+        }
+        end_all(&rt, &mut book);
+        assert!(rt; !heap.has_refused());
+        return Ok(());
+    }
+    assert!(rt; false, "some growth was always refused");
+    Ok(())
+}
+
+// The first holds are answered, and the others swept.
+fn end_all<A: Allocator>(rt: &impl Abort, book: &mut Book<A>) {
+    let outcome = book.answer(0, 0, PeerReply::Fulfil([0; 32]), START);
+    assert_eq!(rt; outcome, Ok(Outcome::Fulfilled { entry: HOLDS }));
+    let mut entry = HOLDS + 1;
+    let mut number = 1;
+    for (reply, now, cause) in ANSWERS {
+        let outcome = book.answer(0, number, reply, now);
+        assert_eq!(rt; outcome, Ok(Outcome::Released { entry, cause }));
+        entry = entry.saturating_add(1);
+        number = number.saturating_add(1);
+    }
+    for swept in number..HOLDS {
+        assert_eq!(rt; book.expire_one(0, DEADLINE), Some(swept));
+    }
+    assert_eq!(rt; book.expire_one(0, DEADLINE), None);
+    assert_eq!(rt; book.len(), 2 * HOLDS);
+    assert_eq!(rt; (book.balance(0), book.balance(1)), (-100, 100));
+}
