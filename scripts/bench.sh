@@ -4,6 +4,7 @@
 #
 #     scripts/bench.sh packets
 #     scripts/bench.sh quote
+#     scripts/bench.sh book
 #
 # It works on a copy of the repository in a temporary folder (TMPDIR says where). It needs rt, rustc
 # and python3. The Rattle program is proved before it is built (`rt run`): a build without proof

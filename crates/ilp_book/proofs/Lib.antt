@@ -9,5 +9,6 @@ pub mod Runs
 pub mod FirstAnswer
 pub mod Keeping
 pub mod Earliest
+pub mod Answered
 pub mod Prefixes
 pub mod RowProofs

@@ -1,6 +1,8 @@
 //! Which holds are open, and how one ends.
-ghost use Rattle.std.specs.Prelude.{◌≡◌, length};
-ghost use Rattle.ilp_journal.specs.Journal.{open_hold_at};
+ghost use Rattle.std.specs.Prelude.{◌≡◌, slice_get, option_and_then, is_some};
+ghost use Rattle.ilp_journal.specs.declared.entry.Entry.{Entry};
+ghost use Rattle.ilp_journal.specs.Places.{Each};
+ghost use Rattle.ilp_journal.specs.Journal.{AnswersOnce, hold_at, answer_of, open_hold_at, answered, is_number};
 ghost use Rattle.ilp_book.specs.Terms.{meets};
 ghost use Rattle.ilp_book.specs.Open.{earlier, earliest, open_with_number};
 ghost use Rattle.ilp_book.specs.AnswerStep.{verdict};
@@ -11,22 +13,68 @@ use std::alloc::Allocator;
 
 // The hold under a number, if it is open.
 pub(crate) fn open_hold_at<A: Allocator>(journal: &Journal<A>, number: u32) -> Option<Hold>
+    requires { Each AnswersOnce journal.now.entries }
     ensures { result ≡ open_hold_at journal.now.entries number }
 {
-    if journal.answer_of(number).is_some() {
+    let Some(hold) = hold_at(journal, number) else {
+        return None;
+    };
+    if is_answered(journal, number) {
         return None;
     }
-    match journal.get(number) {
-        Some(entry) => match &entry.what {
-            What::Hold(hold) => Some(*hold),
-            _ => None,
+    Some(hold)
+}
+
+// The hold under a number.
+pub(crate) fn hold_at<A: Allocator>(journal: &Journal<A>, number: u32) -> Option<Hold>
+    ensures { result ≡ hold_at journal.now.entries number }
+{
+    match &journal.get(number)?.what {
+        What::Hold(hold) => Some(*hold),
+        _ => None,
+    }
+}
+
+// Whether an entry answers the hold of a number. Such an entry stands after the hold.
+fn is_answered<A: Allocator>(journal: &Journal<A>, number: u32) -> bool
+    requires { Each AnswersOnce journal.now.entries }
+    ensures { result ≡ is_some (answer_of journal.now.entries number) }
+{
+    for place in number..journal.len() {
+        if answers(journal, place, number) {
+            return true;
+        }
+    }
+    false
+}
+
+// Whether the entry at a place answers the hold of a number.
+fn answers<A: Allocator>(journal: &Journal<A>, place: u32, number: u32) -> bool
+    ensures { result ≡ is_number number
+        (option_and_then (λ (e : Entry). answered e.what) (slice_get journal.now.entries place)) }
+{
+    match journal.get(place) {
+        Some(entry) => match answered(&entry.what) {
+            Some(hold) => number == hold,
+            None => false,
         },
-        None => None,
+        None => false,
+    }
+}
+
+// The number of the hold that an entry answers.
+pub(crate) fn answered(what: &What) -> Option<u32>
+    ensures { result ≡ answered what.now }
+{
+    match what {
+        What::Fulfilled { hold, .. } | What::Released { hold, .. } => Some(*hold),
+        _ => None,
     }
 }
 
 // The open hold of least deadline, and of several the first, with its number.
 pub(crate) fn earliest_open<A: Allocator>(journal: &Journal<A>) -> Option<(u32, Hold)>
+    requires { Each AnswersOnce journal.now.entries }
     ensures { result ≡ earliest journal.now.entries }
 {
     let mut earliest = None;
@@ -38,6 +86,7 @@ pub(crate) fn earliest_open<A: Allocator>(journal: &Journal<A>) -> Option<(u32, 
 
 // The hold under a number, if it is open, with the number.
 fn open_with_number<A: Allocator>(journal: &Journal<A>, number: u32) -> Option<(u32, Hold)>
+    requires { Each AnswersOnce journal.now.entries }
     ensures { result ≡ open_with_number journal.now.entries number }
 {
     match open_hold_at(journal, number) {

@@ -1,12 +1,13 @@
 //! What the holds of a journal come to. Each call goes once over the entries.
 ghost use Rattle.std.specs.Prelude.{◌≡◌, ◌≤◌, ◌^◌};
 ghost use Rattle.ilp_journal.specs.Places.{Each};
-ghost use Rattle.ilp_journal.specs.Journal.{AnswersOnce, answered, fulfilled, released, hold_at};
+ghost use Rattle.ilp_journal.specs.Journal.{AnswersOnce, fulfilled, released};
 ghost use Rattle.ilp_journal.specs.TrialBalance.{has_asset, amount_in, fee_in, amount_out, of_named, since};
 ghost use Rattle.ilp_book.specs.Configured.{peer_assets};
 ghost use Rattle.ilp_book.specs.Open.{sent_by};
 ghost use Rattle.ilp_book.specs.Counted.{part_of, total_of, begun, ended, begun_at, ended_at};
 
+use crate::answers::{answered, hold_at};
 use ilp_accounts::Config;
 use ilp_journal::{Hold, Journal, What};
 use std::alloc::Allocator;
@@ -138,16 +139,6 @@ fn amount_out(config: &Config, asset: u32, hold: &Hold) -> u64
     }
 }
 
-// The hold under a number.
-fn hold_at<A: Allocator>(journal: &Journal<A>, number: u32) -> Option<Hold>
-    ensures { result ≡ hold_at journal.now.entries number }
-{
-    match &journal.get(number)?.what {
-        What::Hold(hold) => Some(*hold),
-        _ => None,
-    }
-}
-
 // The number of the hold that the entry of this number brings.
 fn begun(total: Total, number: u32, what: &What) -> Option<u32>
     ensures { result ≡ begun total number what.now }
@@ -167,16 +158,6 @@ fn ended(total: Total, what: &What) -> Option<u32>
         Total::Sent(_) | Total::Held(_) => answered(what),
         Total::Taken(_) | Total::Fees(_) | Total::Sold(_) => None,
         Total::In { base, .. } | Total::Out { base, .. } => since(base, released(what)),
-    }
-}
-
-// The number of the hold that an entry answers.
-fn answered(what: &What) -> Option<u32>
-    ensures { result ≡ answered what.now }
-{
-    match what {
-        What::Fulfilled { hold, .. } | What::Released { hold, .. } => Some(*hold),
-        _ => None,
     }
 }
 

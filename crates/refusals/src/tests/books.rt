@@ -1,6 +1,7 @@
 //! Books.
 
 use super::{GROWTHS, lending};
+use ilp_accounts::Config;
 use ilp_book::{Book, Held, HoldFault, Outcome, PeerReply};
 use ilp_journal::Cause;
 use ilp_packet::Prepare;
@@ -54,14 +55,13 @@ fn hold<A: Allocator>(rt: &impl Abort, book: &mut Book<A>) {
 #[test]
 fn holding(rt: HostRuntime) -> Result<(), Fail> {
     let config = lending(rt.alloc())?;
+    hold_over_each(&rt, &config)
+}
+
+fn hold_over_each(rt: &(impl Abort + AllocGlobal), config: &Config) -> Result<(), Fail> {
     for passed in 0..GROWTHS {
         let heap = Refusing::after(rt.alloc(), passed);
-        let mut book = Book::new(&heap, &config)?;
-        for _ in 0..HOLDS {
-            hold(&rt, &mut book);
-        }
-        assert_eq!(rt; book.len(), HOLDS);
-        assert_eq!(rt; (book.balance(0), book.balance(1)), (-2_000, 0));
+        hold_over(rt, config, &heap)?;
         if !heap.has_refused() {
             assert!(rt; passed > 0);
             return Ok(());
@@ -69,6 +69,20 @@ fn holding(rt: HostRuntime) -> Result<(), Fail> {
     }
     assert!(rt; false, "some growth was always refused");
     Ok(())
+}
+
+fn hold_over<A: Allocator>(rt: &impl Abort, config: &Config, heap: A) -> Result<(), Fail> {
+    let mut book = Book::new(heap, config)?;
+    hold_all(rt, &mut book);
+    Ok(())
+}
+
+fn hold_all<A: Allocator>(rt: &impl Abort, book: &mut Book<A>) {
+    for _ in 0..HOLDS {
+        hold(rt, book);
+    }
+    assert_eq!(rt; book.len(), HOLDS);
+    assert_eq!(rt; (book.balance(0), book.balance(1)), (-2_000, 0));
 }
 
 // What releases a hold, when it comes, and the cause that it is released for.
@@ -80,24 +94,36 @@ const ANSWERS: [(PeerReply, i64, Cause); 5] = [
     (PeerReply::NoReply, DEADLINE, Cause::Late),
 ];
 
-// Once the holds are made, the next growth is refused: so no answer and no sweep makes one.
 #[test]
 fn ending_holds_takes_no_memory(rt: HostRuntime) -> Result<(), Fail> {
     let config = lending(rt.alloc())?;
+    end_over_each(&rt, &config)
+}
+
+fn end_over_each(rt: &(impl Abort + AllocGlobal), config: &Config) -> Result<(), Fail> {
     for passed in 0..GROWTHS {
         let heap = Refusing::after(rt.alloc(), passed);
-        let mut book = Book::new(&heap, &config)?;
-        for _ in 0..HOLDS {
-            hold(&rt, &mut book);
+        end_over(rt, config, &heap)?;
+        if !heap.has_refused() {
+            return Ok(());
         }
-        if heap.has_refused() {
-            continue;
-        }
-        end_all(&rt, &mut book);
-        assert!(rt; !heap.has_refused());
-        return Ok(());
     }
     assert!(rt; false, "some growth was always refused");
+    Ok(())
+}
+
+// Once the holds are made, the next growth is refused, unless one was: so where the last of them
+// passed, no answer and no sweep makes one.
+fn end_over<B: Allocator>(
+    rt: &impl Abort,
+    config: &Config,
+    heap: &Refusing<B>,
+) -> Result<(), Fail> {
+    let mut book = Book::new(heap, config)?;
+    hold_all(rt, &mut book);
+    let had_refused = heap.has_refused();
+    end_all(rt, &mut book);
+    assert_eq!(rt; heap.has_refused(), had_refused);
     Ok(())
 }
 

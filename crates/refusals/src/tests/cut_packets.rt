@@ -1,6 +1,7 @@
 //! Packets that are cut short or go on, as lines of a script.
 
 use super::{PREPARE, lending};
+use ilp_accounts::Config;
 use ilp_connector::replay;
 use ilp_oer::{Octets, write_octets};
 use std::alloc::Global;
@@ -9,10 +10,15 @@ use std::test::Fail;
 
 // What a line prints that holds a packet of this hexadecimal.
 fn printed(alloc: Global, packet: &str) -> Result<String, Fail> {
+    let config = lending(alloc)?;
+    printed_over(alloc, &config, packet)
+}
+
+fn printed_over(alloc: Global, config: &Config, packet: &str) -> Result<String, Fail> {
     let script = format!(in alloc; "hold 1735689600000 alice {packet}\n")?;
     let mut reader = script.as_bytes();
     let mut out = Vec::new(alloc);
-    replay(alloc, &lending(alloc)?, &mut reader, &mut out)?;
+    replay(alloc, config, &mut reader, &mut out)?;
     Ok(String::from_utf8_lossy(alloc, &out)?)
 }
 

@@ -1,6 +1,7 @@
 //! Replaying scripts.
 
 use super::{GROWTHS, PREPARE, PREPARE_BACK, lending};
+use ilp_accounts::Config;
 use ilp_connector::{ReplayFault, replay};
 use ilp_io::{Pieces, Recording};
 use refusing::Refusing;
@@ -102,13 +103,22 @@ fn a_journal_that_fills(rt: HostRuntime) -> Result<(), Fail> {
 // Replays with each growth refused in turn. What is written until then is a front of the text,
 // of whole lines, and no shorter than where an earlier growth was refused.
 fn replay_each(rt: &(impl Abort + AllocGlobal), script: &str, text: &str) -> Result<(), Fail> {
-    let mut before = 0;
     let config = lending(rt.alloc())?;
+    replay_over_each(rt, &config, script, text)
+}
+
+fn replay_over_each(
+    rt: &(impl Abort + AllocGlobal),
+    config: &Config,
+    script: &str,
+    text: &str,
+) -> Result<(), Fail> {
+    let mut before = 0;
     for passed in 0..GROWTHS {
         let heap = Refusing::after(rt.alloc(), passed);
         let mut reader = Pieces::new(script.as_bytes(), PIECE);
         let mut writer = Recording::new(rt.alloc());
-        let outcome = replay(&heap, &config, &mut reader, &mut writer);
+        let outcome = replay(&heap, config, &mut reader, &mut writer);
         let written = writer.octets.as_slice();
         assert_eq!(rt; (reader.failures, writer.failures), (0, 0));
         if !heap.has_refused() {
@@ -131,13 +141,21 @@ fn replay_each(rt: &(impl Abort + AllocGlobal), script: &str, text: &str) -> Res
 #[test]
 fn into_a_sink_that_is_refused_memory(rt: HostRuntime) -> Result<(), Fail> {
     let script = each_form(rt.alloc())?;
-    let mut failed_writes = 0u64;
     let config = lending(rt.alloc())?;
+    sink_over_each(&rt, &config, script.as_str())
+}
+
+fn sink_over_each(
+    rt: &(impl Abort + AllocGlobal),
+    config: &Config,
+    script: &str,
+) -> Result<(), Fail> {
+    let mut failed_writes = 0u64;
     for passed in 0..GROWTHS {
         let heap = Refusing::after(rt.alloc(), passed);
         let mut reader = Pieces::new(script.as_bytes(), PIECE);
         let mut writer = Recording::new(&heap);
-        let outcome = replay(&heap, &config, &mut reader, &mut writer);
+        let outcome = replay(&heap, config, &mut reader, &mut writer);
         let written = writer.octets.as_slice();
         if !heap.has_refused() {
             assert_eq!(rt; outcome, Ok(()));
@@ -164,11 +182,19 @@ fn into_a_sink_that_is_refused_memory(rt: HostRuntime) -> Result<(), Fail> {
 fn up_to_a_read_that_fails(rt: HostRuntime) -> Result<(), Fail> {
     let script = each_form(rt.alloc())?;
     let config = lending(rt.alloc())?;
+    fail_over_each(&rt, &config, script.as_str())
+}
+
+fn fail_over_each(
+    rt: &(impl Abort + AllocGlobal),
+    config: &Config,
+    script: &str,
+) -> Result<(), Fail> {
     for passed in 0..GROWTHS {
         let heap = Refusing::after(rt.alloc(), passed);
         let mut reader = Pieces::failing(script.as_bytes(), PIECE, script.len());
         let mut writer = Recording::new(rt.alloc());
-        let outcome = replay(&heap, &config, &mut reader, &mut writer);
+        let outcome = replay(&heap, config, &mut reader, &mut writer);
         assert!(rt; writer.octets.is_empty());
         if !heap.has_refused() {
             assert_eq!(rt; outcome, Err(ReplayFault::ReadFault));
@@ -187,11 +213,19 @@ fn up_to_a_read_that_fails(rt: HostRuntime) -> Result<(), Fail> {
 fn a_script_that_is_too_long(rt: HostRuntime) -> Result<(), Fail> {
     let script = vec![in rt.alloc(); b'x'; MAX_SCRIPT + 1]?;
     let config = lending(rt.alloc())?;
+    stop_over_each(&rt, &config, &script)
+}
+
+fn stop_over_each(
+    rt: &(impl Abort + AllocGlobal),
+    config: &Config,
+    script: &[u8],
+) -> Result<(), Fail> {
     for passed in 0..GROWTHS {
         let heap = Refusing::after(rt.alloc(), passed);
-        let mut reader = script.as_slice();
+        let mut reader = script;
         let mut writer = Recording::new(rt.alloc());
-        let outcome = replay(&heap, &config, &mut reader, &mut writer);
+        let outcome = replay(&heap, config, &mut reader, &mut writer);
         assert!(rt; writer.octets.is_empty());
         if !heap.has_refused() {
             assert_eq!(rt; outcome, Err(ReplayFault::ScriptTooLong));
