@@ -19,4 +19,3 @@ pub use config_file::{CONFIG_LIMIT, read_config};
 pub use describe::describe_packet;
 pub use refusal::Refusal;
 pub use runner::{ReplayFault, replay};
-

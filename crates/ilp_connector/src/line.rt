@@ -151,12 +151,7 @@ fn run_answer<A: Allocator + Copy>(
     Ok(answer(book, now, number, reply))
 }
 
-fn answer<A: Allocator>(
-    book: &mut Book<A>,
-    now: i64,
-    number: u32,
-    reply: PeerReply,
-) -> Reply
+fn answer<A: Allocator>(book: &mut Book<A>, now: i64, number: u32, reply: PeerReply) -> Reply
     ensures reply { result ≡ (replays.answer_with book.old now number reply).reply }
     ensures entry { book.new ≡ with_entry book.old
         (replays.answer_with book.old now number reply).entry }

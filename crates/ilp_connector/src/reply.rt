@@ -146,10 +146,7 @@ fn name_of(config: &Config, peer: u32) -> &str
 }
 
 // The balance of each peer.
-fn report_text<A: Allocator + Copy>(
-    alloc: A,
-    book: &Book<A>,
-) -> Result<String<A>, AllocError>
+fn report_text<A: Allocator + Copy>(alloc: A, book: &Book<A>) -> Result<String<A>, AllocError>
     ensures { IfOk result (λ text. string_bytes text
         ≡ balance_lines book.now.entries 0 (peer_names book.now.config.peers)) }
 {
