@@ -7,7 +7,7 @@ use Rattle.std.proofs.lemmas.Option.{slice_get_past}
 use Rattle.ilp_journal.specs.declared.entry.Entry.{Entry}
 use Rattle.ilp_journal.specs.declared.entry.What.{What}
 use Rattle.ilp_journal.specs.Places.{first_from, Each}
-use Rattle.ilp_journal.specs.Journal.{Entries, Answers, hold_at, ask_at, as_hold, as_ask, answered, closed, is_number, answer_of, closing_of, AnswersOnce, ClosesOnce}
+use Rattle.ilp_journal.specs.Journal.{Entries, Answers, Closes, hold_at, ask_at, as_hold, as_ask, answered, closed, is_number, answer_of, closing_of, AnswersOnce, ClosesOnce}
 use Rattle.ilp_journal.proofs.Sums.{by_push, Each-parts, first_from-append, slice_get-append, slice_get-push}
 
 -- ---- what stands at a place
@@ -244,6 +244,14 @@ answered_once j n k m each h g = named_once answered as_hold n k m j each h g
 -- an answer names an earlier hold
 pub answered_earlier : (j : Entries) (n k : ℕ) → Each AnswersOnce j → Answers j k n → IsSome (hold_at j n) × (n < k)
 answered_earlier j n k each h = named_earlier answered as_hold n k j each h
+
+-- a settlement is closed once
+pub closed_once : (j : Entries) (n k m : ℕ) → Each ClosesOnce j → Closes j k n → Closes j m n → k ≡ m
+closed_once j n k m each h g = named_once closed as_ask n k m j each h g
+
+-- a closing names an earlier settlement
+pub closed_earlier : (j : Entries) (n k : ℕ) → Each ClosesOnce j → Closes j k n → IsSome (ask_at j n) × (n < k)
+closed_earlier j n k each h = named_earlier closed as_ask n k j each h
 
 -- a number with an answer is that of a hold
 pub answer_of_hold : (j : Entries) (n : ℕ) → Each AnswersOnce j → IsSome (answer_of j n) → IsSome (hold_at j n)

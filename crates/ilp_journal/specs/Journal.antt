@@ -1,5 +1,5 @@
 -- A journal is a list of entries, and an entry's number is its place. Here is what stands and what is open in it.
-use Rattle.std.specs.Prelude.{◌≡◌, ℕ, ◌+◌, ℤ, pos, Bool, false, List, Option, Some, None, is_none, IsNone, IsSome, IfSome, slice_get, option_and_then, option_map, unwrap_or, if◌then◌else◌, ◌==◌, fold}
+use Rattle.std.specs.Prelude.{◌≡◌, ℕ, ◌+◌, ◌<◌, ◌≤◌, ℤ, pos, Bool, false, ◌&&◌, List, length, Option, Some, None, is_none, is_some, IsNone, IsSome, IsSomeAnd, IfSome, slice_get, nat_le, option_and_then, option_map, unwrap_or, if◌then◌else◌, ◌==◌, fold}
 use Rattle.std.specs.List.{list_any}
 use Rattle.ilp_journal.specs.declared.entry.Entry.{Entry}
 use Rattle.ilp_journal.specs.declared.entry.What.{What}
@@ -111,6 +111,26 @@ sum_of_asks test f j = sum_from (λ n (e : Entry). if test n then of_ask f e.wha
 abbrev pub open_count : Entries → ℕ
 open_count j = sum_of_holds (is_unanswered j) (λ _. 1) j + sum_of_asks (is_unclosed j) (λ _. 1) j
 
+-- 1 for a hold that the peer sent, else 0
+abbrev pub sent_by : ℕ → Hold → ℕ
+sent_by peer h = if h.from == peer then 1 else 0
+
+-- how many of the open holds the peer sent
+unfoldable pub open_holds : Entries → ℕ → ℕ
+open_holds j peer = sum_of_holds (is_unanswered j) (sent_by peer) j
+
+-- the settlement under a number, if it is open
+abbrev pub open_ask_at : Entries → ℕ → Option Ask
+open_ask_at j n = if is_unclosed j n then ask_at j n else None
+
+-- 1 for a settlement to the peer, else 0
+abbrev pub paid_to : ℕ → Ask → ℕ
+paid_to peer a = if a.peer == peer then 1 else 0
+
+-- how many of the open settlements are to the peer
+unfoldable pub open_asks : Entries → ℕ → ℕ
+open_asks j peer = sum_of_asks (is_unclosed j) (paid_to peer) j
+
 -- how many holds and settlements an entry opens
 abbrev pub opening : What → ℕ
 opening (what.Hold h) = 1
@@ -131,6 +151,10 @@ closing _ = 0
 abbrev pub Answers : Entries → ℕ → ℕ → Type 0
 Answers j k n = option_and_then (λ (e : Entry). answered e.what) (slice_get j k) ≡ Some n
 
+-- the entry k closes the settlement n
+abbrev pub Closes : Entries → ℕ → ℕ → Type 0
+Closes j k n = option_and_then (λ (e : Entry). closed e.what) (slice_get j k) ≡ Some n
+
 -- an answer names an earlier hold that has no answer yet
 abbrev pub AnswersOnce : Entries → Entry → Type 0
 AnswersOnce before e = IfSome (answered e.what) (λ n. IsSome (hold_at before n) × IsNone (answer_of before n))
@@ -138,3 +162,14 @@ AnswersOnce before e = IfSome (answered e.what) (λ n. IsSome (hold_at before n)
 -- a closing names an earlier settlement that isn't closed yet
 abbrev pub ClosesOnce : Entries → Entry → Type 0
 ClosesOnce before e = IfSome (closed e.what) (λ n. IsSome (ask_at before n) × IsNone (closing_of before n))
+
+-- ---- where a book was opened
+
+-- no hold is open at the place base: each hold before it has its answer before it
+pub record IsBase (j : Entries) (base : ℕ) : Type 0 where
+  pub within : base ≤ length j
+  pub answered : (n : ℕ) → n < base → IsSome (hold_at j n) → IsSomeAnd (answer_of j n) (λ k. k < base)
+
+-- how many of the entries from the place base on fulfill a hold
+abbrev pub fulfilled_since : ℕ → Entries → ℕ
+fulfilled_since base j = sum_from (λ n (e : Entry). if nat_le base n && is_some (fulfilled e.what) then 1 else 0) 0 j

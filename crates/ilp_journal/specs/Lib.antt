@@ -3,5 +3,5 @@ pub mod Journal
 pub mod Balance
 pub mod TrialBalance
 pub mod Booked
+pub mod Keys
 pub mod Rows
-pub use Rattle.ilp_oer.specs.Octets

@@ -40,7 +40,7 @@ released n = entry_at 7 (what.Released n cause.NoReply)
 
 -- bob settles 199 units
 abbrev pub credited : Entry
-credited = entry_at 8 (what.Credited (record { peer = bob; key = record { octets = codes "k"; spare = 0 }; named = 1999; scale = 3; credited = 199 }))
+credited = entry_at 8 (what.Credited (record { peer = bob; key = codes "k"; named = 1999; scale = 3; credited = 199 }))
 
 -- a settlement of 80 units to bob is asked for
 abbrev pub asked : Entry
@@ -126,7 +126,7 @@ exchanged = hold_between alice bob 1000 10 1584
 -- carol settles an amount
 abbrev pub paid_in : ℕ → Entry
 paid_in amount =
-    entry_at 8 (what.Credited (record { peer = carol; key = record { octets = codes "k"; spare = 0 }; named = amount; scale = 2; credited = amount }))
+    entry_at 8 (what.Credited (record { peer = carol; key = codes "k"; named = amount; scale = 2; credited = amount }))
 
 -- a settlement of an amount to carol is asked for
 abbrev pub asked_for : ℕ → Entry

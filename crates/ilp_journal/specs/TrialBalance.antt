@@ -5,6 +5,7 @@ use Rattle.ilp_journal.specs.declared.entry.Entry.{Entry}
 use Rattle.ilp_journal.specs.declared.entry.What.{What}
 use Rattle.ilp_journal.specs.declared.entry.What.TheVariants as what
 use Rattle.ilp_journal.specs.declared.entry.Hold.{Hold}
+use Rattle.ilp_journal.specs.declared.entry.Ask.{Ask}
 use Rattle.ilp_journal.specs.Places.{int_sum_from}
 use Rattle.ilp_journal.specs.Journal.{Entries, is_number, is_unanswered, is_fulfilled, sum_of_holds}
 use Rattle.ilp_journal.specs.Balance.{balance, of_hold_at, of_ask_at}
@@ -91,11 +92,15 @@ total_in assets base j x = sum_of_holds (is_counted base j) (amount_in assets x)
 unfoldable pub total_out : List ℕ → ℕ → Entries → ℕ → ℕ
 total_out assets base j x = sum_of_holds (is_counted base j) (amount_out assets x) j
 
--- ---- the hold that an entry names
+-- ---- what an entry names
 
 -- f of the hold under the number, if there is one; else 0
 abbrev pub of_named : Entries → (Hold → ℕ) → Option ℕ → ℕ
 of_named j f o = unwrap_or (option_map (λ n. of_hold_at j n f) o) 0
+
+-- f of the settlement under the number, if there is one; else 0
+abbrev pub of_named_ask : Entries → (Ask → ℕ) → Option ℕ → ℕ
+of_named_ask j f o = unwrap_or (option_map (λ n. of_ask_at j n f) o) 0
 
 -- the number, if it is base or more
 abbrev pub since : ℕ → Option ℕ → Option ℕ

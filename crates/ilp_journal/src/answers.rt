@@ -1,27 +1,37 @@
-//! Which entry answers a hold.
+//! What stands under a number, and which entry answers a hold.
 
 ghost use Rattle.std.specs.Prelude.{◌≡◌, ◌^◌, ◌≤◌, length};
-ghost use Rattle.ilp_journal.specs.Journal.{answered, answer_of};
+ghost use Rattle.ilp_journal.specs.Journal.{answer_of, hold_at, ask_at};
 
-use crate::entry::{Entry, What};
+use crate::entry::{Ask, Entry, Hold, What};
 
-// The number of the hold that an entry answers.
-fn answered(what: &What) -> Option<u32>
-    ensures { result ≡ answered what.now }
+/// The hold under a number.
+pub(crate) fn hold_at(entries: &[Entry], number: u32) -> Option<Hold>
+    ensures { result ≡ hold_at entries.now number }
 {
-    match what {
-        What::Fulfilled { hold, .. } | What::Released { hold, .. } => Some(*hold),
+    match &entries.get(number as usize)?.what {
+        What::Hold(hold) => Some(*hold),
         _ => None,
     }
 }
 
-// The number of the first entry that answers the hold.
+/// The settlement under a number.
+pub(crate) fn ask_at(entries: &[Entry], number: u32) -> Option<Ask>
+    ensures { result ≡ ask_at entries.now number }
+{
+    match &entries.get(number as usize)?.what {
+        What::Asked(ask) => Some(*ask),
+        _ => None,
+    }
+}
+
+/// The number of the first entry that answers the hold.
 pub(crate) fn first_answer(entries: &[Entry], hold: u32) -> Option<u32>
     requires { length entries.now ≤ 2 ^ 32 }
     ensures { result ≡ answer_of entries.now hold }
 {
     for (number, entry) in entries.iter().enumerate() {
-        if answered(&entry.what) == Some(hold) {
+        if entry.what.answered() == Some(hold) {
             return Some(number as u32);
         }
     }

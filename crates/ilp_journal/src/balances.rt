@@ -1,12 +1,12 @@
 //! What entries do to balances.
 
 ghost use Rattle.std.specs.Prelude.{◌≡◌, ◌^◌, ◌≤◌, pos, ◌+ℤ◌, ◌≤ℤ◌, length};
-ghost use Rattle.ilp_journal.specs.Journal.{hold_at, ask_at};
 ghost use Rattle.ilp_journal.specs.Balance.{rise, fall, balance};
 
-use crate::entry::{Ask, Entry, Hold, What};
+use crate::answers::{ask_at, hold_at};
+use crate::entry::{Entry, What};
 
-// What the connector owes the peer.
+/// What the connector owes the peer.
 #[tactic(auto, unfolding(crate::specs::Balance::balance))]
 pub(crate) fn owed(entries: &[Entry], peer: u32) -> i128
     requires { length entries.now ≤ 2 ^ 32 }
@@ -29,11 +29,11 @@ fn rise(entries: &[Entry], peer: u32, what: &What) -> u64
 {
     match what {
         What::Fulfilled { hold, .. } => match hold_at(entries, *hold) {
-            Some(held) if held.to == peer => held.out,
+            Some(hold) if hold.to == peer => hold.out,
             _ => 0,
         },
         What::Released { hold, .. } => match hold_at(entries, *hold) {
-            Some(held) if held.from == peer => held.amount,
+            Some(hold) if hold.from == peer => hold.amount,
             _ => 0,
         },
         What::Credited(credited) if credited.peer == peer => credited.credited,
@@ -53,25 +53,5 @@ fn fall(peer: u32, what: &What) -> u64
         What::Hold(hold) if hold.from == peer => hold.amount,
         What::Asked(ask) if ask.peer == peer => ask.amount,
         _ => 0,
-    }
-}
-
-// The hold under a number.
-fn hold_at(entries: &[Entry], number: u32) -> Option<Hold>
-    ensures { result ≡ hold_at entries.now number }
-{
-    match &entries.get(number as usize)?.what {
-        What::Hold(hold) => Some(*hold),
-        _ => None,
-    }
-}
-
-// The settlement under a number.
-fn ask_at(entries: &[Entry], number: u32) -> Option<Ask>
-    ensures { result ≡ ask_at entries.now number }
-{
-    match &entries.get(number as usize)?.what {
-        What::Asked(ask) => Some(*ask),
-        _ => None,
     }
 }

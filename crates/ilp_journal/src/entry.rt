@@ -1,7 +1,10 @@
 //! What a journal consists of. Entries are named by their numbers, and peers by their places in
 //! the configuration.
 
-use ilp_oer::Octets;
+ghost use Rattle.std.specs.Prelude.{◌≡◌};
+ghost use Rattle.ilp_journal.specs.Journal.{answered, fulfilled, released, closed};
+
+use crate::key::Key;
 
 /// What was booked at one moment. Its number is its place in the journal, from 0.
 #[derive(Drop)]
@@ -10,6 +13,7 @@ pub struct Entry {
     pub moment: i64,
     /// The part of the connector that booked it.
     pub actor: u32,
+    /// What happened.
     pub what: What,
 }
 
@@ -31,6 +35,48 @@ pub enum What {
     Confirmed { ask: u32 },
     /// An asked settlement was refused: the peer gets the amount back.
     Undone { ask: u32 },
+}
+
+impl What {
+    /// The number of the hold that it answers: fulfills or releases.
+    pub fn answered(&self) -> Option<u32>
+        ensures { result ≡ answered self.now }
+    {
+        match self {
+            What::Fulfilled { hold, .. } | What::Released { hold, .. } => Some(*hold),
+            _ => None,
+        }
+    }
+
+    /// The number of the hold that it fulfills.
+    pub fn fulfilled(&self) -> Option<u32>
+        ensures { result ≡ fulfilled self.now }
+    {
+        match self {
+            What::Fulfilled { hold, .. } => Some(*hold),
+            _ => None,
+        }
+    }
+
+    /// The number of the hold that it releases.
+    pub fn released(&self) -> Option<u32>
+        ensures { result ≡ released self.now }
+    {
+        match self {
+            What::Released { hold, .. } => Some(*hold),
+            _ => None,
+        }
+    }
+
+    /// The number of the settlement that it closes: confirms or undoes.
+    pub fn closed(&self) -> Option<u32>
+        ensures { result ≡ closed self.now }
+    {
+        match self {
+            What::Confirmed { ask } | What::Undone { ask } => Some(*ask),
+            _ => None,
+        }
+    }
 }
 
 /// An amount held against its sender's balance, until an answer or the deadline (RFC 0027).
@@ -55,11 +101,13 @@ pub struct Hold {
 /// A settlement that came from a peer.
 #[derive(Drop)]
 pub struct Credited {
+    /// The peer that settled.
     pub peer: u32,
     /// What the peer's settlement engine named it by, so that it is credited once.
-    pub key: Octets,
+    pub key: Key,
     /// The quantity as it was told: this times 10 to the power of minus `scale`.
     pub named: u128,
+    /// How many decimal places of `named` stand behind the point.
     pub scale: u8,
     /// What the balance rises by, in units of the peer's asset.
     pub credited: u64,
@@ -68,8 +116,9 @@ pub struct Credited {
 /// A settlement that is to go to a peer.
 #[derive(Clone, Copy, Debug, PartialEq, Eq)]
 pub struct Ask {
+    /// The peer that is to be paid.
     pub peer: u32,
-    /// In units of the peer's asset.
+    /// What it is to be paid, in units of the peer's asset.
     pub amount: u64,
 }
 

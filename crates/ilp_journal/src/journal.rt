@@ -3,12 +3,12 @@
 ghost use Rattle.std.specs.Prelude.{◌≡◌, ◌+◌, ◌^◌, ◌<◌, ◌≤◌, pos, ◌+ℤ◌, ◌≤ℤ◌, [], ◌∷◌, ◌++◌, ◌↔◌, length, IsTrue, IsOk, IfOk, OnOk, OnErr, slice_get};
 ghost use Rattle.std.specs.Option.{option_copied};
 ghost use Rattle.ilp_journal.specs.Booked.{Booked};
-ghost use Rattle.ilp_journal.specs.Journal.{answer_of};
+ghost use Rattle.ilp_journal.specs.Journal.{answer_of, hold_at, ask_at};
 ghost use Rattle.ilp_journal.specs.Balance.{balance};
 
-use crate::answers::first_answer;
+use crate::answers::{ask_at, first_answer, hold_at};
 use crate::balances::owed;
-use crate::entry::Entry;
+use crate::entry::{Ask, Entry, Hold};
 use std::alloc::{AllocError, Allocator, Global};
 use std::marker::Model;
 
@@ -36,10 +36,9 @@ impl<A: Allocator> Model for Journal<A> {
 }
 
 impl<A: Allocator> Journal<A> {
-    /// A journal with no entry, for at most `limit` of them. It is refused only for want of
-    /// memory, and takes none so far.
+    /// A journal with no entry, for at most `limit` of them. `AllocError` tells that memory is
+    /// short.
     pub fn new(alloc: A, limit: u32) -> Result<Journal<A>, AllocError>
-        ensures ok { IsOk result }
         ensures empty { IfOk result (λ j. j.entries ≡ []) }
         ensures limit { IfOk result (λ j. j.limit ≡ limit) }
     {
@@ -57,6 +56,7 @@ impl<A: Allocator> Journal<A> {
         self.entries.len() as u32
     }
 
+    /// Whether there is no entry yet.
     pub fn is_empty(&self) -> bool
         ensures { IsTrue result ↔ (self.now.entries ≡ []) }
     {
@@ -82,6 +82,21 @@ impl<A: Allocator> Journal<A> {
         ensures { option_copied result ≡ slice_get self.now.entries number }
     {
         self.entries.get(number as usize)
+    }
+
+    /// The hold under this number: `None` where the entry is of another kind, or there is none.
+    pub fn hold(&self, number: u32) -> Option<Hold>
+        ensures { result ≡ hold_at self.now.entries number }
+    {
+        hold_at(&self.entries, number)
+    }
+
+    /// The asked settlement under this number: `None` where the entry is of another kind, or there
+    /// is none.
+    pub fn ask(&self, number: u32) -> Option<Ask>
+        ensures { result ≡ ask_at self.now.entries number }
+    {
+        ask_at(&self.entries, number)
     }
 
     /// Makes room for `additional` more entries. `AllocError` tells that memory is short.

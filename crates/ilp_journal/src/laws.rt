@@ -1,11 +1,11 @@
 //! What holds of every journal. These functions do nothing: their contracts are the laws.
 
-ghost use Rattle.std.specs.Prelude.{◌≡◌, ℕ, ◌+◌, ◌<◌, ◌≤◌, pos, ◌+ℤ◌, ◌-ℤ◌, List, [], ◌∷◌, ◌++◌, length, Some, None, IsSome, if◌then◌else◌, nat_le};
+ghost use Rattle.std.specs.Prelude.{◌≡◌, ℕ, ◌+◌, ◌<◌, ◌≤◌, pos, ◌+ℤ◌, ◌-ℤ◌, List, [], ◌∷◌, ◌++◌, ◌↔◌, ◌&&◌, length, Some, None, IsSome, is_some, if◌then◌else◌, nat_le};
 ghost use Rattle.ilp_journal.specs.declared.entry.Entry.{Entry};
 ghost use Rattle.ilp_journal.specs.Places.{Each};
-ghost use Rattle.ilp_journal.specs.Journal.{Entries, Answers, AnswersOnce, ClosesOnce, answer_of, answered, fulfilled, released, hold_at, of_hold, open_count, opening, closing};
+ghost use Rattle.ilp_journal.specs.Journal.{Entries, Answers, Closes, AnswersOnce, ClosesOnce, answer_of, answered, fulfilled, released, closed, hold_at, ask_at, of_hold, of_ask, open_count, opening, closing, sent_by, paid_to, open_holds, open_asks, IsBase, fulfilled_since};
 ghost use Rattle.ilp_journal.specs.Balance.{balance, rise, fall};
-ghost use Rattle.ilp_journal.specs.TrialBalance.{IsBalanced, amount_in, fee_in, amount_out, held, fees, bought, sold, settled, settled_in, settled_out, total_in, total_out, of_named, since};
+ghost use Rattle.ilp_journal.specs.TrialBalance.{IsBalanced, amount_in, fee_in, amount_out, held, fees, bought, sold, settled, settled_in, settled_out, total_in, total_out, of_named, of_named_ask, since};
 ghost use Rattle.ilp_journal.specs.Rows.{FulfilledRow, ReleasedRow, SettledRow, UnnamedRow, AnsweredRow, MomentRow, ExchangedRow, EachKindRow, OddBooksRow, TotalsRow};
 
 /// Where each answer and each closing names an earlier entry once, one more entry moves a balance
@@ -22,6 +22,34 @@ pub fn open_counts_grow()
     ensures { (j : Entries) (e : Entry)
         → Each AnswersOnce j → Each ClosesOnce j → AnswersOnce j e → ClosesOnce j e
         → open_count (j ++ e ∷ []) + closing e.what ≡ open_count j + opening e.what }
+{}
+
+/// Under the same rules an open hold counts for its sender, and an open settlement for its peer,
+/// from the entry that opens it to the one that ends it.
+pub fn open_ones_grow()
+    ensures holds { (j : Entries) (e : Entry) (peer : ℕ) → Each AnswersOnce j → AnswersOnce j e
+        → open_holds (j ++ e ∷ []) peer + of_named j (sent_by peer) (answered e.what)
+        ≡ open_holds j peer + of_hold (sent_by peer) e.what }
+    ensures asks { (j : Entries) (e : Entry) (peer : ℕ) → Each ClosesOnce j → ClosesOnce j e
+        → open_asks (j ++ e ∷ []) peer + of_named_ask j (paid_to peer) (closed e.what)
+        ≡ open_asks j peer + of_ask (paid_to peer) e.what }
+{}
+
+/// An entry that fulfills a hold counts among those since a place, if it stands there or later.
+pub fn fulfilled_counts_grow()
+    ensures { (base : ℕ) (j : Entries) (e : Entry)
+        → fulfilled_since base (j ++ e ∷ []) ≡ fulfilled_since base j
+        + (if nat_le base (length j) && is_some (fulfilled e.what) then 1 else 0) }
+{}
+
+/// A place at which no hold is open stays one, whatever is added. A hold stands there or later just
+/// where its answer does: so what counts since the place is the same by the holds and by their
+/// answers.
+pub fn bases_stay()
+    ensures first { (j : Entries) → IsBase j 0 }
+    ensures kept { (j : Entries) (e : Entry) (base : ℕ) → IsBase j base → IsBase (j ++ e ∷ []) base }
+    ensures sides { (j : Entries) (base n k : ℕ)
+        → Each AnswersOnce j → IsBase j base → Answers j k n → (base ≤ n) ↔ (base ≤ k) }
 {}
 
 /// The trial balance: where each answer names an earlier hold that had none, the balances of an
@@ -89,6 +117,14 @@ pub fn single_answers()
         → Each AnswersOnce j → Answers j k n → Answers j m n → k ≡ m }
     ensures held { (j : Entries) (n k : ℕ)
         → Each AnswersOnce j → Answers j k n → IsSome (hold_at j n) × (n < k) }
+{}
+
+/// Where each closing names an earlier settlement that was open, no two name the same one.
+pub fn single_closings()
+    ensures single { (j : Entries) (n k m : ℕ)
+        → Each ClosesOnce j → Closes j k n → Closes j m n → k ≡ m }
+    ensures asked { (j : Entries) (n k : ℕ)
+        → Each ClosesOnce j → Closes j k n → IsSome (ask_at j n) × (n < k) }
 {}
 
 /// Worked journals, and what they come to.

@@ -5,10 +5,12 @@ mod answers;
 mod balances;
 mod entry;
 mod journal;
+mod key;
 pub mod laws;
 
 pub use entry::{Ask, Cause, Credited, Entry, Hold, What};
 pub use journal::Journal;
+pub use key::Key;
 
 #[cfg(test)]
 mod tests;

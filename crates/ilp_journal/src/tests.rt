@@ -1,6 +1,4 @@
 use super::*;
-use ilp_oer::Octets;
-use std::alloc::Global;
 use std::process::Abort;
 use std::test::Fail;
 
@@ -27,16 +25,17 @@ fn released(hold: u32, cause: Cause) -> What {
     What::Released { hold, cause }
 }
 
-fn credited(alloc: Global, peer: u32, credited: u64) -> Result<What, Fail> {
-    let mut key = Octets::new(alloc);
-    key.append(b"k")?;
-    Ok(What::Credited(Credited {
+fn credited(rt: &impl Abort, peer: u32, credited: u64) -> What {
+    let Some(key) = Key::new(b"k") else {
+        panic!(rt; "no key");
+    };
+    What::Credited(Credited {
         peer,
         key,
         named: u128::from(credited),
         scale: 2,
         credited,
-    }))
+    })
 }
 
 fn push(rt: &impl Abort, journal: &mut Journal, what: What) {
@@ -57,7 +56,7 @@ fn each_kind_moves_balances(rt: HostRuntime) -> Result<(), Fail> {
         (hold(0, 1, 1000, 13, 987), [-1000, 0]),
         (hold(1, 0, 400, 4, 132), [-1000, -400]),
         (
-            credited(rt.alloc(), 1, u64::MAX)?,
+            credited(&rt, 1, u64::MAX),
             [-1000, 18446744073709551215],
         ),
         (fulfilled(0), [-1000, 18446744073709552202]),
@@ -79,7 +78,7 @@ fn each_kind_moves_balances(rt: HostRuntime) -> Result<(), Fail> {
         ),
         (What::Confirmed { ask: 7 }, [-1000, 18446744073709552552]),
         (
-            credited(rt.alloc(), 1, u64::MAX)?,
+            credited(&rt, 1, u64::MAX),
             [-1000, 36893488147419104167],
         ),
         (released(4, Cause::Late), [-1000, 36893488147419104167]),
@@ -135,4 +134,16 @@ fn room_is_used_up(rt: HostRuntime) -> Result<(), Fail> {
     assert_eq!(rt; [journal.len(), journal.limit()], [1, 2]);
     assert!(rt; !journal.is_empty());
     Ok(())
+}
+
+#[test]
+fn a_key_has_1_to_128_octets(rt: HostRuntime) {
+    let octets = [b'k'; 129];
+    for (len, is_key) in [(0, false), (1, true), (128, true), (129, false)] {
+        let key = Key::new(&octets[..len]);
+        assert_eq!(rt; key.is_some(), is_key);
+        if let Some(key) = key {
+            assert_eq!(rt; key.as_slice(), &octets[..len]);
+        }
+    }
 }
