@@ -3,7 +3,6 @@ use Rattle.std.proofs.Common.{◌≡◌, ℕ, suc, ◌+◌, ℤ, Bool, true, fal
 use Rattle.std.specs.Prelude.{Result, Ok, Err, ◌≤ℤ◌, ◌<ℤ◌, int_le, int_lt, ◌↔◌, ◌≢◌, option_map, option_and_then, IsSome, IsNone, IfSome}
 use Rattle.std.proofs.lemmas.Int.{ints}
 use Rattle.ilp_order.specs.Refusals.{◌>>=◌, refuse_if}
-use Rattle.ilp_accounts.specs.Configuration.{Configuration}
 use Rattle.ilp_journal.specs.declared.entry.Entry.{Entry}
 use Rattle.ilp_journal.specs.declared.entry.What.TheVariants as what
 use Rattle.ilp_journal.specs.declared.entry.Cause.{Cause}
@@ -12,14 +11,14 @@ use Rattle.ilp_journal.specs.declared.entry.Hold.{Hold}
 use Rattle.ilp_journal.specs.Journal.{Entries, AnswersOnce, answered, hold_at, as_hold, answer_of, is_unanswered, open_hold_at}
 use Rattle.ilp_book.specs.declared.calls.PeerReply.{PeerReply}
 use Rattle.ilp_book.specs.declared.calls.PeerReply.TheVariants as peer_reply
-use Rattle.ilp_book.specs.Terms.{moment_at, meets}
+use Rattle.ilp_terms.specs.Condition.{meets}
+use Rattle.ilp_book.specs.Book.{PlainBook, By, moment_at, entry_by, with_entry, pushed}
 use Rattle.ilp_book.specs.Open.{earlier, numbered_hold, earliest_from, earliest}
 use Rattle.ilp_book.specs.Lawful.{IsLawful, IsOutcome}
-use Rattle.ilp_book.specs.Made.{appended}
-use Rattle.ilp_book.specs.AnswerStep.{preimage_of, verdict, answer_entry, answer_told, answer_step, due, expire_told, expire_step}
+use Rattle.ilp_book.specs.AnswerStep.{preimage_of, verdict, ending, answer_booked, answer_step, due, expire_booked, expire_step}
 use Rattle.ilp_book.proofs.LawfulGrowth.{Admits, lawful_push, limits_now}
 use Rattle.ilp_book.proofs.Refused.{chosen, is_none_at, is_some_at, some_same}
-use Rattle.ilp_book.proofs.InTime.{in_time_at, calm}
+use Rattle.ilp_book.proofs.InTime.{in_time, calm}
 
 -- ---- verdicts
 
@@ -34,19 +33,19 @@ verdict_tests : (late : Bool) (reply : PeerReply) (good : List ℕ → Bool) (v 
     → (refuse_if late cause.Late >>= λ _. preimage_of reply >>= λ preimage. refuse_if (not (good preimage)) cause.WrongPreimage >>= λ _. Ok preimage) ≡ v
     → Tells late good v
 verdict_tests true reply good v e = subst (Tells true good) e refl
-verdict_tests false (peer_reply.Fulfil preimage) good v e = by (good preimage) refl e
+verdict_tests false (peer_reply.Fulfil preimage) good v e = of_test (good preimage) refl e
   where
-    by : (b : Bool) → good preimage ≡ b → (refuse_if (not b) cause.WrongPreimage >>= λ _. Ok preimage) ≡ v → Tells false good v
-    by true g e = subst (Tells false good) e (g, refl)
-    by false g e = subst (Tells false good) e (λ e. cc)
+    of_test : (b : Bool) → good preimage ≡ b → (refuse_if (not b) cause.WrongPreimage >>= λ _. Ok preimage) ≡ v → Tells false good v
+    of_test true g e = subst (Tells false good) e (g, refl)
+    of_test false g e = subst (Tells false good) e (λ e. cc)
 verdict_tests false peer_reply.BadFulfil good v e = subst (Tells false good) e (λ e. cc)
 verdict_tests false (peer_reply.Reject code) good v e = subst (Tells false good) e (λ e. cc)
 verdict_tests false peer_reply.NoReply good v e = subst (Tells false good) e (λ e. cc)
 
 -- what an answer says is what became of its hold
-answer_outcome : (j : Entries) (n : ℕ) (m : ℤ) (h : Hold) (reply : PeerReply) → hold_at j n ≡ Some h → IsOutcome j m (answer_entry n (verdict h m reply))
+answer_outcome : (base : ℕ) (j : Entries) (n : ℕ) (m : ℤ) (h : Hold) (reply : PeerReply) → hold_at j n ≡ Some h → IsOutcome base j m (ending n (verdict h m reply))
 unfolding verdict
-answer_outcome j n m h reply stands = of (verdict h m reply) (verdict_tests (int_le h.deadline m) reply (meets h.condition) (verdict h m reply) refl)
+answer_outcome base j n m h reply stands = of (verdict h m reply) (verdict_tests (int_le h.deadline m) reply (meets h.condition) (verdict h m reply) refl)
   where
     late : (a b : ℤ) → int_le a b ≡ true → a ≤ℤ b
     late a b e = omega (arith, ints)
@@ -61,7 +60,7 @@ answer_outcome j n m h reply stands = of (verdict h m reply) (verdict_tests (int
     released true c e t = (λ _. late h.deadline m e, λ _. t)
     released false c e t = (λ is. absurd (t is), λ is. absurd (never h.deadline m e is))
 
-    of : (v : Result (List ℕ) Cause) → Tells (int_le h.deadline m) (meets h.condition) v → IsOutcome j m (answer_entry n v)
+    of : (v : Result (List ℕ) Cause) → Tells (int_le h.deadline m) (meets h.condition) v → IsOutcome base j m (ending n v)
     of (Ok preimage) t = rw stands (t.0, early h.deadline m t.1)
     of (Err c) t = rw stands (released (int_le h.deadline m) c refl t)
 
@@ -77,35 +76,48 @@ answers_open j n h e stands unanswered names =
     subst (λ o. IfSome o (λ k. IsSome (hold_at j k) × IsNone (answer_of j k))) (sym names)
     (is_some_at (hold_at j n) h stands, is_none_at (answer_of j n) unanswered)
 
-answer_admitted : (C : Configuration) (base : ℕ) (j : Entries) (actor n : ℕ) (now : ℤ) (h : Hold) (v : Result (List ℕ) Cause) → IsLawful C base j → hold_at j n ≡ Some h → is_unanswered j n ≡ true
-    → IsOutcome j (moment_at j now) (answer_entry n v) → Admits C base j (record { moment = moment_at j now; actor = actor; what = answer_entry n v })
-answer_admitted C base j actor n now h (Ok preimage) lawful stands unanswered outcome =
-    let e : Entry = record { moment = moment_at j now; actor = actor; what = what.Fulfilled n preimage } in
-    let r = (limits_now C base j lawful).room in
-    calm C base j e lawful (answers_open j n h e stands unanswered refl) tt outcome tt tt tt
-    (in_time_at j now actor (what.Fulfilled n preimage) lawful.moments) (λ _. refl) (λ _. refl) (omega (arith, r))
-answer_admitted C base j actor n now h (Err c) lawful stands unanswered outcome =
-    let e : Entry = record { moment = moment_at j now; actor = actor; what = what.Released n c } in
-    let r = (limits_now C base j lawful).room in
-    calm C base j e lawful (answers_open j n h e stands unanswered refl) tt outcome tt tt tt
-    (in_time_at j now actor (what.Released n c) lawful.moments) (λ _. refl) (λ _. refl) (omega (arith, r))
+-- the end of a hold that stands unanswered is admitted
+answer_admitted : (book : PlainBook) (caller : By) (n : ℕ) (h : Hold) (v : Result (List ℕ) Cause) → IsLawful book → hold_at book.entries n ≡ Some h → is_unanswered book.entries n ≡ true
+    → IsOutcome book.base book.entries (moment_at book.entries caller.now) (ending n v) → Admits book (entry_by book caller (ending n v))
+answer_admitted book caller n h (Ok preimage) lawful stands unanswered outcome =
+    let e : Entry = entry_by book caller (what.Fulfilled n preimage) in
+    let r = (limits_now book lawful).room in
+    calm book e lawful (answers_open book.entries n h e stands unanswered refl) tt outcome tt tt tt
+    (in_time book caller (what.Fulfilled n preimage) lawful) (λ _. refl) (λ _. refl) (omega (arith, r))
+answer_admitted book caller n h (Err c) lawful stands unanswered outcome =
+    let e : Entry = entry_by book caller (what.Released n c) in
+    let r = (limits_now book lawful).room in
+    calm book e lawful (answers_open book.entries n h e stands unanswered refl) tt outcome tt tt tt
+    (in_time book caller (what.Released n c) lawful) (λ _. refl) (λ _. refl) (omega (arith, r))
 
-pub answer_lawful : (C : Configuration) (base : ℕ) (j : Entries) (actor n : ℕ) (reply : PeerReply) (now : ℤ) → IsLawful C base j
-    → IsLawful C base (appended j (answer_step j actor n reply now).entry)
+-- the entry of an answer keeps the book lawful
+pub answer_keeps : (book : PlainBook) (caller : By) (n : ℕ) (reply : PeerReply) (h : Hold) → IsLawful book → open_hold_at book.entries n ≡ Some h
+    → IsLawful (pushed book (entry_by book caller (ending n (verdict h (moment_at book.entries caller.now) reply))))
+answer_keeps book caller n reply h lawful is =
+    let open_hold : (is_unanswered book.entries n ≡ true) × (hold_at book.entries n ≡ Some h) = open_stands book.entries n h is in
+    let v = verdict h (moment_at book.entries caller.now) reply in
+    lawful_push book _ lawful (answer_admitted book caller n h v lawful open_hold.1 open_hold.0 (answer_outcome book.base book.entries n (moment_at book.entries caller.now) h reply open_hold.1))
+
+-- the same of a moment and a verdict that are known by equations
+pub answer_keeps_at : (book : PlainBook) (caller : By) (n : ℕ) (reply : PeerReply) (h : Hold) (m : ℤ) (v : Result (List ℕ) Cause) → IsLawful book → open_hold_at book.entries n ≡ Some h
+    → m ≡ moment_at book.entries caller.now → v ≡ verdict h m reply → IsLawful (pushed book (record { moment = m; actor = caller.actor; what = ending n v }))
+answer_keeps_at book caller n reply h m v lawful is at_moment said =
+    let Keeps : ℤ → Result (List ℕ) Cause → Type 0 = λ t r. IsLawful (pushed book (record { moment = t; actor = caller.actor; what = ending n r })) in
+    subst (Keeps m) (sym said) (subst (λ t. Keeps t (verdict h t reply)) (sym at_moment) (answer_keeps book caller n reply h lawful is))
+
+pub answer_lawful : (book : PlainBook) (caller : By) (n : ℕ) (reply : PeerReply) → IsLawful book → IsLawful (with_entry book (answer_step book caller n reply).entry)
 unfolding answer_step
-answer_lawful C base j actor n reply now lawful = by (open_hold_at j n) (λ h e. open_stands j n h e)
+answer_lawful book caller n reply lawful = of (open_hold_at book.entries n) (λ h. answer_keeps book caller n reply h lawful)
   where
-    by : (o : Option Hold) → ((h : Hold) → o ≡ Some h → (is_unanswered j n ≡ true) × (hold_at j n ≡ Some h))
-        → IsLawful C base (appended j (answer_told j actor n (moment_at j now) reply o).entry)
-    by None is = lawful
-    by (Some h) is =
-        let open_hold : (is_unanswered j n ≡ true) × (hold_at j n ≡ Some h) = is h refl in
-        lawful_push C base j _ lawful (answer_admitted C base j actor n now h (verdict h (moment_at j now) reply) lawful open_hold.1 open_hold.0 (answer_outcome j n (moment_at j now) h reply open_hold.1))
+    of : (o : Option Hold) → ((h : Hold) → o ≡ Some h → IsLawful (pushed book (entry_by book caller (ending n (verdict h (moment_at book.entries caller.now) reply)))))
+        → IsLawful (with_entry book (answer_booked book caller n reply o).entry)
+    of None keeps = lawful
+    of (Some h) keeps = keeps h refl
 
 -- ---- expiry
 
 -- the earliest hold stands at its place, and passes the test
-earliest_stands : (test : ℕ → Bool) (k : ℕ) (es : Entries) (x : ℕ × Hold) → earliest_from test k es ≡ Some x → (i : ℕ) × (x.0 ≡ k + i) × (test x.0 ≡ true) × (hold_at es i ≡ Some x.1)
+pub earliest_stands : (test : ℕ → Bool) (k : ℕ) (es : Entries) (x : ℕ × Hold) → earliest_from test k es ≡ Some x → (i : ℕ) × (x.0 ≡ k + i) × (test x.0 ≡ true) × (hold_at es i ≡ Some x.1)
 earliest_stands test k [] x e = absurd cc
 earliest_stands test k (d ∷ es) x e =
     either _ (earliest_from test (k + 1) es) here (λ e. let r = earliest_stands test (k + 1) es x e in (suc r.0, r.1 ∙ omega arith, r.2, r.3)) e
@@ -121,37 +133,48 @@ earliest_stands test k (d ∷ es) x e =
         pick false e = f e
 
     here : cond (test k) (numbered_hold k d.what) None ≡ Some x → (i : ℕ) × (x.0 ≡ k + i) × (test x.0 ≡ true) × (hold_at (d ∷ es) i ≡ Some x.1)
-    here e = by (as_hold d.what) refl (chosen (test k) (numbered_hold k d.what) x e)
+    here e = of_test (as_hold d.what) refl (chosen (test k) (numbered_hold k d.what) x e)
       where
-        by : (o : Option Hold) → as_hold d.what ≡ o → (test k ≡ true) × (option_map (λ (h : Hold). (k, h)) o ≡ Some x) → (i : ℕ) × (x.0 ≡ k + i) × (test x.0 ≡ true) × (hold_at (d ∷ es) i ≡ Some x.1)
-        by None is t = absurd (let f : None ≡ Some x = t.1 in cc)
-        by (Some h) is t =
+        of_test : (o : Option Hold) → as_hold d.what ≡ o → (test k ≡ true) × (option_map (λ (h : Hold). (k, h)) o ≡ Some x) → (i : ℕ) × (x.0 ≡ k + i) × (test x.0 ≡ true) × (hold_at (d ∷ es) i ≡ Some x.1)
+        of_test None is t = absurd (let f : None ≡ Some x = t.1 in cc)
+        of_test (Some h) is t =
             let same : ◌≡◌ {A = ℕ × Hold} (k, h) x = some_same (k, h) x t.1 in
             (0, sym (ap (λ (y : ℕ × Hold). y.0) same) ∙ omega arith, subst (λ (y : ℕ × Hold). test y.0 ≡ true) same t.0, is ∙ ap (λ (y : ℕ × Hold). Some y.1) same)
 
 -- what is due is an open hold whose deadline has come
 pub due_facts : (j : Entries) (m : ℤ) (n : ℕ) → due j m ≡ Some n → (h : Hold) × (hold_at j n ≡ Some h) × (is_unanswered j n ≡ true) × (h.deadline ≤ℤ m)
-due_facts j m n e = by (earliest j) refl e
+due_facts j m n e = of_test (earliest j) refl e
   where
     late : (a b : ℤ) → int_le a b ≡ true → a ≤ℤ b
     late a b e = omega (arith, ints)
 
-    by : (o : Option (ℕ × Hold)) → earliest j ≡ o → option_and_then (λ (first : ℕ × Hold). cond (int_le first.1.deadline m) (Some first.0) None) o ≡ Some n → (h : Hold) × (hold_at j n ≡ Some h) × (is_unanswered j n ≡ true) × (h.deadline ≤ℤ m)
-    by None is e = absurd cc
-    by (Some first) is e =
+    of_test : (o : Option (ℕ × Hold)) → earliest j ≡ o → option_and_then (λ (first : ℕ × Hold). cond (int_le first.1.deadline m) (Some first.0) None) o ≡ Some n → (h : Hold) × (hold_at j n ≡ Some h) × (is_unanswered j n ≡ true) × (h.deadline ≤ℤ m)
+    of_test None is e = absurd cc
+    of_test (Some first) is e =
         let t : (int_le first.1.deadline m ≡ true) × (◌≡◌ {A = Option ℕ} (Some first.0) (Some n)) = chosen (int_le first.1.deadline m) (Some first.0) n e in
         let s : (i : ℕ) × (first.0 ≡ 0 + i) × (is_unanswered j first.0 ≡ true) × (hold_at j i ≡ Some first.1) = earliest_stands (is_unanswered j) 0 j first is in
         let number : first.0 ≡ n = some_same first.0 n t.1 in
         let place : s.0 ≡ n = omega (arith, s.1, number) in
         (first.1, subst (λ k. hold_at j k ≡ Some first.1) place s.3, subst (λ k. is_unanswered j k ≡ true) number s.2, late first.1.deadline m t.0)
 
-pub expire_lawful : (C : Configuration) (base : ℕ) (j : Entries) (actor : ℕ) (now : ℤ) → IsLawful C base j → IsLawful C base (appended j (expire_step j actor now).entry)
+-- the entry of a sweep keeps the book lawful
+pub expire_keeps : (book : PlainBook) (caller : By) (n : ℕ) → IsLawful book → due book.entries (moment_at book.entries caller.now) ≡ Some n
+    → IsLawful (pushed book (entry_by book caller (what.Released n cause.Late)))
+expire_keeps book caller n lawful is =
+    let facts = due_facts book.entries (moment_at book.entries caller.now) n is in
+    lawful_push book _ lawful (answer_admitted book caller n facts.0 (Err cause.Late) lawful facts.1 facts.2 (rw facts.1 (λ _. facts.3, λ _. refl)))
+
+-- the same of a moment that is known by an equation
+pub expire_keeps_at : (book : PlainBook) (caller : By) (n : ℕ) (m : ℤ) → IsLawful book → m ≡ moment_at book.entries caller.now → due book.entries m ≡ Some n
+    → IsLawful (pushed book (record { moment = m; actor = caller.actor; what = what.Released n cause.Late }))
+expire_keeps_at book caller n m lawful at_moment is =
+    subst (λ t. IsLawful (pushed book (record { moment = t; actor = caller.actor; what = what.Released n cause.Late }))) (sym at_moment)
+    (expire_keeps book caller n lawful (subst (λ t. due book.entries t ≡ Some n) at_moment is))
+
+pub expire_lawful : (book : PlainBook) (caller : By) → IsLawful book → IsLawful (with_entry book (expire_step book caller).entry)
 unfolding expire_step
-expire_lawful C base j actor now lawful = by (due j (moment_at j now)) (λ n e. due_facts j (moment_at j now) n e)
+expire_lawful book caller lawful = of (due book.entries (moment_at book.entries caller.now)) (λ n. expire_keeps book caller n lawful)
   where
-    by : (o : Option ℕ) → ((n : ℕ) → o ≡ Some n → (h : Hold) × (hold_at j n ≡ Some h) × (is_unanswered j n ≡ true) × (h.deadline ≤ℤ moment_at j now))
-        → IsLawful C base (appended j (expire_told actor (moment_at j now) o).entry)
-    by None is = lawful
-    by (Some n) is =
-        let facts = is n refl in
-        lawful_push C base j _ lawful (answer_admitted C base j actor n now facts.0 (Err cause.Late) lawful facts.1 facts.2 (rw facts.1 (λ _. facts.3, λ _. refl)))
+    of : (o : Option ℕ) → ((n : ℕ) → o ≡ Some n → IsLawful (pushed book (entry_by book caller (what.Released n cause.Late)))) → IsLawful (with_entry book (expire_booked book caller o).entry)
+    of None keeps = lawful
+    of (Some n) keeps = keeps n refl

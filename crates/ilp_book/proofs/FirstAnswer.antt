@@ -10,13 +10,12 @@ use Rattle.ilp_journal.specs.declared.entry.Cause.TheVariants as cause
 use Rattle.ilp_journal.specs.Journal.{Entries, answered, answer_of, is_number, is_unanswered, hold_at, open_hold_at}
 use Rattle.ilp_journal.proofs.Naming.{answer_of-push, answer_of-append}
 use Rattle.ilp_book.specs.declared.calls.PeerReply.{PeerReply}
-use Rattle.ilp_book.specs.Terms.{moment_at}
-use Rattle.ilp_book.specs.Made.{appended}
-use Rattle.ilp_book.specs.AnswerStep.{answer_entry, answer_told, answer_step, due, expire_told, expire_step, verdict, IsOverBy}
+use Rattle.ilp_book.specs.Book.{PlainBook, By, says, moment_at, entry_by, with_entry, pushed}
+use Rattle.ilp_book.specs.AnswerStep.{ending, answer_booked, answer_step, due, expire_booked, expire_step, extended, verdict, IsOverBy}
 use Rattle.ilp_book.proofs.Refused.{some_same, is_none_at, is_some_at}
 use Rattle.ilp_book.proofs.AnswerSteps.{open_stands, due_facts}
 
-names_it : (n : ℕ) (v : Result (List ℕ) Cause) → is_number n (answered (answer_entry n v)) ≡ true
+names_it : (n : ℕ) (v : Result (List ℕ) Cause) → is_number n (answered (ending n v)) ≡ true
 names_it n (Ok preimage) = eq-eqb n n refl
 names_it n (Err c) = eq-eqb n n refl
 
@@ -31,57 +30,58 @@ answered_by j n e unanswered names =
     last (Some k) b none names = cc
 
 -- where a hold has an answer a later one is told of it
-told_of_it : (j : Entries) (actor n k : ℕ) (reply : PeerReply) (m : ℤ) → answer_of j n ≡ Some k → answer_told j actor n m reply (open_hold_at j n) ≡ record { reply = Err (record { closer = Some k }); entry = None }
-told_of_it j actor n k reply m named = by (answer_of j n) named
+told_of_it : (book : PlainBook) (caller : By) (n k : ℕ) (reply : PeerReply) → answer_of book.entries n ≡ Some k
+    → answer_booked book caller n reply (open_hold_at book.entries n) ≡ says (Err (record { closer = Some k }))
+told_of_it book caller n k reply named = of (answer_of book.entries n) named
   where
-    by : (o : Option ℕ) → o ≡ Some k → answer_told j actor n m reply (cond (is_none o) (hold_at j n) None) ≡ record { reply = Err (record { closer = Some k }); entry = None }
-    by None e = absurd cc
-    by (Some l) e = ap (λ c. record { reply = Err (record { closer = c }); entry = None }) named
+    of : (o : Option ℕ) → o ≡ Some k → answer_booked book caller n reply (cond (is_none o) (hold_at book.entries n) None) ≡ says (Err (record { closer = Some k }))
+    of None e = absurd cc
+    of (Some l) e = ap (λ c. says (Err (record { closer = c }))) named
 
--- and no expiry takes it
-not_due : (j : Entries) (actor n k : ℕ) (m : ℤ) → answer_of j n ≡ Some k → (expire_told actor m (due j m)).reply ≡ Some n → ⊥
-not_due j actor n k m named = by (due j m) refl
+-- and no sweep takes it
+not_due : (book : PlainBook) (caller : By) (n k : ℕ) (m : ℤ) → answer_of book.entries n ≡ Some k → (expire_booked book caller (due book.entries m)).reply ≡ Some n → ⊥
+not_due book caller n k m named = of (due book.entries m) refl
   where
     never : (o : Option ℕ) → o ≡ Some k → is_none o ≡ true → ⊥
     never None e none = cc
     never (Some l) e none = cc
 
-    by : (o : Option ℕ) → due j m ≡ o → (expire_told actor m o).reply ≡ Some n → ⊥
-    by None is e = cc
-    by (Some i) is e = never (answer_of j n) named (due_facts j m n (is ∙ e)).2
+    of : (o : Option ℕ) → due book.entries m ≡ o → (expire_booked book caller o).reply ≡ Some n → ⊥
+    of None is e = cc
+    of (Some i) is e = never (answer_of book.entries n) named (due_facts book.entries m n (is ∙ e)).2
 
 -- a hold that has an answer is over
-over : (j : Entries) (n k : ℕ) → answer_of j n ≡ Some k → IsOverBy j n k
+over : (book : PlainBook) (n k : ℕ) → answer_of book.entries n ≡ Some k → IsOverBy book n k
 unfolding answer_step expire_step
-over j n k named = record {
-  answers = λ more actor reply now. told_of_it (j ++ more) actor n k reply (moment_at (j ++ more) now) (stays more);
-  expiries = λ more actor now. not_due (j ++ more) actor n k (moment_at (j ++ more) now) (stays more);
+over book n k named = record {
+  answers = λ more caller reply. told_of_it (extended book more) caller n k reply (stays more);
+  expiries = λ more caller. not_due (extended book more) caller n k (moment_at (book.entries ++ more) caller.now) (stays more);
 }
   where
-    stays : (more : Entries) → answer_of (j ++ more) n ≡ Some k
-    stays more = answer_of-append j more n (is_some_at (answer_of j n) k named) ∙ named
+    stays : (more : Entries) → answer_of (book.entries ++ more) n ≡ Some k
+    stays more = answer_of-append book.entries more n (is_some_at (answer_of book.entries n) k named) ∙ named
 
 -- the first answer of an open hold ends it
-pub first_answer : (j : Entries) (actor n : ℕ) (h : Hold) (reply : PeerReply) (now : ℤ) → open_hold_at j n ≡ Some h
-    → IsOverBy (appended j (answer_step j actor n reply now).entry) n (length j)
+pub first_answer : (book : PlainBook) (caller : By) (n : ℕ) (h : Hold) (reply : PeerReply) → open_hold_at book.entries n ≡ Some h
+    → IsOverBy (with_entry book (answer_step book caller n reply).entry) n (length book.entries)
 unfolding answer_step
-first_answer j actor n h reply now open_hold =
-    let v = verdict h (moment_at j now) reply in
-    let e : Entry = record { moment = moment_at j now; actor = actor; what = answer_entry n v } in
-    subst (λ o. IsOverBy (appended j (answer_told j actor n (moment_at j now) reply o).entry) n (length j)) (sym open_hold)
-    (over (j ++ e ∷ []) n (length j) (answered_by j n e (open_stands j n h open_hold).0 (names_it n v)))
+first_answer book caller n h reply open_hold =
+    let v = verdict h (moment_at book.entries caller.now) reply in
+    let e : Entry = entry_by book caller (ending n v) in
+    subst (λ o. IsOverBy (with_entry book (answer_booked book caller n reply o).entry) n (length book.entries)) (sym open_hold)
+    (over (pushed book e) n (length book.entries) (answered_by book.entries n e (open_stands book.entries n h open_hold).0 (names_it n v)))
 
--- and so does the expiry that takes it
-pub first_expiry : (j : Entries) (actor n : ℕ) (now : ℤ) → (expire_step j actor now).reply ≡ Some n
-    → IsOverBy (appended j (expire_step j actor now).entry) n (length j)
+-- and so does the sweep that takes it
+pub first_expiry : (book : PlainBook) (caller : By) (n : ℕ) → (expire_step book caller).reply ≡ Some n
+    → IsOverBy (with_entry book (expire_step book caller).entry) n (length book.entries)
 unfolding expire_step
-first_expiry j actor n now taken = by (due j (moment_at j now)) (λ i e. due_facts j (moment_at j now) i e) taken
+first_expiry book caller n taken = of (due book.entries (moment_at book.entries caller.now)) (λ i e. due_facts book.entries (moment_at book.entries caller.now) i e) taken
   where
-    by : (o : Option ℕ) → ((i : ℕ) → o ≡ Some i → (h : Hold) × (hold_at j i ≡ Some h) × (is_unanswered j i ≡ true) × (h.deadline ≤ℤ moment_at j now))
-        → (expire_told actor (moment_at j now) o).reply ≡ Some n → IsOverBy (appended j (expire_told actor (moment_at j now) o).entry) n (length j)
-    by None facts e = absurd cc
-    by (Some i) facts e =
+    of : (o : Option ℕ) → ((i : ℕ) → o ≡ Some i → (h : Hold) × (hold_at book.entries i ≡ Some h) × (is_unanswered book.entries i ≡ true) × (h.deadline ≤ℤ moment_at book.entries caller.now))
+        → (expire_booked book caller o).reply ≡ Some n → IsOverBy (with_entry book (expire_booked book caller o).entry) n (length book.entries)
+    of None facts e = absurd cc
+    of (Some i) facts e =
         let same : i ≡ n = some_same i n e in
-        let d : Entry = record { moment = moment_at j now; actor = actor; what = answer_entry i (Err cause.Late) } in
-        subst (λ k. IsOverBy (j ++ d ∷ []) k (length j)) same
-        (over (j ++ d ∷ []) i (length j) (answered_by j i d (facts i refl).2 (names_it i (Err cause.Late))))
+        let d : Entry = entry_by book caller (ending i (Err cause.Late)) in
+        subst (λ k. IsOverBy (pushed book d) k (length book.entries)) same
+        (over (pushed book d) i (length book.entries) (answered_by book.entries i d (facts i refl).2 (names_it i (Err cause.Late))))

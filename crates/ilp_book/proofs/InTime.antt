@@ -3,35 +3,38 @@ use Rattle.std.proofs.Common.{◌≡◌, ℕ, ◌+◌, ◌≤◌, ℤ, pos, ◌+
 use Rattle.std.specs.Prelude.{◌≤ℤ◌}
 use Rattle.std.specs.Int.{int_min, int_max}
 use Rattle.std.proofs.lemmas.Int.{ints, clamps}
-use Rattle.ilp_accounts.specs.Configuration.{Configuration, peer_at}
+use Rattle.ilp_accounts.specs.Configuration.{peer_at}
 use Rattle.ilp_journal.specs.declared.entry.Entry.{Entry}
 use Rattle.ilp_journal.specs.declared.entry.What.{What}
 use Rattle.ilp_journal.specs.declared.entry.Hold.{Hold}
-use Rattle.ilp_journal.specs.Places.{Each}
-use Rattle.ilp_journal.specs.Journal.{Entries, AnswersOnce, ClosesOnce, of_hold, open_count, opening, closing, last_moment}
+use Rattle.ilp_journal.specs.Journal.{AnswersOnce, ClosesOnce, of_hold, open_count, opening, closing, last_moment}
 use Rattle.ilp_journal.specs.Balance.{balance, fall}
 use Rattle.ilp_journal.specs.TrialBalance.{amount_in, amount_out}
 use Rattle.ilp_book.specs.Configured.{peer_assets}
-use Rattle.ilp_book.specs.Terms.{last_of_all, moment_at}
+use Rattle.ilp_terms.specs.Expiry.{last_of_all}
+use Rattle.ilp_book.specs.Book.{PlainBook, By, entry_by}
 use Rattle.ilp_book.specs.Lawful.{IsLawful, IsWithinLimits, HasOutcome, IsGoodHold, IsGoodCredit, IsGoodAsk, IsInTime}
 use Rattle.ilp_book.proofs.LawfulGrowth.{Admits, limits_now, last_in_time}
 
 -- an entry at the moment of a call is in time
-pub in_time_at : (j : Entries) (now : ℤ) (actor : ℕ) (w : What) → Each IsInTime j → IsInTime j (record { moment = moment_at j now; actor = actor; what = w })
-in_time_at j now actor w each =
-    let last : (pos 0 ≤ℤ last_moment j) × (last_moment j ≤ℤ last_of_all) = last_in_time j each in
-    let m = between (last_moment j) now last.0 last.1 in
+pub in_time : (book : PlainBook) (caller : By) (w : What) → IsLawful book → IsInTime book.entries (entry_by book caller w)
+in_time book caller w lawful =
+    let j = book.entries in
+    let last : (pos 0 ≤ℤ last_moment j) × (last_moment j ≤ℤ last_of_all) = last_in_time j lawful.moments in
+    let m = between (last_moment j) caller.now last.0 last.1 in
     record { later = m.0; first = m.1; last = m.2 }
   where
     between : (last now : ℤ) → pos 0 ≤ℤ last → last ≤ℤ last_of_all → let m : ℤ = int_max (int_max (pos 0) (int_min now last_of_all)) last in (last ≤ℤ m) × (pos 0 ≤ℤ m) × (m ≤ℤ last_of_all)
     between last now low high = (omega (arith, ints, clamps), omega (arith, ints, clamps), omega (arith, ints, clamps))
 
 -- an entry that lowers no balance and is no hold is admitted where it keeps its own rules
-pub calm : (C : Configuration) (base : ℕ) (j : Entries) (e : Entry) → IsLawful C base j
-    → AnswersOnce j e → ClosesOnce j e → HasOutcome j e → IsGoodHold C j e → IsGoodCredit C j e → IsGoodAsk C j e → IsInTime j e
-    → ((p : ℕ) → fall p e.what ≡ 0) → ((f : Hold → ℕ) → of_hold f e.what ≡ 0) → length j + 1 + (open_count j + opening e.what) ≤ C.settings.journal + closing e.what → Admits C base j e
-calm C base j e lawful answers closings outcomes holds credits asks moments falls no_hold room =
-    let limits : IsWithinLimits C base j = limits_now C base j lawful in
+pub calm : (book : PlainBook) (e : Entry) → IsLawful book
+    → AnswersOnce book.entries e → ClosesOnce book.entries e → HasOutcome book.base book.entries e → IsGoodHold book.config book.entries e → IsGoodCredit book.config book.entries e
+    → IsGoodAsk book.config book.entries e → IsInTime book.entries e → ((p : ℕ) → fall p e.what ≡ 0) → ((f : Hold → ℕ) → of_hold f e.what ≡ 0)
+    → length book.entries + 1 + (open_count book.entries + opening e.what) ≤ book.config.settings.journal + closing e.what → Admits book e
+calm book e lawful answers closings outcomes holds credits asks moments falls no_hold room =
+    let limits : IsWithinLimits book = limits_now book lawful in
+    let assets = peer_assets book.config in
     record {
       answers = answers;
       closings = closings;
@@ -40,10 +43,10 @@ calm C base j e lawful answers closings outcomes holds credits asks moments fall
       credits = credits;
       asks = asks;
       moments = moments;
-      cover = λ p known. rw (falls p) (same (balance j p) (peer_at C p).least (limits.least p known));
+      cover = λ p known. rw (falls p) (same (balance book.entries p) (peer_at book.config p).least (limits.least p known));
       room = room;
-      totals_in = λ x. omega (arith, no_hold (amount_in (peer_assets C) x), limits.totals_in x);
-      totals_out = λ x. omega (arith, no_hold (amount_out (peer_assets C) x), limits.totals_out x);
+      totals_in = λ x. omega (arith, no_hold (amount_in assets x), limits.totals_in x);
+      totals_out = λ x. omega (arith, no_hold (amount_out assets x), limits.totals_out x);
     }
   where
     same : (b l : ℤ) → l ≤ℤ b → (l +ℤ pos 0) ≤ℤ b

@@ -1,13 +1,15 @@
 -- What a valid configuration says of its peers and routes.
-use Rattle.std.proofs.Common.{◌≡◌, ℕ, ◌<◌, true, List, length, Option, Some, None, ap, sym, ◌∙◌, subst, Contains}
-use Rattle.std.specs.Prelude.{slice_get, option_map, unwrap_or}
+use Rattle.std.proofs.Common.{◌≡◌, ℕ, ◌<◌, ℤ, pos, ◌+ℤ◌, Bool, true, false, cond, List, length, Option, Some, None, ap, sym, refl, ◌∙◌, subst, Contains, arith}
+use Rattle.std.specs.Prelude.{slice_get, option_map, unwrap_or, ◌≤ℤ◌, ◌==◌}
 use Rattle.std.proofs.lemmas.Bool.{eqb-true}
+use Rattle.std.proofs.lemmas.Int.{ints}
 use Rattle.std.proofs.lemmas.List.Elements.{All-contains}
 use Rattle.std.proofs.lemmas.Option.{slice_get-map, slice_get-get_or, get_or_from_slice_get}
 use Rattle.ilp_lookup.specs.Route.{IsRoute}
 use Rattle.ilp_accounts.specs.Configuration.{Configuration, PlainPeer, nobody, peer_at}
 use Rattle.ilp_accounts.specs.Valid.{IsValid, IsPeer, IsRouteTo}
-use Rattle.ilp_journal.specs.Journal.{is_number}
+use Rattle.ilp_journal.specs.Journal.{Entries, is_number}
+use Rattle.ilp_journal.specs.Balance.{balance}
 use Rattle.ilp_journal.specs.TrialBalance.{has_asset}
 use Rattle.ilp_book.specs.Configured.{IsKnown, peer_assets, asset_of}
 
@@ -35,3 +37,15 @@ asset_is C x p e = at (slice_get C.peers p) (sym (ap (is_number x) (slice_get-ma
     at : (o : Option PlainPeer) → is_number x (option_map (λ (q : PlainPeer). q.asset) o) ≡ true → (unwrap_or o nobody).asset ≡ x
     at None e = absurd cc
     at (Some q) e = sym (eqb-true x q.asset e)
+
+-- an amount that leaves its peer's least leaves every peer's
+pub covered : (C : Configuration) (j : Entries) (from amount p : ℕ) → (peer_at C p).least ≤ℤ balance j p → ((peer_at C from).least +ℤ pos amount) ≤ℤ balance j from
+    → ((peer_at C p).least +ℤ pos (cond (from == p) amount 0)) ≤ℤ balance j p
+covered C j from amount p least new = by_test (from == p) (eqb-true from p)
+  where
+    same : (b l : ℤ) → l ≤ℤ b → (l +ℤ pos 0) ≤ℤ b
+    same b l t = omega (arith, ints)
+
+    by_test : (b : Bool) → (b ≡ true → from ≡ p) → ((peer_at C p).least +ℤ pos (cond b amount 0)) ≤ℤ balance j p
+    by_test true is = subst (λ q. ((peer_at C q).least +ℤ pos amount) ≤ℤ balance j q) (is refl) new
+    by_test false is = same (balance j p) (peer_at C p).least least

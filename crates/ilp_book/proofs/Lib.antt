@@ -11,4 +11,5 @@ pub mod Keeping
 pub mod Earliest
 pub mod Answered
 pub mod Prefixes
+pub mod KeptOnce
 pub mod RowProofs

@@ -8,14 +8,13 @@ use Rattle.ilp_journal.specs.declared.entry.What.{What}
 use Rattle.ilp_journal.specs.declared.entry.What.TheVariants as what
 use Rattle.ilp_journal.specs.declared.entry.Hold.{Hold}
 use Rattle.ilp_journal.specs.Places.{EachAfter, Each, sum_from}
-use Rattle.ilp_journal.specs.Journal.{Entries, AnswersOnce, hold_at, as_hold, answer_of, answered, fulfilled, released, of_hold, is_unanswered, is_fulfilled, sum_of_holds}
+use Rattle.ilp_journal.specs.Journal.{Entries, AnswersOnce, hold_at, as_hold, answer_of, answered, fulfilled, released, of_hold, is_unanswered, is_fulfilled, sum_of_holds, sent_by, open_holds}
 use Rattle.ilp_journal.specs.TrialBalance.{amount_in, fee_in, amount_out, is_counted, total_in, total_out, of_named, since}
 use Rattle.ilp_journal.proofs.Naming.{hold_at-append}
 use Rattle.ilp_journal.proofs.BooksGrowth.{unanswered-push, fulfilled-push, total_in-push, total_out-push}
 use Rattle.ilp_book.specs.declared.totals.Total.{Total}
 use Rattle.ilp_book.specs.declared.totals.Total.TheVariants as total
-use Rattle.ilp_book.specs.Open.{sent_by}
-use Rattle.ilp_book.specs.Counted.{part_of, total_of, begun, ended, begun_at, ended_at}
+use Rattle.ilp_book.specs.Walks.{part_of, total_of, begun, ended, begun_at, ended_at}
 
 -- ---- a list as far as a place
 
@@ -181,7 +180,8 @@ sum_from-few f n [] few = omega arith
 sum_from-few f n (e ∷ es) few = omega (arith, few n e, sum_from-few f (n + 1) es few)
 
 -- there are no more open holds of a peer than entries
-pub few_sent : (j : Entries) (peer : ℕ) → sum_of_holds (is_unanswered j) (sent_by peer) j ≤ length j
+pub few_sent : (j : Entries) (peer : ℕ) → open_holds j peer ≤ length j
+unfolding open_holds
 few_sent j peer = sum_from-few _ 0 j (λ k e. passed (is_unanswered j k) (as_hold e.what))
   where
     one : (b : Bool) → cond b 1 0 ≤ 1

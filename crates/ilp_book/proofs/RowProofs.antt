@@ -3,15 +3,15 @@ use Rattle.std.proofs.Common.{◌≡◌, ℕ, List, refl, true, replicate}
 use Rattle.ilp_assets.specs.Quote.{quote}
 use Rattle.ilp_journal.specs.Balance.{balance}
 use Rattle.ilp_journal.specs.TrialBalance.{total_in, total_out}
-use Rattle.ilp_book.specs.Terms.{meets}
-use Rattle.ilp_book.specs.Open.{open_holds}
-use Rattle.ilp_book.specs.HoldStep.{hold_terms, hold_fitted, hold_made, hold_step}
+use Rattle.ilp_terms.specs.Condition.{meets}
+use Rattle.ilp_journal.specs.Journal.{open_holds, open_asks}
+use Rattle.ilp_book.specs.HoldStep.{hold_terms, hold_fitted, hold_checked, hold_step}
 use Rattle.ilp_book.specs.AnswerStep.{verdict, answer_step, expire_step}
-use Rattle.ilp_book.specs.SettleStep.{credit_made, credit_step, ask_made, ask_step, close_step}
+use Rattle.ilp_book.specs.SettleStep.{credit_checked, credit_step, ask_checked, ask_step, close_step}
 use Rattle.ilp_book.specs.Rows.{PaidRow, LateRow, ReleasedRow, ExpiredRow, LeastRow, TermsRow, TotalRow, FullRow, OlderRow, CreditedRow, SettledRow}
 
 pub paid_row : (c : List ℕ) → meets c (replicate 32 0) ≡ true → PaidRow c
-unfolding quote balance total_in total_out open_holds hold_terms hold_fitted hold_made hold_step verdict answer_step
+unfolding quote balance total_in total_out open_holds hold_terms hold_fitted hold_checked hold_step verdict answer_step
 paid_row c met = record {
   replies = rw met refl;
   alice_has = rw met refl;
@@ -22,11 +22,11 @@ paid_row c met = record {
 }
 
 pub late_row : (c : List ℕ) → meets c (replicate 32 0) ≡ true → LateRow c
-unfolding quote balance total_in total_out hold_terms hold_fitted hold_made hold_step verdict answer_step
+unfolding quote balance total_in total_out hold_terms hold_fitted hold_checked hold_step verdict answer_step
 late_row c met = record { before = rw met refl; from_then_on = refl }
 
 pub released_row : (c : List ℕ) → ReleasedRow c
-unfolding quote balance total_in total_out hold_terms hold_fitted hold_made hold_step verdict answer_step
+unfolding quote balance total_in total_out hold_terms hold_fitted hold_checked hold_step verdict answer_step
 released_row c = record {
   wrong = λ unmet. rw unmet refl;
   known_wrong = refl;
@@ -38,33 +38,33 @@ released_row c = record {
 }
 
 pub expired_row : (c : List ℕ) → ExpiredRow c
-unfolding quote balance total_in total_out hold_terms hold_fitted hold_made hold_step answer_step expire_step
+unfolding quote balance total_in total_out hold_terms hold_fitted hold_checked hold_step answer_step expire_step
 expired_row c = refl
 
 pub least_row : (c : List ℕ) → LeastRow c
-unfolding quote balance total_in total_out hold_terms hold_fitted hold_made hold_step
+unfolding quote balance total_in total_out hold_terms hold_fitted hold_checked hold_step
 least_row c = refl
 
 pub terms_row : (c : List ℕ) → TermsRow c
-unfolding quote balance total_in total_out hold_terms hold_fitted hold_made hold_step
+unfolding quote balance total_in total_out hold_terms hold_fitted hold_checked hold_step
 terms_row c = record { too_large = refl; no_route = refl; back = refl; in_time = refl; too_short = refl; expired = refl; nothing_left = refl; first = refl }
 
 pub total_row : (c : List ℕ) → TotalRow c
-unfolding quote balance total_in total_out hold_terms hold_fitted hold_made hold_step credit_made credit_step
+unfolding quote balance total_in total_out hold_terms hold_fitted hold_checked hold_step credit_checked credit_step
 total_row c = refl
 
 pub full_row : (c : List ℕ) → FullRow c
-unfolding quote balance total_in total_out hold_terms hold_fitted hold_made hold_step expire_step credit_made credit_step
+unfolding quote balance total_in total_out hold_terms hold_fitted hold_checked hold_step expire_step credit_checked credit_step
 full_row c = refl
 
 pub older_row : (c : List ℕ) → OlderRow c
-unfolding quote balance total_in total_out hold_terms hold_fitted hold_made hold_step
+unfolding quote balance total_in total_out hold_terms hold_fitted hold_checked hold_step
 older_row c = refl
 
 pub credited_row : CreditedRow
-unfolding credit_made credit_step
+unfolding credit_checked credit_step
 credited_row = refl
 
 pub settled_row : SettledRow
-unfolding balance credit_made credit_step ask_made ask_step close_step
+unfolding balance open_asks credit_checked credit_step ask_checked ask_step close_step
 settled_row = refl

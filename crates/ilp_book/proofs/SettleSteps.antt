@@ -1,12 +1,11 @@
 -- A credit, an ask or a closing that a step appends to a lawful journal is admitted by its rules.
-use Rattle.std.proofs.Common.{◌≡◌, ℕ, suc, ◌+◌, ◌≤◌, ℤ, pos, negsuc, ◌+ℤ◌, ◌-ℤ◌, Bool, true, false, cond, not, ◌&&◌, List, [], ◌∷◌, length, Option, Some, None, refl, sym, ap, ◌∙◌, subst, arith}
+use Rattle.std.proofs.Common.{◌≡◌, ℕ, suc, ◌+◌, ◌≤◌, ◌<◌, ℤ, pos, negsuc, ◌+ℤ◌, ◌-ℤ◌, Bool, true, false, cond, not, ◌&&◌, List, [], ◌∷◌, length, Option, Some, None, refl, sym, ap, ◌∙◌, subst, arith}
 use Rattle.std.specs.Prelude.{Result, Ok, Err, ◌≤ℤ◌, ◌<ℤ◌, int_le, nat_lt, ◌==◌, slice_get, unwrap_or, option_map, option_and_then, IsSome, IsNone, IfSome, IsSomeAnd, nat_abs}
 use Rattle.std.specs.Int.{int_min}
 use Rattle.std.specs.Str.{bytes_eq}
 use Rattle.std.proofs.lemmas.Int.{ints, clamps}
-use Rattle.std.proofs.lemmas.Bool.{eqb-true, leb-true}
-use Rattle.ilp_order.specs.Refusals.{◌>>=◌}
-use Rattle.ilp_oer.specs.Octets as oer
+use Rattle.std.proofs.lemmas.Bool.{leb-true, ltb-true}
+use Rattle.ilp_order.specs.Refusals.{◌>>=◌, refuse_some}
 use Rattle.ilp_assets.specs.Quote.{most}
 use Rattle.ilp_accounts.specs.declared.peer.Levels.{Levels}
 use Rattle.ilp_accounts.specs.Configuration.{Configuration, PlainPeer, peer_at}
@@ -16,65 +15,68 @@ use Rattle.ilp_journal.specs.declared.entry.What.{What}
 use Rattle.ilp_journal.specs.declared.entry.What.TheVariants as what
 use Rattle.ilp_journal.specs.declared.entry.Ask.{Ask}
 use Rattle.ilp_journal.specs.declared.entry.Credited.{Credited}
-use Rattle.ilp_journal.specs.Places.{first_from}
-use Rattle.ilp_journal.specs.Journal.{Entries, ask_at, as_ask, closing_of, is_unclosed, open_count}
+use Rattle.ilp_journal.specs.Places.{sum_from, first_from}
+use Rattle.ilp_journal.specs.Keys.{IsKey}
+use Rattle.ilp_journal.specs.Journal.{Entries, ask_at, as_ask, closing_of, is_unclosed, open_count, open_asks, open_ask_at, paid_to}
 use Rattle.ilp_journal.specs.Balance.{balance}
 use Rattle.ilp_book.specs.declared.calls.Kept.{Kept}
-use Rattle.ilp_book.specs.declared.calls.CreditFault.{CreditFault}
-use Rattle.ilp_book.specs.declared.calls.CreditFault.TheVariants as credit_fault
-use Rattle.ilp_book.specs.declared.calls.AskFault.{AskFault}
-use Rattle.ilp_book.specs.declared.calls.AskFault.TheVariants as ask_fault
+use Rattle.ilp_book.specs.declared.fault.CreditFault.{CreditFault}
+use Rattle.ilp_book.specs.declared.fault.CreditFault.TheVariants as credit_fault
+use Rattle.ilp_book.specs.declared.fault.AskFault.{AskFault}
+use Rattle.ilp_book.specs.declared.fault.AskFault.TheVariants as ask_fault
 use Rattle.ilp_book.specs.Configured.{IsKnown, scale_at}
-use Rattle.ilp_book.specs.Terms.{moment_at}
-use Rattle.ilp_book.specs.Open.{as_credit, credit_at, has_key, is_ask_of, kept_at, open_ask_at, open_ask_of}
-use Rattle.ilp_book.specs.Lawful.{IsLawful, IsWithinLimits, owed_above}
-use Rattle.ilp_book.specs.Made.{has_room, appended}
-use Rattle.ilp_book.specs.SettleStep.{Quantity, credited_at, kept, credit_fresh, credit_made, credit_told, credit_step, still_open, none_open, due_amount, ask_made, ask_told, ask_step, close_told, close_step}
-use Rattle.ilp_book.proofs.Known.{peer_valid}
+use Rattle.ilp_book.specs.Book.{PlainBook, By, Growth, granted, denied, entry_by, has_room, with_entry}
+use Rattle.ilp_book.specs.Open.{as_credit, credit_at, has_key, is_ask_of, kept_at, first_open_ask}
+use Rattle.ilp_book.specs.Lawful.{IsLawful, IsWithinLimits, most_open_asks, owed_above}
+use Rattle.ilp_book.specs.SettleStep.{Payment, EngineVerdict, accepted, rejected, amount_of, kept, credit_fresh, credit_checked, credit_booked, credit_step, still_open, due_amount, ask_checked, ask_booked, ask_step, close_booked, close_step}
+use Rattle.ilp_book.proofs.Known.{peer_valid, covered}
 use Rattle.ilp_book.proofs.LawfulGrowth.{Admits, lawful_push, limits_now}
 use Rattle.ilp_book.proofs.Refused.{refused_not, found, ok_same, some_same, not_true, chosen, is_none_at, is_some_at}
-use Rattle.ilp_book.proofs.InTime.{in_time_at, calm}
+use Rattle.ilp_book.proofs.InTime.{in_time, calm}
 
 -- the first place that passes has an element that does
 first_found : {X : Type 0} (test : ℕ → X → Bool) (k n : ℕ) (xs : List X) → first_from test k xs ≡ Some n → (i : ℕ) × (x : X) × (n ≡ k + i) × (slice_get xs i ≡ Some x) × (test n x ≡ true)
 first_found test k n [] e = absurd cc
-first_found {X} test k n (y ∷ ys) e = by (test k y) refl (λ e. let r = first_found test (k + 1) n ys e in (suc r.0, r.1, r.2 ∙ omega arith, r.3, r.4)) e
+first_found {X} test k n (y ∷ ys) e = of_test (test k y) refl (λ e. let r = first_found test (k + 1) n ys e in (suc r.0, r.1, r.2 ∙ omega arith, r.3, r.4)) e
   where
-    by : (b : Bool) → test k y ≡ b → (first_from test (k + 1) ys ≡ Some n → (i : ℕ) × (x : X) × (n ≡ k + i) × (slice_get (y ∷ ys) i ≡ Some x) × (test n x ≡ true))
+    of_test : (b : Bool) → test k y ≡ b → (first_from test (k + 1) ys ≡ Some n → (i : ℕ) × (x : X) × (n ≡ k + i) × (slice_get (y ∷ ys) i ≡ Some x) × (test n x ≡ true))
         → cond b (Some k) (first_from test (k + 1) ys) ≡ Some n → (i : ℕ) × (x : X) × (n ≡ k + i) × (slice_get (y ∷ ys) i ≡ Some x) × (test n x ≡ true)
-    by true t rest e = let same : k ≡ n = some_same k n e in (0, y, omega arith, refl, subst (λ m. test m y ≡ true) same t)
-    by false t rest e = rest e
+    of_test true t rest e = let same : k ≡ n = some_same k n e in (0, y, omega arith, refl, subst (λ m. test m y ≡ true) same t)
+    of_test false t rest e = rest e
 
 -- ---- closings
 
-pub close_lawful : (C : Configuration) (base : ℕ) (j : Entries) (actor n : ℕ) (accepted : Bool) (now : ℤ) → IsLawful C base j → IsLawful C base (appended j (close_step j actor n accepted now).entry)
+pub close_lawful : (book : PlainBook) (caller : By) (n : ℕ) (verdict : EngineVerdict) → IsLawful book → IsLawful (with_entry book (close_step book caller n verdict).entry)
 unfolding close_step
-close_lawful C base j actor n accepted now lawful = by (open_ask_at j n) accepted (λ a e. chosen (is_unclosed j n) (ask_at j n) a e)
+close_lawful book caller n verdict lawful = of (open_ask_at book.entries n) verdict (λ a e. chosen (is_unclosed book.entries n) (ask_at book.entries n) a e)
   where
+    j : Entries
+    j = book.entries
+
     closes : (a : Ask) → (is_unclosed j n ≡ true) × (ask_at j n ≡ Some a) → IsSome (ask_at j n) × IsNone (closing_of j n)
     closes a h = (is_some_at (ask_at j n) a h.1, is_none_at (closing_of j n) h.0)
 
-    room : length j + open_count j ≤ C.settings.journal
-    room = (limits_now C base j lawful).room
+    room : length j + open_count j ≤ book.config.settings.journal
+    room = (limits_now book lawful).room
 
-    by : (o : Option Ask) (b : Bool) → ((a : Ask) → o ≡ Some a → (is_unclosed j n ≡ true) × (ask_at j n ≡ Some a))
-        → IsLawful C base (appended j (close_told j actor n b (moment_at j now) o).entry)
-    by None b is = lawful
-    by (Some a) true is = let r = room in lawful_push C base j _ lawful (calm C base j (record { moment = moment_at j now; actor = actor; what = what.Confirmed n }) lawful tt (closes a (is a refl)) tt tt tt tt
-        (in_time_at j now actor (what.Confirmed n) lawful.moments) (λ _. refl) (λ _. refl) (omega (arith, r)))
-    by (Some a) false is = let r = room in lawful_push C base j _ lawful (calm C base j (record { moment = moment_at j now; actor = actor; what = what.Undone n }) lawful tt (closes a (is a refl)) tt tt tt tt
-        (in_time_at j now actor (what.Undone n) lawful.moments) (λ _. refl) (λ _. refl) (omega (arith, r)))
+    of : (o : Option Ask) (v : EngineVerdict) → ((a : Ask) → o ≡ Some a → (is_unclosed j n ≡ true) × (ask_at j n ≡ Some a))
+        → IsLawful (with_entry book (close_booked book caller n v o).entry)
+    of None v is = lawful
+    of (Some a) accepted is = let r = room in lawful_push book _ lawful (calm book (entry_by book caller (what.Confirmed n)) lawful tt (closes a (is a refl)) tt tt tt tt
+        (in_time book caller (what.Confirmed n) lawful) (λ _. refl) (λ _. refl) (omega (arith, r)))
+    of (Some a) rejected is = let r = room in lawful_push book _ lawful (calm book (entry_by book caller (what.Undone n)) lawful tt (closes a (is a refl)) tt tt tt tt
+        (in_time book caller (what.Undone n) lawful) (λ _. refl) (λ _. refl) (omega (arith, r)))
 
 -- ---- credits
 
 -- where no credit is kept no entry has the key
 none_kept : (j : Entries) (peer : ℕ) (key : List ℕ) → kept j peer key ≡ None → IsNone (kept_at j peer key)
-none_kept j peer key e = by (kept_at j peer key) refl e
+none_kept j peer key e = of_test (kept_at j peer key) refl e
   where
     is_credit : (w : What) → has_key peer key w ≡ true → IsSome (as_credit w)
     is_credit w t = at (as_credit w) t
       where
-        at : (o : Option Credited) → unwrap_or (option_map (λ (c : Credited). (c.peer == peer) && bytes_eq c.key.octets key) o) false ≡ true → IsSome o
+        at : (o : Option Credited) → unwrap_or (option_map (λ (c : Credited). (c.peer == peer) && bytes_eq c.key key) o) false ≡ true → IsSome o
         at None t = cc
         at (Some c) t = refl
 
@@ -84,58 +86,84 @@ none_kept j peer key e = by (kept_at j peer key) refl e
         let place : f.0 ≡ n = omega (arith, f.2) in
         subst (λ k. IsSome (credit_at j k)) place (rw f.3 (is_credit f.1.what f.4))
 
-    by : (o : Option ℕ) → kept_at j peer key ≡ o → option_and_then {U = ℕ × Credited} (λ n. option_map (λ (c : Credited). (n, c)) (credit_at j n)) o ≡ None → IsNone o
-    by None is e = refl
-    by (Some n) is e = none (credit_at j n) (stands n is) e
+    of_test : (o : Option ℕ) → kept_at j peer key ≡ o → option_and_then {U = ℕ × Credited} (λ n. option_map (λ (c : Credited). (n, c)) (credit_at j n)) o ≡ None → IsNone o
+    of_test None is e = refl
+    of_test (Some n) is e = none (credit_at j n) (stands n is) e
       where
         none : (o : Option Credited) → IsSome o → option_map {U = ℕ × Credited} (λ (c : Credited). (n, c)) o ≡ None → IsNone (Some n)
         none None s e = cc
         none (Some c) s e = absurd cc
 
--- what a credit that was made has
-record CreditFacts (C : Configuration) (j : Entries) (peer : ℕ) (key : oer.Held) (q : Quantity) (c : Credited) : Type 0 where
-  is : c ≡ record { peer = peer; key = key; named = q.amount; scale = q.scale; credited = credited_at q (scale_at C peer) }
-  fresh : IsNone (kept_at j peer key.octets)
-  room : not (has_room C j 1) ≡ false
+-- what a credit that is booked has
+record CreditFacts (book : PlainBook) (p : Payment) (c : Credited) : Type 0 where
+  is : c ≡ record { peer = p.peer; key = p.key; named = p.quantity.amount; scale = p.quantity.scale; credited = amount_of book.config p }
+  fresh : IsNone (kept_at book.entries p.peer p.key)
+  room : not (has_room book 1) ≡ false
 
-credit_facts : (C : Configuration) (j : Entries) (peer : ℕ) (key : oer.Held) (q : Quantity) (c : Credited) → credit_made C j peer key q ≡ Ok c → CreditFacts C j peer key q c
-unfolding credit_made
-credit_facts C j peer key q c e =
-    let a = refused_not (nat_lt most (credited_at q (scale_at C peer))) (Err credit_fault.TooLarge) (credit_fresh C j peer key q (kept j peer key.octets)) c e in
-    by (kept j peer key.octets) refl a.1
+credit_facts : (book : PlainBook) (p : Payment) (c : Credited) → credit_checked book p ≡ Ok c → CreditFacts book p c
+unfolding credit_checked
+credit_facts book p c e =
+    let a = refused_not (nat_lt most (amount_of book.config p)) (Err credit_fault.TooLarge) (credit_fresh book p (kept book.entries p.peer p.key)) c e in
+    of (kept book.entries p.peer p.key) refl a.1
   where
-    by : (o : Option (ℕ × Credited)) → kept j peer key.octets ≡ o → credit_fresh C j peer key q o ≡ Ok c → CreditFacts C j peer key q c
-    by (Some x) is e = absurd cc
-    by None is e =
-        let a = refused_not (not (has_room C j 1)) (Err credit_fault.Full) _ c e in
-        record { is = sym (ok_same _ c a.1); fresh = none_kept j peer key.octets is; room = a.0 }
+    of : (o : Option (ℕ × Credited)) → kept book.entries p.peer p.key ≡ o → credit_fresh book p o ≡ Ok c → CreditFacts book p c
+    of (Some x) is e = absurd cc
+    of None is e =
+        let a = refused_not (not (has_room book 1)) (Err credit_fault.Full) _ c e in
+        record { is = sym (ok_same _ c a.1); fresh = none_kept book.entries p.peer p.key is; room = a.0 }
 
-credit_admitted : (C : Configuration) (base : ℕ) (j : Entries) (actor peer : ℕ) (key : oer.Held) (q : Quantity) (now : ℤ) (c : Credited) → IsLawful C base j → IsKnown C peer
-    → 1 ≤ length key.octets → length key.octets ≤ 128 → CreditFacts C j peer key q c → Admits C base j (record { moment = moment_at j now; actor = actor; what = what.Credited c })
-credit_admitted C base j actor peer key q now c lawful known some short facts =
-    let room : length j + open_count j + 1 ≤ C.settings.journal = leb-true _ _ (not_true _ facts.room) in
-    subst (λ x. Admits C base j (record { moment = moment_at j now; actor = actor; what = what.Credited x })) (sym facts.is)
-    (calm C base j _ lawful tt tt tt tt (record { known = known; some_key = some; short_key = short; rounded = refl; fresh = facts.fresh }) tt
-    (in_time_at j now actor _ lawful.moments) (λ _. refl) (λ _. refl) (omega (arith, room)))
+credit_admitted : (book : PlainBook) (caller : By) (p : Payment) (c : Credited) → IsLawful book → IsKnown book.config p.peer → IsKey p.key → CreditFacts book p c
+    → Admits book (entry_by book caller (what.Credited c))
+credit_admitted book caller p c lawful known key facts =
+    let room : length book.entries + open_count book.entries + 1 ≤ book.config.settings.journal = leb-true _ _ (not_true _ facts.room) in
+    subst (λ x. Admits book (entry_by book caller (what.Credited x))) (sym facts.is)
+    (calm book _ lawful tt tt tt tt (record { known = known; named = key; rounded = refl; fresh = facts.fresh }) tt
+    (in_time book caller _ lawful) (λ _. refl) (λ _. refl) (omega (arith, room)))
 
-pub credit_lawful : (C : Configuration) (base : ℕ) (j : Entries) (actor peer : ℕ) (key : oer.Held) (q : Quantity) (now : ℤ) (refused : Bool) → IsLawful C base j → IsKnown C peer
-    → 1 ≤ length key.octets → length key.octets ≤ 128 → IsLawful C base (appended j (credit_step C j actor peer key q now refused).entry)
+pub credit_lawful : (book : PlainBook) (caller : By) (p : Payment) (growth : Growth) → IsLawful book → IsKnown book.config p.peer → IsKey p.key
+    → IsLawful (with_entry book (credit_step book caller p growth).entry)
 unfolding credit_step
-credit_lawful C base j actor peer key q now refused lawful known some short =
-    by (credit_made C j peer key q) refused (λ c e. credit_admitted C base j actor peer key q now c lawful known some short (credit_facts C j peer key q c e))
+credit_lawful book caller p growth lawful known key =
+    of (credit_checked book p) growth (λ c e. credit_admitted book caller p c lawful known key (credit_facts book p c e))
   where
-    by : (r : Result Credited (Result Kept CreditFault)) (b : Bool) → ((c : Credited) → r ≡ Ok c → Admits C base j (record { moment = moment_at j now; actor = actor; what = what.Credited c }))
-        → IsLawful C base (appended j (credit_told j actor (moment_at j now) b r).entry)
-    by (Err reply) b h = lawful
-    by (Ok c) true h = lawful
-    by (Ok c) false h = lawful_push C base j _ lawful (h c refl)
+    of : (r : Result Credited (Result Kept CreditFault)) (g : Growth) → ((c : Credited) → r ≡ Ok c → Admits book (entry_by book caller (what.Credited c)))
+        → IsLawful (with_entry book (credit_booked book caller g r).entry)
+    of (Err reply) g h = lawful
+    of (Ok c) denied h = lawful
+    of (Ok c) granted h = lawful_push book _ lawful (h c refl)
 
 -- ---- asks
 
--- where no settlement is told to be open none is
-none_still_open : (j : Entries) (peer : ℕ) → still_open j peer ≡ None → IsNone (open_ask_of j peer)
-none_still_open j peer e = by (open_ask_of j peer) refl e
+-- a sum of nothing but terms that pass no test
+sum_from-none : {X : Type 0} (test : ℕ → X → Bool) (f : ℕ → X → ℕ) (n : ℕ) (xs : List X) → ((k : ℕ) (x : X) → test k x ≡ false → f k x ≡ 0) → first_from test n xs ≡ None → sum_from f n xs ≡ 0
+sum_from-none test f n [] none e = refl
+sum_from-none test f n (x ∷ xs) none e =
+    let failed : (test n x ≡ false) × (first_from test (n + 1) xs ≡ None) = parts (test n x) refl e in
+    omega (arith, none n x failed.0, sum_from-none test f (n + 1) xs none failed.1)
   where
+    parts : (b : Bool) → test n x ≡ b → cond b (Some n) (first_from test (n + 1) xs) ≡ None → (test n x ≡ false) × (first_from test (n + 1) xs ≡ None)
+    parts true t e = absurd cc
+    parts false t e = (t, e)
+
+-- where no open settlement of a peer is found it has none open
+none_open : (j : Entries) (peer : ℕ) → first_open_ask j peer ≡ None → open_asks j peer ≡ 0
+unfolding open_asks
+none_open j peer e =
+    sum_from-none is_its _ 0 j (λ k d failed. uncounted (as_ask d.what) (is_unclosed j k) failed) (of (first_from is_its 0 j) refl e)
+  where
+    is_its : ℕ → Entry → Bool
+    is_its n d = is_ask_of peer d.what && is_unclosed j n
+
+    uncounted : (o : Option Ask) (b : Bool) → (unwrap_or (option_map (λ (a : Ask). a.peer == peer) o) false && b) ≡ false → cond b (unwrap_or (option_map (paid_to peer) o) 0) 0 ≡ 0
+    uncounted None true failed = refl
+    uncounted None false failed = refl
+    uncounted (Some a) false failed = refl
+    uncounted (Some a) true failed = of_peer (a.peer == peer) failed
+      where
+        of_peer : (b : Bool) → (b && true) ≡ false → ◌≡◌ {A = ℕ} (cond b 1 0) 0
+        of_peer true failed = cc
+        of_peer false failed = refl
+
     is_ask : (w : What) (b : Bool) → (is_ask_of peer w && b) ≡ true → IsSome (as_ask w)
     is_ask w b t = at (as_ask w) t
       where
@@ -143,38 +171,52 @@ none_still_open j peer e = by (open_ask_of j peer) refl e
         at None t = cc
         at (Some a) t = refl
 
-    stands : (n : ℕ) → open_ask_of j peer ≡ Some n → IsSome (ask_at j n)
+    stands : (n : ℕ) → first_from is_its 0 j ≡ Some n → IsSome (ask_at j n)
     stands n is =
-        let f = first_found (λ n (e : Entry). is_ask_of peer e.what && is_unclosed j n) 0 n j is in
+        let f = first_found is_its 0 n j is in
         let place : f.0 ≡ n = omega (arith, f.2) in
         subst (λ k. IsSome (ask_at j k)) place (rw f.3 (is_ask f.1.what (is_unclosed j n) f.4))
 
-    by : (o : Option ℕ) → open_ask_of j peer ≡ o → option_and_then {U = ℕ × Ask} (λ n. option_map (λ (a : Ask). (n, a)) (ask_at j n)) o ≡ None → IsNone o
-    by None is e = refl
-    by (Some n) is e = none (ask_at j n) (stands n is) e
+    of : (o : Option ℕ) → first_from is_its 0 j ≡ o → option_and_then {U = ℕ × Ask} (λ n. option_map (λ (a : Ask). (n, a)) (ask_at j n)) o ≡ None → first_from is_its 0 j ≡ None
+    of None is e = is
+    of (Some n) is e = absurd (none (ask_at j n) (stands n is) e)
       where
-        none : (o : Option Ask) → IsSome o → option_map {U = ℕ × Ask} (λ (a : Ask). (n, a)) o ≡ None → IsNone (Some n)
+        none : (o : Option Ask) → IsSome o → option_map {U = ℕ × Ask} (λ (a : Ask). (n, a)) o ≡ None → ⊥
         none None s e = cc
-        none (Some c) s e = absurd cc
+        none (Some c) s e = cc
 
-none_opened : {B : Type 0} (o : Option (ℕ × Ask)) (next : Result B AskFault) (y : B) → (none_open o >>= λ _. next) ≡ Ok y → (o ≡ None) × (next ≡ Ok y)
-none_opened None next y e = (refl, e)
-none_opened (Some a) next y e = absurd cc
+-- where none is told to be open fewer are open than may be
+few_open : (j : Entries) (peer : ℕ) → still_open j peer ≡ None → open_asks j peer < most_open_asks
+few_open j peer e = of_test (nat_lt (open_asks j peer) most_open_asks) refl e
+  where
+    of_test : (b : Bool) → nat_lt (open_asks j peer) most_open_asks ≡ b → cond b None (option_map (λ (x : ℕ × Ask). ask_fault.StillOpen x.0 x.1.amount) (first_open_ask j peer)) ≡ None
+        → open_asks j peer < most_open_asks
+    of_test true t e = ltb-true _ _ t
+    of_test false t e = of (first_open_ask j peer) refl e
+      where
+        of : (o : Option (ℕ × Ask)) → first_open_ask j peer ≡ o → option_map (λ (x : ℕ × Ask). ask_fault.StillOpen x.0 x.1.amount) o ≡ None → open_asks j peer < most_open_asks
+        of None is e = omega (arith, none_open j peer is)
+        of (Some x) is e = cc
 
--- what an ask that was made has
-record AskFacts (C : Configuration) (j : Entries) (peer : ℕ) (a : Ask) : Type 0 where
+none_refused : {B E : Type 0} (o : Option E) (next : Result B E) (y : B) → (refuse_some o >>= λ _. next) ≡ Ok y → (o ≡ None) × (next ≡ Ok y)
+none_refused None next y e = (refl, e)
+none_refused (Some a) next y e = absurd cc
+
+-- what an ask that is booked has
+record AskFacts (book : PlainBook) (peer : ℕ) (a : Ask) : Type 0 where
   peer_is : a.peer ≡ peer
-  none_open : IsNone (open_ask_of j peer)
-  due : due_amount (balance j peer) (peer_at C peer).levels ≡ Some a.amount
-  room : not (has_room C j 2) ≡ false
+  few_open : open_asks book.entries peer < most_open_asks
+  due : due_amount (balance book.entries peer) (peer_at book.config peer).levels ≡ Some a.amount
+  room : not (has_room book 2) ≡ false
 
-ask_facts : (C : Configuration) (j : Entries) (peer : ℕ) (ask : Ask) → ask_made C j peer ≡ Ok ask → AskFacts C j peer ask
-unfolding ask_made
-ask_facts C j peer ask e =
-    let a = none_opened (still_open j peer) _ ask e in
-    let b = found (due_amount (balance j peer) (peer_at C peer).levels) (ask_fault.NotDue (balance j peer)) _ ask a.1 in
-    let c = refused_not (not (has_room C j 2)) ask_fault.Full _ ask b.2 in
-    subst (AskFacts C j peer) (ok_same _ ask c.1) (record { peer_is = refl; none_open = none_still_open j peer a.0; due = b.1; room = c.0 })
+ask_facts : (book : PlainBook) (peer : ℕ) (ask : Ask) → ask_checked book peer ≡ Ok ask → AskFacts book peer ask
+unfolding ask_checked
+ask_facts book peer ask e =
+    let owed = balance book.entries peer in
+    let a = none_refused (still_open book.entries peer) _ ask e in
+    let b = found (due_amount owed (peer_at book.config peer).levels) (ask_fault.NotDue owed) _ ask a.1 in
+    let c = refused_not (not (has_room book 2)) ask_fault.Full _ ask b.2 in
+    subst (AskFacts book peer) (ok_same _ ask c.1) (record { peer_is = refl; few_open = few_open book.entries peer a.0; due = b.1; room = c.0 })
 
 -- what is due is asked for from the threshold on, and leaves the balance at its least or above
 due_kept : (o : Option Levels) (peer : PlainPeer) (b : ℤ) (amount : ℕ) → IfSome o (AreOrdered peer) → due_amount b o ≡ Some amount
@@ -205,47 +247,36 @@ due_kept (Some v) peer b amount h e =
     bounded : (b l s : ℤ) (n : ℕ) → pos n ≡ int_min (b -ℤ s) (pos most) → l ≤ℤ s → (l +ℤ pos n) ≤ℤ b
     bounded b l s n e h = omega (arith, ints, clamps)
 
--- an amount that leaves its peer's least leaves every peer's
-covered : (C : Configuration) (j : Entries) (a : Ask) (p : ℕ) → (peer_at C p).least ≤ℤ balance j p → ((peer_at C a.peer).least +ℤ pos a.amount) ≤ℤ balance j a.peer
-    → ((peer_at C p).least +ℤ pos (cond (a.peer == p) a.amount 0)) ≤ℤ balance j p
-covered C j a p least new = by (a.peer == p) (eqb-true a.peer p)
-  where
-    same : (b l : ℤ) → l ≤ℤ b → (l +ℤ pos 0) ≤ℤ b
-    same b l t = omega (arith, ints)
-
-    by : (b : Bool) → (b ≡ true → a.peer ≡ p) → ((peer_at C p).least +ℤ pos (cond b a.amount 0)) ≤ℤ balance j p
-    by true is = subst (λ q. ((peer_at C q).least +ℤ pos a.amount) ≤ℤ balance j q) (is refl) new
-    by false is = same (balance j p) (peer_at C p).least least
-
-ask_admitted : (C : Configuration) (base : ℕ) (j : Entries) (actor peer : ℕ) (a : Ask) (now : ℤ) → IsValid C → IsKnown C peer → IsLawful C base j → AskFacts C j peer a
-    → Admits C base j (record { moment = moment_at j now; actor = actor; what = what.Asked a })
-ask_admitted C base j actor peer a now valid known lawful facts =
-    let limits : IsWithinLimits C base j = limits_now C base j lawful in
-    let room : length j + open_count j + 2 ≤ C.settings.journal = leb-true _ _ (not_true _ facts.room) in
+ask_admitted : (book : PlainBook) (caller : By) (peer : ℕ) (a : Ask) → IsValid book.config → IsKnown book.config peer → IsLawful book → AskFacts book peer a
+    → Admits book (entry_by book caller (what.Asked a))
+ask_admitted book caller peer a valid known lawful facts =
+    let limits : IsWithinLimits book = limits_now book lawful in
+    let room : length book.entries + open_count book.entries + 2 ≤ book.config.settings.journal = leb-true _ _ (not_true _ facts.room) in
     let its : a.peer ≡ peer = facts.peer_is in
-    let terms = due_kept (peer_at C peer).levels (peer_at C peer) (balance j peer) a.amount (peer_valid C peer valid known).levels facts.due in
+    let p = peer_at book.config peer in
+    let terms = due_kept p.levels p (balance book.entries peer) a.amount (peer_valid book.config peer valid known).levels facts.due in
     record {
       answers = tt;
       closings = tt;
       outcomes = tt;
       holds = tt;
       credits = tt;
-      asks = record { known = rw its known; none_open = rw its facts.none_open; due = rw its terms.0 };
-      moments = in_time_at j now actor (what.Asked a) lawful.moments;
-      cover = λ p p_known. covered C j a p (limits.least p p_known) (rw its terms.1);
+      asks = record { known = rw its known; few_open = rw its facts.few_open; due = rw its terms.0 };
+      moments = in_time book caller (what.Asked a) lawful;
+      cover = λ q q_known. covered book.config book.entries a.peer a.amount q (limits.least q q_known) (rw its terms.1);
       room = omega (arith, room);
       totals_in = λ x. omega (arith, limits.totals_in x);
       totals_out = λ x. omega (arith, limits.totals_out x);
     }
 
-pub ask_lawful : (C : Configuration) (base : ℕ) (j : Entries) (actor peer : ℕ) (now : ℤ) (refused : Bool) → IsValid C → IsKnown C peer → IsLawful C base j
-    → IsLawful C base (appended j (ask_step C j actor peer now refused).entry)
+pub ask_lawful : (book : PlainBook) (caller : By) (peer : ℕ) (growth : Growth) → IsValid book.config → IsKnown book.config peer → IsLawful book
+    → IsLawful (with_entry book (ask_step book caller peer growth).entry)
 unfolding ask_step
-ask_lawful C base j actor peer now refused valid known lawful =
-    by (ask_made C j peer) refused (λ a e. ask_admitted C base j actor peer a now valid known lawful (ask_facts C j peer a e))
+ask_lawful book caller peer growth valid known lawful =
+    of (ask_checked book peer) growth (λ a e. ask_admitted book caller peer a valid known lawful (ask_facts book peer a e))
   where
-    by : (r : Result Ask AskFault) (b : Bool) → ((a : Ask) → r ≡ Ok a → Admits C base j (record { moment = moment_at j now; actor = actor; what = what.Asked a }))
-        → IsLawful C base (appended j (ask_told j actor (moment_at j now) b r).entry)
-    by (Err fault) b h = lawful
-    by (Ok a) true h = lawful
-    by (Ok a) false h = lawful_push C base j _ lawful (h a refl)
+    of : (r : Result Ask AskFault) (g : Growth) → ((a : Ask) → r ≡ Ok a → Admits book (entry_by book caller (what.Asked a)))
+        → IsLawful (with_entry book (ask_booked book caller g r).entry)
+    of (Err fault) g h = lawful
+    of (Ok a) denied h = lawful
+    of (Ok a) granted h = lawful_push book _ lawful (h a refl)

@@ -11,10 +11,10 @@ use Rattle.ilp_book.specs.declared.calls.PeerReply.{PeerReply}
 use Rattle.ilp_book.specs.declared.calls.PeerReply.TheVariants as peer_reply
 use Rattle.ilp_book.specs.declared.calls.Outcome.{Outcome}
 use Rattle.ilp_book.specs.declared.calls.Outcome.TheVariants as outcome
-use Rattle.ilp_book.specs.declared.calls.NotOpen.{NotOpen}
-use Rattle.ilp_book.specs.Terms.{moment_at, meets}
+use Rattle.ilp_book.specs.declared.fault.NotOpen.{NotOpen}
+use Rattle.ilp_terms.specs.Condition.{meets}
+use Rattle.ilp_book.specs.Book.{PlainBook, By, Made, says, books, moment_at, with_entries}
 use Rattle.ilp_book.specs.Open.{earliest}
-use Rattle.ilp_book.specs.Made.{Made}
 
 -- the preimage that a reply has, or why there is none
 abbrev pub preimage_of : PeerReply → Result (List ℕ) Cause
@@ -31,26 +31,26 @@ verdict h m reply = do
   _ ← refuse_if (not (meets h.condition preimage)) cause.WrongPreimage
   Ok preimage
 
--- the entry that a verdict on the hold n makes
-abbrev pub answer_entry : ℕ → Result (List ℕ) Cause → What
-answer_entry n (Ok preimage) = what.Fulfilled n preimage
-answer_entry n (Err c) = what.Released n c
+-- what is booked of a verdict on the hold n
+abbrev pub ending : ℕ → Result (List ℕ) Cause → What
+ending n (Ok preimage) = what.Fulfilled n preimage
+ending n (Err c) = what.Released n c
 
--- what is told of the entry
+-- what is told of its entry
 abbrev pub outcome_of : ℕ → Result (List ℕ) Cause → Outcome
 outcome_of number (Ok preimage) = outcome.Fulfilled number
 outcome_of number (Err c) = outcome.Released number c
 
-abbrev pub answer_told : Entries → ℕ → ℕ → ℤ → PeerReply → Option Hold → Made (Result Outcome NotOpen)
-answer_told j actor n m reply None = record { reply = Err (record { closer = answer_of j n }); entry = None }
-answer_told j actor n m reply (Some h) = record {
-  reply = Ok (outcome_of (length j) (verdict h m reply));
-  entry = Some (record { moment = m; actor = actor; what = answer_entry n (verdict h m reply) });
-}
+-- what an answer of the hold n makes, if that is open
+abbrev pub answer_booked : PlainBook → By → ℕ → PeerReply → Option Hold → Made (Result Outcome NotOpen)
+answer_booked book caller n reply None = says (Err (record { closer = answer_of book.entries n }))
+answer_booked book caller n reply (Some h) =
+    let v = verdict h (moment_at book.entries caller.now) reply in
+    books book caller (Ok (outcome_of (length book.entries) v)) (ending n v)
 
 -- what came back for the hold n
-unfoldable pub answer_step : Entries → ℕ → ℕ → PeerReply → ℤ → Made (Result Outcome NotOpen)
-answer_step j actor n reply now = answer_told j actor n (moment_at j now) reply (open_hold_at j n)
+unfoldable pub answer_step : PlainBook → By → ℕ → PeerReply → Made (Result Outcome NotOpen)
+answer_step book caller n reply = answer_booked book caller n reply (open_hold_at book.entries n)
 
 -- ---- expiry
 
@@ -58,22 +58,24 @@ answer_step j actor n reply now = answer_told j actor n (moment_at j now) reply 
 abbrev pub due : Entries → ℤ → Option ℕ
 due j m = option_and_then (λ (first : ℕ × Hold). if int_le first.1.deadline m then Some first.0 else None) (earliest j)
 
-abbrev pub expire_told : ℕ → ℤ → Option ℕ → Made (Option ℕ)
-expire_told actor m None = record { reply = None; entry = None }
-expire_told actor m (Some n) = record {
-  reply = Some n;
-  entry = Some (record { moment = m; actor = actor; what = what.Released n cause.Late });
-}
+-- what a sweep makes that finds this hold due
+abbrev pub expire_booked : PlainBook → By → Option ℕ → Made (Option ℕ)
+expire_booked book caller None = says None
+expire_booked book caller (Some n) = books book caller (Some n) (what.Released n cause.Late)
 
 -- the release of one hold whose deadline has come
-unfoldable pub expire_step : Entries → ℕ → ℤ → Made (Option ℕ)
-expire_step j actor now = expire_told actor (moment_at j now) (due j (moment_at j now))
+unfoldable pub expire_step : PlainBook → By → Made (Option ℕ)
+expire_step book caller = expire_booked book caller (due book.entries (moment_at book.entries caller.now))
 
 -- ---- holds that are over
 
+-- the book with more entries
+abbrev pub extended : PlainBook → Entries → PlainBook
+extended book more = with_entries book (book.entries ++ more)
+
 -- The hold n is over by the entry k for good: whatever is appended, each answer is told of that entry and appends nothing, and
 -- no expiry takes the hold.
-pub record IsOverBy (j : Entries) (n k : ℕ) : Type 0 where
-  pub answers : (more : Entries) (actor : ℕ) (reply : PeerReply) (now : ℤ)
-      → answer_step (j ++ more) actor n reply now ≡ record { reply = Err (record { closer = Some k }); entry = None }
-  pub expiries : (more : Entries) (actor : ℕ) (now : ℤ) → (expire_step (j ++ more) actor now).reply ≢ Some n
+pub record IsOverBy (book : PlainBook) (n k : ℕ) : Type 0 where
+  pub answers : (more : Entries) (caller : By) (reply : PeerReply)
+      → answer_step (extended book more) caller n reply ≡ says (Err (record { closer = Some k }))
+  pub expiries : (more : Entries) (caller : By) → (expire_step (extended book more) caller).reply ≢ Some n

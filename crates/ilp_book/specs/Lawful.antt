@@ -1,5 +1,5 @@
 -- Which journals a configuration allows. Each rule is one of an entry and the entries before it.
-use Rattle.std.specs.Prelude.{◌≡◌, ◌≢◌, ℕ, ◌+◌, ◌*◌, ◌^◌, ◌≤◌, ℤ, pos, ◌+ℤ◌, ◌-ℤ◌, ◌<ℤ◌, ◌≤ℤ◌, ◌↔◌, IsTrue, IsNone, IfSome, IsSomeAnd, IsOkAnd, length, ⊤, ◌++◌, ◌∷◌, []}
+use Rattle.std.specs.Prelude.{◌≡◌, ◌≢◌, ℕ, ◌+◌, ◌*◌, ◌^◌, ◌≤◌, ◌<◌, ℤ, pos, ◌+ℤ◌, ◌-ℤ◌, ◌<ℤ◌, ◌≤ℤ◌, ◌↔◌, IsTrue, IsNone, IfSome, IsSomeAnd, IsOkAnd, length, ⊤, []}
 use Rattle.std.specs.Int.{int_min}
 use Rattle.ilp_assets.specs.declared.quote.Quote.{Quote}
 use Rattle.ilp_assets.specs.Quote.{floor, most}
@@ -13,24 +13,28 @@ use Rattle.ilp_journal.specs.declared.entry.Hold.{Hold}
 use Rattle.ilp_journal.specs.declared.entry.Ask.{Ask}
 use Rattle.ilp_journal.specs.declared.entry.Credited.{Credited}
 use Rattle.ilp_journal.specs.Places.{Each}
-use Rattle.ilp_journal.specs.Journal.{Entries, AnswersOnce, ClosesOnce, hold_at, last_moment, open_count}
+use Rattle.ilp_journal.specs.Keys.{IsKey}
+use Rattle.ilp_journal.specs.Journal.{Entries, AnswersOnce, ClosesOnce, hold_at, last_moment, open_count, open_asks}
 use Rattle.ilp_journal.specs.Balance.{balance}
 use Rattle.ilp_journal.specs.TrialBalance.{total_in, total_out}
+use Rattle.ilp_terms.specs.Expiry.{last_of_all}
+use Rattle.ilp_terms.specs.Condition.{meets}
+use Rattle.ilp_book.specs.Book.{PlainBook, with_entries, pushed}
 use Rattle.ilp_book.specs.Configured.{IsKnown, peer_assets, scale_at, quote_between}
-use Rattle.ilp_book.specs.Terms.{last_of_all, meets}
-use Rattle.ilp_book.specs.Open.{open_ask_of, kept_at}
+use Rattle.ilp_book.specs.Open.{kept_at}
 
 -- ---- answers
 
--- A preimage counts where it meets the condition before the deadline. A release is late exactly from the deadline on.
-abbrev pub IsOutcome : Entries → ℤ → What → Type 0
-IsOutcome before moment (what.Fulfilled hold preimage) =
+-- A preimage counts where it meets the condition before the deadline. A release is late exactly from the deadline on. So far
+-- it is the same for what the book began with, the entries below the base.
+abbrev pub IsOutcome : ℕ → Entries → ℤ → What → Type 0
+IsOutcome base before moment (what.Fulfilled hold preimage) =
     IfSome (hold_at before hold) (λ (h : Hold). IsTrue (meets h.condition preimage) × (moment <ℤ h.deadline))
-IsOutcome before moment (what.Released hold cause) = IfSome (hold_at before hold) (λ (h : Hold). (cause ≡ Late) ↔ (h.deadline ≤ℤ moment))
-IsOutcome before moment _ = ⊤
+IsOutcome base before moment (what.Released hold cause) = IfSome (hold_at before hold) (λ (h : Hold). (cause ≡ Late) ↔ (h.deadline ≤ℤ moment))
+IsOutcome base before moment _ = ⊤
 
-abbrev pub HasOutcome : Entries → Entry → Type 0
-HasOutcome before e = IsOutcome before e.moment e.what
+abbrev pub HasOutcome : ℕ → Entries → Entry → Type 0
+HasOutcome base before e = IsOutcome base before e.moment e.what
 
 -- ---- holds
 
@@ -56,10 +60,9 @@ IsGoodHold C before e = IsHold C e.moment e.what
 -- A credit has a key that its peer has not used, and its quantity at the scale of the peer's balance, rounded down.
 pub record IsFreshCredit (C : Configuration) (before : Entries) (c : Credited) : Type 0 where
   pub known : IsKnown C c.peer
-  pub some_key : 1 ≤ length c.key.octets
-  pub short_key : length c.key.octets ≤ 128
+  pub named : IsKey c.key
   pub rounded : c.credited ≡ floor (c.named * 10 ^ scale_at C c.peer) (10 ^ c.scale)
-  pub fresh : IsNone (kept_at before c.peer c.key.octets)
+  pub fresh : IsNone (kept_at before c.peer c.key)
 
 abbrev pub IsCredit : Configuration → Entries → What → Type 0
 IsCredit C before (what.Credited c) = IsFreshCredit C before c
@@ -72,10 +75,14 @@ IsGoodCredit C before e = IsCredit C before e.what
 abbrev pub owed_above : ℤ → ℤ → ℤ
 owed_above balance settle_to = int_min (balance -ℤ settle_to) (pos most)
 
--- A settlement is asked for where the peer has none open, from its threshold on.
+-- how many settlements to a peer may be open at once
+abbrev pub most_open_asks : ℕ
+most_open_asks = 1
+
+-- A settlement is asked for from the peer's threshold on, where fewer of its settlements are open than may be.
 pub record IsDueAsk (C : Configuration) (before : Entries) (a : Ask) : Type 0 where
   pub known : IsKnown C a.peer
-  pub none_open : IsNone (open_ask_of before a.peer)
+  pub few_open : open_asks before a.peer < most_open_asks
   pub due : IsSomeAnd (peer_at C a.peer).levels (λ (l : Levels).
       (l.threshold ≤ℤ balance before a.peer) × (pos a.amount ≡ owed_above (balance before a.peer) l.settle_to))
 
@@ -94,24 +101,25 @@ pub record IsInTime (before : Entries) (e : Entry) : Type 0 where
   pub first : pos 0 ≤ℤ e.moment
   pub last : e.moment ≤ℤ last_of_all
 
--- Each balance is at least its least, there is room for whatever closes what is open, and the amounts of the open and the
--- fulfilled holds since the place base keep within what one packet can carry.
-pub record IsWithinLimits (C : Configuration) (base : ℕ) (j : Entries) : Type 0 where
-  pub least : (peer : ℕ) → IsKnown C peer → (peer_at C peer).least ≤ℤ balance j peer
-  pub room : length j + open_count j ≤ C.settings.journal
-  pub totals_in : (asset : ℕ) → total_in (peer_assets C) base j asset ≤ most
-  pub totals_out : (asset : ℕ) → total_out (peer_assets C) base j asset ≤ most
+-- Each balance is at least its least, there is room for whatever ends what is open, and the amounts of the open and the
+-- fulfilled holds since the base keep within what one packet can carry.
+pub record IsWithinLimits (book : PlainBook) : Type 0 where
+  pub least : (peer : ℕ) → IsKnown book.config peer → (peer_at book.config peer).least ≤ℤ balance book.entries peer
+  pub room : length book.entries + open_count book.entries ≤ book.config.settings.journal
+  pub totals_in : (asset : ℕ) → total_in (peer_assets book.config) book.base book.entries asset ≤ most
+  pub totals_out : (asset : ℕ) → total_out (peer_assets book.config) book.base book.entries asset ≤ most
 
 -- ---- journals
 
-pub record IsLawful (C : Configuration) (base : ℕ) (j : Entries) : Type 0 where
-  pub answers : Each AnswersOnce j
-  pub closings : Each ClosesOnce j
-  pub outcomes : Each HasOutcome j
-  pub holds : Each (IsGoodHold C) j
-  pub credits : Each (IsGoodCredit C) j
-  pub asks : Each (IsGoodAsk C) j
-  pub moments : Each IsInTime j
+-- The journal of a book keeps each rule, entry by entry.
+pub record IsLawful (book : PlainBook) : Type 0 where
+  pub answers : Each AnswersOnce book.entries
+  pub closings : Each ClosesOnce book.entries
+  pub outcomes : Each (HasOutcome book.base) book.entries
+  pub holds : Each (IsGoodHold book.config) book.entries
+  pub credits : Each (IsGoodCredit book.config) book.entries
+  pub asks : Each (IsGoodAsk book.config) book.entries
+  pub moments : Each IsInTime book.entries
   -- the limits are kept at first, and after each entry
-  pub empty : IsWithinLimits C base []
-  pub limits : Each (λ before e. IsWithinLimits C base (before ++ e ∷ [])) j
+  pub empty : IsWithinLimits (with_entries book [])
+  pub limits : Each (λ before e. IsWithinLimits (pushed (with_entries book before) e)) book.entries

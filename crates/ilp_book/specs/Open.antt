@@ -1,5 +1,5 @@
 -- What is open in a journal, and which credit is kept in it under a key.
-use Rattle.std.specs.Prelude.{ℕ, ◌+◌, int_lt, Bool, false, ◌&&◌, ◌==◌, List, [], ◌∷◌, Option, Some, None, slice_get, option_and_then, option_map, unwrap_or, if◌then◌else◌}
+use Rattle.std.specs.Prelude.{◌≡◌, ℕ, ◌+◌, ◌≤◌, ◌<ℤ◌, ◌⊎◌, int_lt, Bool, false, ◌&&◌, ◌==◌, List, [], ◌∷◌, Option, Some, None, slice_get, option_and_then, option_map, unwrap_or, if◌then◌else◌}
 use Rattle.std.specs.Str.{bytes_eq}
 use Rattle.ilp_journal.specs.declared.entry.Entry.{Entry}
 use Rattle.ilp_journal.specs.declared.entry.What.{What}
@@ -8,9 +8,14 @@ use Rattle.ilp_journal.specs.declared.entry.Hold.{Hold}
 use Rattle.ilp_journal.specs.declared.entry.Ask.{Ask}
 use Rattle.ilp_journal.specs.declared.entry.Credited.{Credited}
 use Rattle.ilp_journal.specs.Places.{first_from}
-use Rattle.ilp_journal.specs.Journal.{Entries, as_hold, as_ask, ask_at, is_unanswered, is_unclosed, open_hold_at, sum_of_holds}
+use Rattle.ilp_journal.specs.Journal.{Entries, as_hold, as_ask, ask_at, is_unanswered, is_unclosed, open_hold_at}
 
 -- ---- the open hold whose deadline comes first, and of several the first
+
+-- The hold n is open, and of all open holds its deadline comes first; of several of that deadline it has the least number.
+pub record IsEarliest (j : Entries) (n : ℕ) (h : Hold) : Type 0 where
+  pub is_open : open_hold_at j n ≡ Some h
+  pub first : (k : ℕ) (g : Hold) → open_hold_at j k ≡ Some g → (h.deadline <ℤ g.deadline) ⊎ ((h.deadline ≡ g.deadline) × (n ≤ k))
 
 -- the earlier of two holds with their numbers
 abbrev pub earlier : Option (ℕ × Hold) → Option (ℕ × Hold) → Option (ℕ × Hold)
@@ -34,29 +39,17 @@ earliest j = earliest_from (is_unanswered j) 0 j
 abbrev pub open_with_number : Entries → ℕ → Option (ℕ × Hold)
 open_with_number j n = option_map (λ (h : Hold). (n, h)) (open_hold_at j n)
 
--- ---- the open holds of a peer
-
--- 1 for a hold that the peer sent, else 0
-abbrev pub sent_by : ℕ → Hold → ℕ
-sent_by peer h = if h.from == peer then 1 else 0
-
--- how many of the open holds the peer sent
-unfoldable pub open_holds : Entries → ℕ → ℕ
-open_holds j peer = sum_of_holds (is_unanswered j) (sent_by peer) j
-
 -- ---- settlements to peers
-
--- the settlement under a number, if it is open
-abbrev pub open_ask_at : Entries → ℕ → Option Ask
-open_ask_at j n = if is_unclosed j n then ask_at j n else None
 
 -- whether an entry asks for a settlement to the peer
 abbrev pub is_ask_of : ℕ → What → Bool
 is_ask_of peer w = unwrap_or (option_map (λ (a : Ask). a.peer == peer) (as_ask w)) false
 
--- the number of the first open settlement to a peer
-abbrev pub open_ask_of : Entries → ℕ → Option ℕ
-open_ask_of j peer = first_from (λ n (e : Entry). is_ask_of peer e.what && is_unclosed j n) 0 j
+-- the open settlement to a peer that has the least number, with that number
+abbrev pub first_open_ask : Entries → ℕ → Option (ℕ × Ask)
+first_open_ask j peer =
+    option_and_then (λ n. option_map (λ (a : Ask). (n, a)) (ask_at j n))
+    (first_from (λ n (e : Entry). is_ask_of peer e.what && is_unclosed j n) 0 j)
 
 -- ---- settlements from peers
 
@@ -71,7 +64,7 @@ credit_at j n = option_and_then (λ (e : Entry). as_credit e.what) (slice_get j 
 
 -- whether an entry credits the peer under the key
 abbrev pub has_key : ℕ → List ℕ → What → Bool
-has_key peer key w = unwrap_or (option_map (λ (c : Credited). (c.peer == peer) && bytes_eq c.key.octets key) (as_credit w)) false
+has_key peer key w = unwrap_or (option_map (λ (c : Credited). (c.peer == peer) && bytes_eq c.key key) (as_credit w)) false
 
 -- the number of the first credit of a peer under a key
 abbrev pub kept_at : Entries → ℕ → List ℕ → Option ℕ

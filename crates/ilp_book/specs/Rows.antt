@@ -1,26 +1,24 @@
 -- Worked runs of calls, and what they are answered. Alice may owe 100 cents, and bob settles; both have dollars at scale 2.
-use Rattle.std.specs.Prelude.{◌≡◌, ℕ, ◌+◌, pos, negsuc, true, false, List, [], ◌∷◌, replicate, Some, None, Ok, Err, codes, map}
-use Rattle.ilp_oer.specs.Octets as oer
+use Rattle.std.specs.Prelude.{◌≡◌, ℕ, ◌+◌, pos, negsuc, true, false, List, [], ◌∷◌, replicate, Option, Some, None, Ok, Err, codes, map}
 use Rattle.ilp_packet.specs.Packet.{PlainPrepare}
 use Rattle.ilp_assets.specs.declared.quote.QuoteFault.TheVariants as quote_fault
 use Rattle.ilp_accounts.specs.Configuration.{Configuration, PlainPeer, nobody}
 use Rattle.ilp_journal.specs.declared.entry.Entry.{Entry}
 use Rattle.ilp_journal.specs.declared.entry.Cause.{Cause}
 use Rattle.ilp_journal.specs.declared.entry.Cause.TheVariants as cause
-use Rattle.ilp_journal.specs.Journal.{Entries}
+use Rattle.ilp_journal.specs.Journal.{Entries, open_holds}
 use Rattle.ilp_journal.specs.Balance.{balance}
-use Rattle.ilp_book.specs.declared.calls.HoldFault.{HoldFault}
-use Rattle.ilp_book.specs.declared.calls.HoldFault.TheVariants as hold_fault
+use Rattle.ilp_book.specs.declared.fault.HoldFault.{HoldFault}
+use Rattle.ilp_book.specs.declared.fault.HoldFault.TheVariants as hold_fault
 use Rattle.ilp_book.specs.declared.calls.PeerReply.{PeerReply}
 use Rattle.ilp_book.specs.declared.calls.PeerReply.TheVariants as peer_reply
 use Rattle.ilp_book.specs.declared.calls.Outcome.TheVariants as outcome
-use Rattle.ilp_book.specs.declared.calls.CreditFault.TheVariants as credit_fault
-use Rattle.ilp_book.specs.declared.calls.AskFault.TheVariants as ask_fault
-use Rattle.ilp_book.specs.Terms.{meets}
-use Rattle.ilp_book.specs.Open.{open_holds}
-use Rattle.ilp_book.specs.HoldStep.{routed}
-use Rattle.ilp_book.specs.SettleStep.{Quantity}
-use Rattle.ilp_book.specs.Run.{Call, hold, answer, expire, credit, ask, close, Reply, of_hold, of_answer, of_expire, of_credit, of_ask, of_close, Step, replies_to, journal_after}
+use Rattle.ilp_book.specs.declared.fault.CreditFault.TheVariants as credit_fault
+use Rattle.ilp_book.specs.declared.fault.AskFault.TheVariants as ask_fault
+use Rattle.ilp_terms.specs.Condition.{meets}
+use Rattle.ilp_book.specs.Book.{by, granted, new_book}
+use Rattle.ilp_book.specs.SettleStep.{Quantity, accepted, rejected}
+use Rattle.ilp_book.specs.Run.{Call, hold, answer, expire, credit, ask, close, CallReply, of_hold, of_answer, of_expire, of_credit, of_ask, of_close, Step, replies_to, book_after}
 
 -- ---- the peers and the calls
 
@@ -48,9 +46,13 @@ new_year = 1735689600000
 abbrev pub prepare : List ℕ → ℕ → PlainPrepare
 prepare condition amount = record { amount = amount; expires = pos (new_year + 30000); condition = condition; destination = codes "test.bob"; payload = [] }
 
+-- a peer sends it, and it is routed to a peer or to none
+abbrev pub sends : ℕ → PlainPrepare → Option ℕ → Call
+sends from packet route = hold (record { from = from; packet = packet; route = route })
+
 -- alice sends it to bob
 abbrev pub pay : List ℕ → ℕ → Call
-pay condition amount = hold 0 (routed (prepare condition amount) (Some 1))
+pay condition amount = sends 0 (prepare condition amount) (Some 1)
 
 -- the preimage of 32 zeros
 abbrev pub zeros : PeerReply
@@ -60,114 +62,117 @@ zeros = peer_reply.Fulfil (replicate 32 0)
 abbrev pub cents : ℕ → Quantity
 cents n = record { amount = n; scale = 2 }
 
-abbrev pub key : oer.Held
-key = record { octets = codes "k"; spare = 0 }
+-- a peer settles so much under the key k
+abbrev pub settles : ℕ → Quantity → Call
+settles peer quantity = credit (record { peer = peer; key = codes "k"; quantity = quantity })
 
 -- a call so many milliseconds after the new year
 abbrev pub at_ : ℕ → Call → Step
-at_ n call = record { actor = 0; call = call; now = pos (new_year + n); refused = false }
+at_ n call = record { caller = by 0 (pos (new_year + n)); call = call; growth = granted }
 
-abbrev pub told : Configuration → List Step → List Reply
-told C steps = replies_to C 0 [] steps
+-- what steps on a new book are answered
+abbrev pub answers_of : Configuration → List Step → List CallReply
+answers_of C steps = replies_to (new_book C) steps
 
-abbrev pub left : Configuration → List Step → Entries
-left C steps = journal_after C 0 [] steps
+-- what they leave in its journal
+abbrev pub entries_of : Configuration → List Step → Entries
+entries_of C steps = (book_after (new_book C) steps).entries
 
 -- ---- the replies
 
-abbrev pub held_as : ℕ → ℕ → Reply
-held_as number out = of_hold (Ok (record { number = number; to = 1; out = out; deadline = pos (new_year + 29000) }))
+abbrev pub accepted_as : ℕ → ℕ → CallReply
+accepted_as number out = of_hold (Ok (record { number = number; to = 1; out = out; deadline = pos (new_year + 29000) }))
 
-abbrev pub refused_for : HoldFault → Reply
+abbrev pub refused_for : HoldFault → CallReply
 refused_for fault = of_hold (Err fault)
 
-abbrev pub fulfilled_by : ℕ → Reply
+abbrev pub fulfilled_by : ℕ → CallReply
 fulfilled_by n = of_answer (Ok (outcome.Fulfilled n))
 
-abbrev pub released_by : ℕ → Cause → Reply
+abbrev pub released_by : ℕ → Cause → CallReply
 released_by n c = of_answer (Ok (outcome.Released n c))
 
-abbrev pub not_open : ℕ → Reply
+abbrev pub not_open : ℕ → CallReply
 not_open closer = of_answer (Err (record { closer = Some closer }))
 
 -- ---- the runs; c is any condition that 32 zeros meet
 
 -- a payment of 100 cents
 pub record PaidRow (c : List ℕ) : Type 0 where
-  pub replies : told (between alice bob) (at_ 0 (pay c 100) ∷ at_ 500 (answer 0 zeros) ∷ []) ≡ held_as 0 100 ∷ fulfilled_by 1 ∷ []
-  pub alice_has : balance (left (between alice bob) (at_ 0 (pay c 100) ∷ at_ 500 (answer 0 zeros) ∷ [])) 0 ≡ negsuc 99
-  pub bob_has : balance (left (between alice bob) (at_ 0 (pay c 100) ∷ at_ 500 (answer 0 zeros) ∷ [])) 1 ≡ pos 100
-  pub open_before : open_holds (left (between alice bob) (at_ 0 (pay c 100) ∷ [])) 0 ≡ 1
-  pub open_of_bob : open_holds (left (between alice bob) (at_ 0 (pay c 100) ∷ [])) 1 ≡ 0
-  pub open_after : open_holds (left (between alice bob) (at_ 0 (pay c 100) ∷ at_ 500 (answer 0 zeros) ∷ [])) 0 ≡ 0
+  pub replies : answers_of (between alice bob) (at_ 0 (pay c 100) ∷ at_ 500 (answer 0 zeros) ∷ []) ≡ accepted_as 0 100 ∷ fulfilled_by 1 ∷ []
+  pub alice_has : balance (entries_of (between alice bob) (at_ 0 (pay c 100) ∷ at_ 500 (answer 0 zeros) ∷ [])) 0 ≡ negsuc 99
+  pub bob_has : balance (entries_of (between alice bob) (at_ 0 (pay c 100) ∷ at_ 500 (answer 0 zeros) ∷ [])) 1 ≡ pos 100
+  pub open_before : open_holds (entries_of (between alice bob) (at_ 0 (pay c 100) ∷ [])) 0 ≡ 1
+  pub open_of_bob : open_holds (entries_of (between alice bob) (at_ 0 (pay c 100) ∷ [])) 1 ≡ 0
+  pub open_after : open_holds (entries_of (between alice bob) (at_ 0 (pay c 100) ∷ at_ 500 (answer 0 zeros) ∷ [])) 0 ≡ 0
 
 -- a fulfillment counts until the deadline, and not from there on
 pub record LateRow (c : List ℕ) : Type 0 where
-  pub before : told (between alice bob) (at_ 0 (pay c 100) ∷ at_ 28999 (answer 0 zeros) ∷ []) ≡ held_as 0 100 ∷ fulfilled_by 1 ∷ []
-  pub from_then_on : told (between alice bob) (at_ 0 (pay c 100) ∷ at_ 29000 (answer 0 zeros) ∷ []) ≡ held_as 0 100 ∷ released_by 1 cause.Late ∷ []
+  pub before : answers_of (between alice bob) (at_ 0 (pay c 100) ∷ at_ 28999 (answer 0 zeros) ∷ []) ≡ accepted_as 0 100 ∷ fulfilled_by 1 ∷ []
+  pub from_then_on : answers_of (between alice bob) (at_ 0 (pay c 100) ∷ at_ 29000 (answer 0 zeros) ∷ []) ≡ accepted_as 0 100 ∷ released_by 1 cause.Late ∷ []
 
 -- what releases a hold before its deadline
 pub record ReleasedRow (c : List ℕ) : Type 0 where
-  pub wrong : meets c (replicate 32 0) ≡ false → told (between alice bob) (at_ 0 (pay c 100) ∷ at_ 1 (answer 0 zeros) ∷ []) ≡ held_as 0 100 ∷ released_by 1 cause.WrongPreimage ∷ []
-  pub known_wrong : told (between alice bob) (at_ 0 (pay c 100) ∷ at_ 1 (answer 0 peer_reply.BadFulfil) ∷ []) ≡ held_as 0 100 ∷ released_by 1 cause.WrongPreimage ∷ []
-  pub rejected : told (between alice bob) (at_ 0 (pay c 100) ∷ at_ 1 (answer 0 (peer_reply.Reject (codes "F99"))) ∷ []) ≡ held_as 0 100 ∷ released_by 1 (cause.Peer (codes "F99")) ∷ []
-  pub unanswered : told (between alice bob) (at_ 0 (pay c 100) ∷ at_ 1 (answer 0 peer_reply.NoReply) ∷ []) ≡ held_as 0 100 ∷ released_by 1 cause.NoReply ∷ []
-  pub once : told (between alice bob) (at_ 0 (pay c 100) ∷ at_ 1 (answer 0 peer_reply.NoReply) ∷ at_ 2 (answer 0 zeros) ∷ []) ≡ held_as 0 100 ∷ released_by 1 cause.NoReply ∷ not_open 1 ∷ []
-  pub given_back : balance (left (between alice bob) (at_ 0 (pay c 100) ∷ at_ 1 (answer 0 peer_reply.NoReply) ∷ [])) 0 ≡ pos 0
-  pub no_hold : told (between alice bob) (at_ 0 (answer 0 zeros) ∷ []) ≡ of_answer (Err (record { closer = None })) ∷ []
+  pub wrong : meets c (replicate 32 0) ≡ false → answers_of (between alice bob) (at_ 0 (pay c 100) ∷ at_ 1 (answer 0 zeros) ∷ []) ≡ accepted_as 0 100 ∷ released_by 1 cause.WrongPreimage ∷ []
+  pub known_wrong : answers_of (between alice bob) (at_ 0 (pay c 100) ∷ at_ 1 (answer 0 peer_reply.BadFulfil) ∷ []) ≡ accepted_as 0 100 ∷ released_by 1 cause.WrongPreimage ∷ []
+  pub rejected : answers_of (between alice bob) (at_ 0 (pay c 100) ∷ at_ 1 (answer 0 (peer_reply.Reject (codes "F99"))) ∷ []) ≡ accepted_as 0 100 ∷ released_by 1 (cause.Peer (codes "F99")) ∷ []
+  pub unanswered : answers_of (between alice bob) (at_ 0 (pay c 100) ∷ at_ 1 (answer 0 peer_reply.NoReply) ∷ []) ≡ accepted_as 0 100 ∷ released_by 1 cause.NoReply ∷ []
+  pub once : answers_of (between alice bob) (at_ 0 (pay c 100) ∷ at_ 1 (answer 0 peer_reply.NoReply) ∷ at_ 2 (answer 0 zeros) ∷ []) ≡ accepted_as 0 100 ∷ released_by 1 cause.NoReply ∷ not_open 1 ∷ []
+  pub given_back : balance (entries_of (between alice bob) (at_ 0 (pay c 100) ∷ at_ 1 (answer 0 peer_reply.NoReply) ∷ [])) 0 ≡ pos 0
+  pub no_hold : answers_of (between alice bob) (at_ 0 (answer 0 zeros) ∷ []) ≡ of_answer (Err (record { closer = None })) ∷ []
 
 -- an expiry takes a hold from its deadline on, and then no answer does
 abbrev pub ExpiredRow : List ℕ → Type 0
 ExpiredRow c =
-    told (between alice bob) (at_ 0 (pay c 100) ∷ at_ 28999 expire ∷ at_ 29000 expire ∷ at_ 29000 (answer 0 zeros) ∷ at_ 29000 expire ∷ [])
-    ≡ held_as 0 100 ∷ of_expire None ∷ of_expire (Some 0) ∷ not_open 1 ∷ of_expire None ∷ []
+    answers_of (between alice bob) (at_ 0 (pay c 100) ∷ at_ 28999 expire ∷ at_ 29000 expire ∷ at_ 29000 (answer 0 zeros) ∷ at_ 29000 expire ∷ [])
+    ≡ accepted_as 0 100 ∷ of_expire None ∷ of_expire (Some 0) ∷ not_open 1 ∷ of_expire None ∷ []
 
 -- the least balance is looked for after the amount is taken off
 abbrev pub LeastRow : List ℕ → Type 0
-LeastRow c = told (between alice bob) (at_ 0 (pay c 100) ∷ at_ 0 (pay c 1) ∷ []) ≡ held_as 0 100 ∷ refused_for (hold_fault.BelowLeast (negsuc 99)) ∷ []
+LeastRow c = answers_of (between alice bob) (at_ 0 (pay c 100) ∷ at_ 0 (pay c 1) ∷ []) ≡ accepted_as 0 100 ∷ refused_for (hold_fault.BelowLeast (negsuc 99)) ∷ []
 
 -- what refuses a Prepare by its terms
 pub record TermsRow (c : List ℕ) : Type 0 where
-  pub too_large : told (between (record alice { max_packet = 10 }) bob) (at_ 0 (pay c 11) ∷ at_ 0 (pay c 10) ∷ []) ≡ refused_for (hold_fault.AmountTooLarge 10) ∷ held_as 0 10 ∷ []
-  pub no_route : told (between alice bob) (at_ 0 (hold 0 (routed (prepare c 1) None)) ∷ []) ≡ refused_for hold_fault.NoRoute ∷ []
-  pub back : told (between alice bob) (at_ 0 (hold 1 (routed (prepare c 1) (Some 1))) ∷ []) ≡ refused_for hold_fault.BackToSender ∷ []
-  pub in_time : told (between alice bob) (at_ 28999 (pay c 100) ∷ []) ≡ held_as 0 100 ∷ []
-  pub too_short : told (between alice bob) (at_ 29000 (pay c 100) ∷ []) ≡ refused_for hold_fault.TooShort ∷ []
-  pub expired : told (between alice bob) (at_ 30000 (pay c 100) ∷ []) ≡ refused_for hold_fault.Expired ∷ []
-  pub nothing_left : told (between (record alice { fee_ppm = 1 }) bob) (at_ 0 (pay c 1) ∷ []) ≡ refused_for (hold_fault.Quote quote_fault.RoundsToNothing) ∷ []
+  pub too_large : answers_of (between (record alice { max_packet = 10 }) bob) (at_ 0 (pay c 11) ∷ at_ 0 (pay c 10) ∷ []) ≡ refused_for (hold_fault.AmountTooLarge 10) ∷ accepted_as 0 10 ∷ []
+  pub no_route : answers_of (between alice bob) (at_ 0 (sends 0 (prepare c 1) None) ∷ []) ≡ refused_for hold_fault.NoRoute ∷ []
+  pub back : answers_of (between alice bob) (at_ 0 (sends 1 (prepare c 1) (Some 1)) ∷ []) ≡ refused_for hold_fault.BackToSender ∷ []
+  pub in_time : answers_of (between alice bob) (at_ 28999 (pay c 100) ∷ []) ≡ accepted_as 0 100 ∷ []
+  pub too_short : answers_of (between alice bob) (at_ 29000 (pay c 100) ∷ []) ≡ refused_for hold_fault.TooShort ∷ []
+  pub expired : answers_of (between alice bob) (at_ 30000 (pay c 100) ∷ []) ≡ refused_for hold_fault.Expired ∷ []
+  pub nothing_left : answers_of (between (record alice { fee_ppm = 1 }) bob) (at_ 0 (pay c 1) ∷ []) ≡ refused_for (hold_fault.Quote quote_fault.RoundsToNothing) ∷ []
   -- the first of several is told
-  pub first : told (between (record alice { max_packet = 10 }) bob) (at_ 30000 (hold 0 (routed (prepare c 11) None)) ∷ at_ 30000 (hold 0 (routed (prepare c 10) None)) ∷ [])
+  pub first : answers_of (between (record alice { max_packet = 10 }) bob) (at_ 30000 (sends 0 (prepare c 11) None) ∷ at_ 30000 (sends 0 (prepare c 10) None) ∷ [])
       ≡ refused_for (hold_fault.AmountTooLarge 10) ∷ refused_for hold_fault.NoRoute ∷ []
 
 -- the open holds of an asset come to what one packet carries, and no more
 abbrev pub TotalRow : List ℕ → Type 0
 TotalRow c =
-    told (between alice bob) (at_ 0 (credit 0 key (cents 18446744073709551615)) ∷ at_ 0 (pay c 18446744073709551615) ∷ at_ 0 (pay c 1) ∷ [])
-    ≡ of_credit (Ok (record { number = 0; amount = 18446744073709551615; fresh = true })) ∷ held_as 1 18446744073709551615 ∷ refused_for hold_fault.TotalFull ∷ []
+    answers_of (between alice bob) (at_ 0 (settles 0 (cents 18446744073709551615)) ∷ at_ 0 (pay c 18446744073709551615) ∷ at_ 0 (pay c 1) ∷ [])
+    ≡ of_credit (Ok (record { number = 0; amount = 18446744073709551615; fresh = true })) ∷ accepted_as 1 18446744073709551615 ∷ refused_for hold_fault.TotalFull ∷ []
 
 -- a journal of three entries takes one hold, and what closes it
 abbrev pub FullRow : List ℕ → Type 0
 FullRow c =
     let C = between alice bob in
-    told (record C { settings = record C.settings { journal = 3 } }) (at_ 0 (pay c 1) ∷ at_ 0 (pay c 1) ∷ at_ 29000 expire ∷ at_ 29000 (credit 1 key (cents 1)) ∷ at_ 29000 (credit 0 key (cents 1)) ∷ [])
-    ≡ held_as 0 1 ∷ refused_for hold_fault.Full ∷ of_expire (Some 0) ∷ of_credit (Ok (record { number = 2; amount = 1; fresh = true })) ∷ of_credit (Err credit_fault.Full) ∷ []
+    answers_of (record C { settings = record C.settings { journal = 3 } }) (at_ 0 (pay c 1) ∷ at_ 0 (pay c 1) ∷ at_ 29000 expire ∷ at_ 29000 (settles 1 (cents 1)) ∷ at_ 29000 (settles 0 (cents 1)) ∷ [])
+    ≡ accepted_as 0 1 ∷ refused_for hold_fault.Full ∷ of_expire (Some 0) ∷ of_credit (Ok (record { number = 2; amount = 1; fresh = true })) ∷ of_credit (Err credit_fault.Full) ∷ []
 
 -- an older time is the last entry's moment
 abbrev pub OlderRow : List ℕ → Type 0
 OlderRow c =
-    map (λ (e : Entry). e.moment) (left (between alice bob) (at_ 500 (pay c 1) ∷ at_ 0 (pay c 1) ∷ at_ 501 (pay c 1) ∷ []))
+    map (λ (e : Entry). e.moment) (entries_of (between alice bob) (at_ 500 (pay c 1) ∷ at_ 0 (pay c 1) ∷ at_ 501 (pay c 1) ∷ []))
     ≡ pos (new_year + 500) ∷ pos (new_year + 500) ∷ pos (new_year + 501) ∷ []
 
 -- a key is credited once
 abbrev pub CreditedRow : Type 0
 CreditedRow =
-    let large = credit 0 key (record { amount = 1999999999; scale = 9 }) in
-    told (between alice bob) (at_ 0 large ∷ at_ 0 large ∷ at_ 0 (credit 0 key (cents 5)) ∷ [])
+    let large = settles 0 (record { amount = 1999999999; scale = 9 }) in
+    answers_of (between alice bob) (at_ 0 large ∷ at_ 0 large ∷ at_ 0 (settles 0 (cents 5)) ∷ [])
     ≡ of_credit (Ok (record { number = 0; amount = 199; fresh = true })) ∷ of_credit (Ok (record { number = 0; amount = 199; fresh = false })) ∷ of_credit (Err (credit_fault.KeyTaken 0)) ∷ []
 
 -- what bob is owed above 200 cents is asked for once, from 1000 cents on
 abbrev pub SettledRow : Type 0
 SettledRow =
-    told (between alice bob) (at_ 0 (credit 1 key (cents 1000)) ∷ at_ 0 (ask 1) ∷ at_ 0 (ask 1) ∷ at_ 0 (close 1 false) ∷ at_ 0 (close 1 true) ∷ at_ 0 (ask 0) ∷ [])
+    answers_of (between alice bob) (at_ 0 (settles 1 (cents 1000)) ∷ at_ 0 (ask 1) ∷ at_ 0 (ask 1) ∷ at_ 0 (close 1 rejected) ∷ at_ 0 (close 1 accepted) ∷ at_ 0 (ask 0) ∷ [])
     ≡ of_credit (Ok (record { number = 0; amount = 1000; fresh = true })) ∷ of_ask (Ok (record { number = 1; amount = 800 })) ∷ of_ask (Err (ask_fault.StillOpen 1 800))
     ∷ of_close (Ok 2) ∷ of_close (Err (record { closer = Some 2 })) ∷ of_ask (Err (ask_fault.NotDue (pos 0))) ∷ []

@@ -1,27 +1,26 @@
 -- Settlements from peers, which are credited, and to peers, which are asked for and closed. Refusals stand in their order.
 use Rattle.std.specs.Prelude.{ℕ, ◌*◌, ◌^◌, ℤ, int_le, nat_abs, Bool, true, false, not, ◌&&◌, ◌==◌, List, length, nat_lt, Option, Some, None, Result, Ok, Err, option_and_then, option_map, if◌then◌else◌}
-use Rattle.ilp_order.specs.Refusals.{◌>>=◌, refuse_if, found_or}
-use Rattle.ilp_oer.specs.Octets as oer
+use Rattle.ilp_order.specs.Refusals.{◌>>=◌, refuse_if, refuse_some, found_or}
 use Rattle.ilp_assets.specs.Quote.{floor, most}
 use Rattle.ilp_accounts.specs.declared.peer.Levels.{Levels}
 use Rattle.ilp_accounts.specs.Configuration.{Configuration, peer_at}
+use Rattle.ilp_journal.specs.declared.entry.What.{What}
 use Rattle.ilp_journal.specs.declared.entry.What.TheVariants as what
 use Rattle.ilp_journal.specs.declared.entry.Ask.{Ask}
 use Rattle.ilp_journal.specs.declared.entry.Credited.{Credited}
-use Rattle.ilp_journal.specs.Journal.{Entries, ask_at, closing_of}
+use Rattle.ilp_journal.specs.Journal.{Entries, closing_of, open_ask_at, open_asks}
 use Rattle.ilp_journal.specs.Balance.{balance}
 use Rattle.ilp_book.specs.declared.calls.Kept.{Kept}
-use Rattle.ilp_book.specs.declared.calls.CreditFault.{CreditFault}
-use Rattle.ilp_book.specs.declared.calls.CreditFault.TheVariants as credit_fault
+use Rattle.ilp_book.specs.declared.fault.CreditFault.{CreditFault}
+use Rattle.ilp_book.specs.declared.fault.CreditFault.TheVariants as credit_fault
 use Rattle.ilp_book.specs.declared.calls.Asked.{Asked}
-use Rattle.ilp_book.specs.declared.calls.AskFault.{AskFault}
-use Rattle.ilp_book.specs.declared.calls.AskFault.TheVariants as ask_fault
-use Rattle.ilp_book.specs.declared.calls.NotOpen.{NotOpen}
+use Rattle.ilp_book.specs.declared.fault.AskFault.{AskFault}
+use Rattle.ilp_book.specs.declared.fault.AskFault.TheVariants as ask_fault
+use Rattle.ilp_book.specs.declared.fault.NotOpen.{NotOpen}
 use Rattle.ilp_book.specs.Configured.{scale_at}
-use Rattle.ilp_book.specs.Terms.{moment_at}
-use Rattle.ilp_book.specs.Open.{open_ask_at, open_ask_of, credit_at, kept_at}
-use Rattle.ilp_book.specs.Lawful.{owed_above}
-use Rattle.ilp_book.specs.Made.{Made, has_room}
+use Rattle.ilp_book.specs.Book.{PlainBook, By, Growth, granted, denied, Made, says, books, has_room}
+use Rattle.ilp_book.specs.Open.{first_open_ask, credit_at, kept_at}
+use Rattle.ilp_book.specs.Lawful.{most_open_asks, owed_above}
 
 -- ---- credits
 
@@ -44,42 +43,47 @@ credit_kept q (n, c) =
     if (c.named == q.amount) && (c.scale == q.scale) then Ok (record { number = n; amount = c.credited; fresh = false })
     else Err (credit_fault.KeyTaken n)
 
+-- a settlement of a peer, under its key
+pub record Payment : Type 0 where
+  pub peer : ℕ
+  pub key : List ℕ
+  pub quantity : Quantity
+
+-- what a payment adds to its peer's balance
+abbrev pub amount_of : Configuration → Payment → ℕ
+amount_of C p = credited_at p.quantity (scale_at C p.peer)
+
 -- the new credit, if none is kept and there is room
-abbrev pub credit_fresh : Configuration → Entries → ℕ → oer.Held → Quantity → Option (ℕ × Credited) → Result Credited (Result Kept CreditFault)
-credit_fresh C j peer key q (Some c) = Err (credit_kept q c)
-credit_fresh C j peer key q None = do
-  _ ← refuse_if (not (has_room C j 1)) (Err credit_fault.Full)
-  Ok (record { peer = peer; key = key; named = q.amount; scale = q.scale; credited = credited_at q (scale_at C peer) })
+abbrev pub credit_fresh : PlainBook → Payment → Option (ℕ × Credited) → Result Credited (Result Kept CreditFault)
+credit_fresh book p (Some c) = Err (credit_kept p.quantity c)
+credit_fresh book p None = do
+  _ ← refuse_if (not (has_room book 1)) (Err credit_fault.Full)
+  Ok (record { peer = p.peer; key = p.key; named = p.quantity.amount; scale = p.quantity.scale; credited = amount_of book.config p })
 
 -- the new credit, or the reply where none is made
-unfoldable pub credit_made : Configuration → Entries → ℕ → oer.Held → Quantity → Result Credited (Result Kept CreditFault)
-credit_made C j peer key q = do
-  _ ← refuse_if (nat_lt most (credited_at q (scale_at C peer))) (Err credit_fault.TooLarge)
-  credit_fresh C j peer key q (kept j peer key.octets)
+unfoldable pub credit_checked : PlainBook → Payment → Result Credited (Result Kept CreditFault)
+credit_checked book p = do
+  _ ← refuse_if (nat_lt most (amount_of book.config p)) (Err credit_fault.TooLarge)
+  credit_fresh book p (kept book.entries p.peer p.key)
 
 -- Want of memory comes last, and only where an entry would have been appended.
-abbrev pub credit_told : Entries → ℕ → ℤ → Bool → Result Credited (Result Kept CreditFault) → Made (Result Kept CreditFault)
-credit_told j actor m refused (Err reply) = record { reply = reply; entry = None }
-credit_told j actor m true (Ok c) = record { reply = Err credit_fault.Memory; entry = None }
-credit_told j actor m false (Ok c) = record {
-  reply = Ok (record { number = length j; amount = c.credited; fresh = true });
-  entry = Some (record { moment = m; actor = actor; what = what.Credited c });
-}
+abbrev pub credit_booked : PlainBook → By → Growth → Result Credited (Result Kept CreditFault) → Made (Result Kept CreditFault)
+credit_booked book caller growth (Err reply) = says reply
+credit_booked book caller denied (Ok c) = says (Err credit_fault.Memory)
+credit_booked book caller granted (Ok c) =
+    books book caller (Ok (record { number = length book.entries; amount = c.credited; fresh = true })) (what.Credited c)
 
 -- a settlement from a peer, under a key that the journal keeps
-unfoldable pub credit_step : Configuration → Entries → ℕ → ℕ → oer.Held → Quantity → ℤ → Bool → Made (Result Kept CreditFault)
-credit_step C j actor peer key q now refused = credit_told j actor (moment_at j now) refused (credit_made C j peer key q)
+unfoldable pub credit_step : PlainBook → By → Payment → Growth → Made (Result Kept CreditFault)
+credit_step book caller p growth = credit_booked book caller growth (credit_checked book p)
 
 -- ---- asks
 
--- the open settlement of a peer, with its number
-abbrev pub still_open : Entries → ℕ → Option (ℕ × Ask)
-still_open j peer = option_and_then (λ n. option_map (λ (a : Ask). (n, a)) (ask_at j n)) (open_ask_of j peer)
-
--- a refusal where a settlement is open
-abbrev pub none_open : Option (ℕ × Ask) → Result (Unit {0}) AskFault
-none_open None = Ok tt
-none_open (Some (n, a)) = Err (ask_fault.StillOpen n a.amount)
+-- the refusal where as many settlements to a peer are open as may be: it names the first of them
+abbrev pub still_open : Entries → ℕ → Option AskFault
+still_open j peer =
+    if nat_lt (open_asks j peer) most_open_asks then None
+    else option_map (λ (x : ℕ × Ask). ask_fault.StillOpen x.0 x.1.amount) (first_open_ask j peer)
 
 -- what is asked for, where the balance is at the threshold
 abbrev pub due_amount : ℤ → Option Levels → Option ℕ
@@ -87,39 +91,42 @@ due_amount balance None = None
 due_amount balance (Some l) = if int_le l.threshold balance then Some (nat_abs (owed_above balance l.settle_to)) else None
 
 -- the settlement that is asked for, or the first refusal
-unfoldable pub ask_made : Configuration → Entries → ℕ → Result Ask AskFault
-ask_made C j peer = do
-  _ ← none_open (still_open j peer)
-  amount ← found_or (due_amount (balance j peer) (peer_at C peer).levels) (ask_fault.NotDue (balance j peer))
-  _ ← refuse_if (not (has_room C j 2)) ask_fault.Full
+unfoldable pub ask_checked : PlainBook → ℕ → Result Ask AskFault
+ask_checked book peer = do
+  let owed = balance book.entries peer
+  _ ← refuse_some (still_open book.entries peer)
+  amount ← found_or (due_amount owed (peer_at book.config peer).levels) (ask_fault.NotDue owed)
+  _ ← refuse_if (not (has_room book 2)) ask_fault.Full
   Ok (record { peer = peer; amount = amount })
 
 -- Want of memory comes last, and only where an entry would have been appended.
-abbrev pub ask_told : Entries → ℕ → ℤ → Bool → Result Ask AskFault → Made (Result Asked AskFault)
-ask_told j actor m refused (Err fault) = record { reply = Err fault; entry = None }
-ask_told j actor m true (Ok a) = record { reply = Err ask_fault.Memory; entry = None }
-ask_told j actor m false (Ok a) = record {
-  reply = Ok (record { number = length j; amount = a.amount });
-  entry = Some (record { moment = m; actor = actor; what = what.Asked a });
-}
+abbrev pub ask_booked : PlainBook → By → Growth → Result Ask AskFault → Made (Result Asked AskFault)
+ask_booked book caller growth (Err fault) = says (Err fault)
+ask_booked book caller denied (Ok a) = says (Err ask_fault.Memory)
+ask_booked book caller granted (Ok a) =
+    books book caller (Ok (record { number = length book.entries; amount = a.amount })) (what.Asked a)
 
 -- a settlement to a peer
-unfoldable pub ask_step : Configuration → Entries → ℕ → ℕ → ℤ → Bool → Made (Result Asked AskFault)
-ask_step C j actor peer now refused = ask_told j actor (moment_at j now) refused (ask_made C j peer)
+unfoldable pub ask_step : PlainBook → By → ℕ → Growth → Made (Result Asked AskFault)
+ask_step book caller peer growth = ask_booked book caller growth (ask_checked book peer)
 
 -- ---- closings
 
-abbrev pub close_told : Entries → ℕ → ℕ → Bool → ℤ → Option Ask → Made (Result ℕ NotOpen)
-close_told j actor n accepted m None = record { reply = Err (record { closer = closing_of j n }); entry = None }
-close_told j actor n true m (Some a) = record {
-  reply = Ok (length j);
-  entry = Some (record { moment = m; actor = actor; what = what.Confirmed n });
-}
-close_told j actor n false m (Some a) = record {
-  reply = Ok (length j);
-  entry = Some (record { moment = m; actor = actor; what = what.Undone n });
-}
+-- what an engine says of a settlement: it was made, or it was refused
+pub data EngineVerdict : Type 0 where
+  accepted : EngineVerdict
+  rejected : EngineVerdict
 
--- what became of the settlement n: it was made, or it was refused
-unfoldable pub close_step : Entries → ℕ → ℕ → Bool → ℤ → Made (Result ℕ NotOpen)
-close_step j actor n accepted now = close_told j actor n accepted (moment_at j now) (open_ask_at j n)
+-- what is booked of its verdict on the settlement n
+abbrev pub closing_of_verdict : ℕ → EngineVerdict → What
+closing_of_verdict n accepted = what.Confirmed n
+closing_of_verdict n rejected = what.Undone n
+
+-- what a verdict on the settlement n makes, if that is open
+abbrev pub close_booked : PlainBook → By → ℕ → EngineVerdict → Option Ask → Made (Result ℕ NotOpen)
+close_booked book caller n verdict None = says (Err (record { closer = closing_of book.entries n }))
+close_booked book caller n verdict (Some a) = books book caller (Ok (length book.entries)) (closing_of_verdict n verdict)
+
+-- what became of the settlement n
+unfoldable pub close_step : PlainBook → By → ℕ → EngineVerdict → Made (Result ℕ NotOpen)
+close_step book caller n verdict = close_booked book caller n verdict (open_ask_at book.entries n)

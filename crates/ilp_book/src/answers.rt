@@ -2,37 +2,27 @@
 ghost use Rattle.std.specs.Prelude.{◌≡◌, slice_get, option_and_then, is_some};
 ghost use Rattle.ilp_journal.specs.declared.entry.Entry.{Entry};
 ghost use Rattle.ilp_journal.specs.Places.{Each};
-ghost use Rattle.ilp_journal.specs.Journal.{AnswersOnce, hold_at, answer_of, open_hold_at, answered, is_number};
-ghost use Rattle.ilp_book.specs.Terms.{meets};
+ghost use Rattle.ilp_journal.specs.Journal.{AnswersOnce, answer_of, open_hold_at, answered, is_number};
 ghost use Rattle.ilp_book.specs.Open.{earlier, earliest, open_with_number};
 ghost use Rattle.ilp_book.specs.AnswerStep.{verdict};
 
 use crate::calls::PeerReply;
-use ilp_journal::{Cause, Hold, Journal, What};
+use ilp_journal::{Cause, Hold, Journal};
+use ilp_terms::meets;
 use std::alloc::Allocator;
 
-// The hold under a number, if it is open.
+/// The hold under a number, if it is open.
 pub(crate) fn open_hold_at<A: Allocator>(journal: &Journal<A>, number: u32) -> Option<Hold>
     requires { Each AnswersOnce journal.now.entries }
     ensures { result ≡ open_hold_at journal.now.entries number }
 {
-    let Some(hold) = hold_at(journal, number) else {
+    let Some(hold) = journal.hold(number) else {
         return None;
     };
     if is_answered(journal, number) {
         return None;
     }
     Some(hold)
-}
-
-// The hold under a number.
-pub(crate) fn hold_at<A: Allocator>(journal: &Journal<A>, number: u32) -> Option<Hold>
-    ensures { result ≡ hold_at journal.now.entries number }
-{
-    match &journal.get(number)?.what {
-        What::Hold(hold) => Some(*hold),
-        _ => None,
-    }
 }
 
 // Whether an entry answers the hold of a number. Such an entry stands after the hold.
@@ -54,7 +44,7 @@ fn answers<A: Allocator>(journal: &Journal<A>, place: u32, number: u32) -> bool
         (option_and_then (λ (e : Entry). answered e.what) (slice_get journal.now.entries place)) }
 {
     match journal.get(place) {
-        Some(entry) => match answered(&entry.what) {
+        Some(entry) => match entry.what.answered() {
             Some(hold) => number == hold,
             None => false,
         },
@@ -62,17 +52,7 @@ fn answers<A: Allocator>(journal: &Journal<A>, place: u32, number: u32) -> bool
     }
 }
 
-// The number of the hold that an entry answers.
-pub(crate) fn answered(what: &What) -> Option<u32>
-    ensures { result ≡ answered what.now }
-{
-    match what {
-        What::Fulfilled { hold, .. } | What::Released { hold, .. } => Some(*hold),
-        _ => None,
-    }
-}
-
-// The open hold of least deadline, and of several the first, with its number.
+/// The open hold of least deadline, and of several the first, with its number.
 pub(crate) fn earliest_open<A: Allocator>(journal: &Journal<A>) -> Option<(u32, Hold)>
     requires { Each AnswersOnce journal.now.entries }
     ensures { result ≡ earliest journal.now.entries }
@@ -111,7 +91,7 @@ fn earlier(first: Option<(u32, Hold)>, second: Option<(u32, Hold)>) -> Option<(u
     first
 }
 
-// The preimage that fulfills a hold, or the cause of its release. Lateness is seen first.
+/// The preimage that fulfills a hold, or the cause of its release. Lateness is seen first.
 #[tactic(auto, unfolding(crate::specs::AnswerStep::verdict))]
 pub(crate) fn verdict(hold: &Hold, moment: i64, reply: PeerReply) -> Result<[u8; 32], Cause>
     ensures { result ≡ verdict hold.now moment reply }
@@ -129,11 +109,4 @@ pub(crate) fn verdict(hold: &Hold, moment: i64, reply: PeerReply) -> Result<[u8;
         return Err(Cause::WrongPreimage);
     }
     Ok(preimage)
-}
-
-// Whether the preimage fulfills the condition.
-fn meets(condition: &[u8; 32], preimage: &[u8; 32]) -> bool
-    ensures { result ≡ meets condition.now preimage.now }
-{
-    ilp_terms::meets(condition, preimage)
 }

@@ -1,37 +1,39 @@
 //! The book: what was booked by a configuration, and the calls that book more.
-ghost use Rattle.std.specs.Prelude.{◌≡◌, ℕ, ◌^◌, ◌≤◌, pos, ◌≤ℤ◌, ◌+ℤ◌, ◌-ℤ◌, int_lt, [], ◌∷◌, ◌++◌, length, Option, IfOk, OnErr, IsSome, Some, slice_get};
+ghost use Rattle.std.specs.Prelude.{◌≡◌, ℕ, ◌^◌, ◌<◌, ◌≤◌, pos, ◌≤ℤ◌, ◌+ℤ◌, ◌-ℤ◌, int_lt, length, Option, IfOk, OnErr, IsSome, slice_get};
 ghost use Rattle.std.specs.Option.{option_copied};
+ghost use Rattle.ilp_terms.specs.Expiry.{last_of_all};
 ghost use Rattle.ilp_lookup.specs.Route.{IsRoute};
 ghost use Rattle.ilp_packet.specs.Packet.{plain_prepare};
 ghost use Rattle.ilp_accounts.specs.Configuration.{peer_at};
 ghost use Rattle.ilp_accounts.specs.Valid.{IsValid};
-ghost use Rattle.ilp_journal.specs.Journal.{answered, last_moment};
+ghost use Rattle.ilp_journal.specs.Journal.{answered, last_moment, open_holds, open_hold_at, IsBase};
 ghost use Rattle.ilp_journal.specs.Balance.{balance};
-ghost use Rattle.ilp_journal.specs.TrialBalance.{held, fees, taken, bought, sold, settled, total_in, total_out};
-ghost use Rattle.ilp_book.specs.Terms.{last_of_all, moment_at};
+ghost use Rattle.ilp_journal.specs.Booked.{most_sum};
+ghost use Rattle.ilp_journal.specs.TrialBalance.{held, fees, taken, bought, sold, settled, total_in, total_out, IsBalanced};
+ghost use Rattle.ilp_book.specs.Book.{by, moment_at, new_book, pushed, has_room, Does};
 ghost use Rattle.ilp_book.specs.Configured.{IsKnown, peer_assets};
-ghost use Rattle.ilp_book.specs.Open.{open_holds};
-ghost use Rattle.ilp_book.specs.Counted.{total_of};
+ghost use Rattle.ilp_book.specs.Open.{earliest};
+ghost use Rattle.ilp_book.specs.Walks.{total_of};
 ghost use Rattle.ilp_book.specs.Lawful.{IsLawful, HasTerms};
-ghost use Rattle.ilp_book.specs.Made.{has_room};
-ghost use Rattle.ilp_book.specs.HoldStep.{routed, asked, has_total, hold_fitted, hold_told, hold_step, is_memory};
+ghost use Rattle.ilp_book.specs.HoldStep.{incoming, given_route, has_total, hold_fitted, hold_booked, hold_step, growth_of};
 ghost use Rattle.ilp_book.specs.AnswerStep.{answer_step, expire_step};
-ghost use Rattle.ilp_book.specs.Kept.{with_entry};
 
 use crate::answers::{earliest_open, open_hold_at, verdict};
-use crate::calls::{Held, HoldFault, NotOpen, Outcome, PeerReply, Sums};
-use crate::moments::{LAST_OF_ALL, last_moment};
+use crate::calls::{Held, Outcome, PeerReply, Sums};
+use crate::fault::{HoldFault, NotOpen};
+use crate::moments::last_moment;
 use crate::settlements::settled;
 use crate::terms::hold_terms;
 use crate::totals::{Total, total_of};
 use ilp_accounts::Config;
 use ilp_journal::{Cause, Entry, Hold, Journal, What};
 use ilp_packet::Prepare;
+use ilp_terms::LAST_OF_ALL;
 use std::alloc::{AllocError, Allocator, Global};
 use std::marker::Model;
 
-/// A configuration, and the journal of what was booked by it. The journal is lawful, and there is
-/// room in memory for whatever closes what is open.
+/// A configuration, and the journal of what was booked by it. The journal is lawful, no hold was
+/// open where the book began, and there is room in memory for whatever ends what is open.
 #[derive(Drop)]
 pub struct Book<A: Allocator = Global> {
     config: Config,
@@ -41,20 +43,21 @@ pub struct Book<A: Allocator = Global> {
 }
 
 impl<A: Allocator> Model for Book<A> {
-    ghost use Rattle.ilp_book.specs.Kept.{PlainBook, IsKept};
+    ghost use Rattle.ilp_book.specs.Book.{PlainBook};
+    ghost use Rattle.ilp_book.specs.Parts.{AreParts, book_of};
 
     ghost Value = { PlainBook };
 
-    ghost view = { λ b. record { config = b.config; base = b.base; entries = b.journal.entries } };
+    ghost view = { λ b. book_of b.config b.base b.journal };
 
-    ghost invariant = { λ b. IsKept b.config b.base b.journal b.open_count };
+    ghost invariant = { λ b. AreParts b.config b.base b.journal b.open_count };
 }
 
 impl<A: Allocator> Book<A> {
     /// A book of no entries, with a copy of the configuration. `AllocError` tells that memory is
     /// short.
     pub fn new(alloc: A, config: &Config) -> Result<Book<A>, AllocError>
-        ensures { IfOk result (λ b. b ≡ record { config = config.now; base = 0; entries = [] }) }
+        ensures { IfOk result (λ b. b ≡ new_book config.now) }
     {
         config.is_valid();
         let journal = Journal::new(alloc, config.journal())?;
@@ -68,14 +71,17 @@ impl<A: Allocator> Book<A> {
 
     /// What the book is configured to do.
     pub fn config(&self) -> &Config
-        ensures { result.now ≡ self.now.config }
+        ensures value { result.now ≡ self.now.config }
+        ensures valid { IsValid self.now.config }
     {
+        self.config.is_valid();
         &self.config
     }
 
-    /// How many entries there were when the book was opened. None of their holds was open.
+    /// How many entries there were when the book was opened. None of their holds was open then.
     pub fn base(&self) -> u32
-        ensures { result ≡ self.now.base }
+        ensures value { result ≡ self.now.base }
+        ensures opened { IsBase self.now.entries self.now.base }
     {
         self.base
     }
@@ -87,27 +93,29 @@ impl<A: Allocator> Book<A> {
         self.journal.len()
     }
 
-    /// The entry of this number.
+    /// The entry of this number, in a journal that is lawful.
     pub fn entry(&self, number: u32) -> Option<&Entry>
-        ensures { option_copied result ≡ slice_get self.now.entries number }
+        ensures value { option_copied result ≡ slice_get self.now.entries number }
+        ensures lawful { IsLawful self.now }
     {
         self.journal.get(number)
     }
 
-    /// What the connector owes the peer, in units of the peer's asset. Each call adds up all
-    /// entries.
+    /// What the connector owes the peer, in units of the peer's asset: never less than the peer's
+    /// least. Each call adds up all entries.
     pub fn balance(&self, peer: u32) -> i128
-        ensures { result ≡ balance self.now.entries peer }
+        ensures value { result ≡ balance self.now.entries peer }
+        ensures least { (p : ℕ) → IsKnown self.now.config p
+            → (peer_at self.now.config p).least ≤ℤ balance self.now.entries p }
     {
         self.journal.balance(peer)
     }
 
     /// How many of the open holds the peer sent. Each call goes over all entries.
-    #[tactic(auto, unfolding(crate::specs::Open::open_holds))]
+    #[tactic(auto, unfolding(ilp_journal::specs::Journal::open_holds))]
     pub fn open_holds(&self, peer: u32) -> u32
         ensures { result ≡ open_holds self.now.entries peer }
     {
-        self.is_lawful();
         self.total_of(Total::Sent(peer)) as u32
     }
 
@@ -118,6 +126,7 @@ impl<A: Allocator> Book<A> {
         ensures fees { result.fees ≡ pos (fees (peer_assets self.now.config) self.now.entries asset) }
         ensures bought { result.bought ≡ bought (peer_assets self.now.config) self.now.entries asset }
         ensures sold { result.sold ≡ pos (sold (peer_assets self.now.config) self.now.entries asset) }
+        ensures balanced { IsBalanced (peer_assets self.now.config) self.now.entries asset }
     {
         let fees = self.fees(asset);
         Sums {
@@ -129,18 +138,8 @@ impl<A: Allocator> Book<A> {
         }
     }
 
-    /// Tells what every book keeps. It does nothing: who relies on it in a proof calls it.
-    pub fn is_lawful(&self)
-        ensures valid { IsValid self.now.config }
-        ensures lawful { IsLawful self.now.config self.now.base self.now.entries }
-        ensures least { (peer : ℕ) → IsKnown self.now.config peer
-            → (peer_at self.now.config peer).least ≤ℤ balance self.now.entries peer }
-    {
-        self.config.is_valid();
-    }
-
     /// Holds a Prepare's amount against the balance of its sender, and takes the memory for the
-    /// entry that closes the hold too. The refusals come in the order of `HoldFault`; each leaves
+    /// entry that ends the hold too. The refusals come in the order of `HoldFault`; each leaves
     /// the book as it was.
     pub fn hold(
         &mut self,
@@ -150,18 +149,38 @@ impl<A: Allocator> Book<A> {
         now: i64,
     ) -> Result<Held, HoldFault>
         requires known { IsKnown self.old.config from }
-
-        ensures reply { result ≡ (hold_step self.old.config self.old.base self.old.entries actor from
-            (asked self.old.config (plain_prepare prepare.now)) now (is_memory result)).reply }
-        ensures entry { self.new ≡ with_entry self.old (hold_step self.old.config self.old.base
-            self.old.entries actor from (asked self.old.config (plain_prepare prepare.now)) now
-            (is_memory result)).entry }
+        ensures step { Does self.old self.new result (hold_step self.old (by actor now)
+            (incoming self.old.config from (plain_prepare prepare.now)) (growth_of result)) }
+        ensures lawful { IsLawful self.new }
         ensures err { OnErr result (self.new ≡ self.old) }
     {
         self.config.is_valid();
         let destination = prepare.destination;
         let route = self.config.route(destination);
         self.hold_routed(actor, from, prepare, route, now)
+    }
+
+    // Holds a Prepare whose route was looked up.
+    #[tactic(auto, unfolding(crate::specs::HoldStep::hold_step, crate::specs::HoldStep::hold_checked))]
+    fn hold_routed(
+        &mut self,
+        actor: u32,
+        from: u32,
+        prepare: &Prepare<'_>,
+        route: Option<u32>,
+        now: i64,
+    ) -> Result<Held, HoldFault>
+        requires known { IsKnown self.old.config from }
+        requires route { IsRoute self.old.config.routes prepare.now.destination.now route }
+        ensures step { Does self.old self.new result (hold_step self.old (by actor now)
+            (given_route from (plain_prepare prepare.now) route) (growth_of result)) }
+        ensures lawful { IsLawful self.new }
+        ensures err { OnErr result (self.new ≡ self.old) }
+    {
+        self.config.is_valid();
+        let moment = self.moment_at(now);
+        let hold = hold_terms(&self.config, moment, from, prepare, route)?;
+        self.book_hold(actor, now, hold)
     }
 
     /// Books what came back for a hold, if it is open: a preimage that meets the condition before
@@ -176,11 +195,11 @@ impl<A: Allocator> Book<A> {
         reply: PeerReply,
         now: i64,
     ) -> Result<Outcome, NotOpen>
-        ensures reply { result ≡ (answer_step self.old.entries actor number reply now).reply }
-        ensures entry { self.new ≡ with_entry self.old
-            (answer_step self.old.entries actor number reply now).entry }
+        ensures step { Does self.old self.new result
+            (answer_step self.old (by actor now) number reply) }
+        ensures lawful { IsLawful self.new }
     {
-        let Some(hold) = open_hold_at(&self.journal, number) else {
+        let Some(hold) = self.open_hold(number) else {
             return Err(NotOpen {
                 closer: self.journal.answer_of(number),
             });
@@ -219,11 +238,10 @@ impl<A: Allocator> Book<A> {
     /// it was. Takes no memory.
     #[tactic(auto, unfolding(crate::specs::AnswerStep::expire_step))]
     pub fn expire_one(&mut self, actor: u32, now: i64) -> Option<u32>
-        ensures reply { result ≡ (expire_step self.old.entries actor now).reply }
-        ensures entry { self.new ≡ with_entry self.old
-            (expire_step self.old.entries actor now).entry }
+        ensures step { Does self.old self.new result (expire_step self.old (by actor now)) }
+        ensures lawful { IsLawful self.new }
     {
-        let (number, hold) = earliest_open(&self.journal)?;
+        let (number, hold) = self.earliest_open()?;
         let moment = self.moment_at(now);
         if moment < hold.deadline {
             return None;
@@ -246,12 +264,13 @@ impl<A: Allocator> Book<A> {
     // A total of the journal.
     fn total_of(&self, total: Total) -> u128
         ensures sum { result ≡ total_of (peer_assets self.now.config) total self.now.entries }
-        ensures bound { result ≤ 2 ^ 96 }
+        ensures bound { result ≤ most_sum }
+        ensures entries { length self.now.entries < 2 ^ 32 }
     {
         total_of(&self.config, &self.journal, total)
     }
 
-    // The amounts of the open holds in an asset.
+    // The amounts of the open holds whose senders pay in the asset.
     #[tactic(auto, unfolding(ilp_journal::specs::TrialBalance::held))]
     fn held(&self, asset: u32) -> i128
         ensures { result ≡ pos (held (peer_assets self.now.config) self.now.entries asset) }
@@ -259,25 +278,25 @@ impl<A: Allocator> Book<A> {
         self.total_of(Total::Held(asset)) as i128
     }
 
-    // The fees of the fulfilled ones.
+    // The fees of the fulfilled holds whose senders pay in the asset.
     #[tactic(auto, unfolding(ilp_journal::specs::TrialBalance::fees))]
     fn fees(&self, asset: u32) -> i128
         ensures value { result ≡ pos (fees (peer_assets self.now.config) self.now.entries asset) }
-        ensures bound { fees (peer_assets self.now.config) self.now.entries asset ≤ 2 ^ 96 }
+        ensures bound { fees (peer_assets self.now.config) self.now.entries asset ≤ most_sum }
     {
         self.total_of(Total::Fees(asset)) as i128
     }
 
-    // The amounts of the fulfilled ones.
+    // The amounts of the fulfilled holds whose senders pay in the asset.
     #[tactic(auto, unfolding(ilp_journal::specs::TrialBalance::taken))]
     fn taken(&self, asset: u32) -> i128
         ensures value { result ≡ pos (taken (peer_assets self.now.config) self.now.entries asset) }
-        ensures bound { taken (peer_assets self.now.config) self.now.entries asset ≤ 2 ^ 96 }
+        ensures bound { taken (peer_assets self.now.config) self.now.entries asset ≤ most_sum }
     {
         self.total_of(Total::Taken(asset)) as i128
     }
 
-    // The amounts out of the fulfilled ones.
+    // The amounts out of the fulfilled holds whose receivers are paid in the asset.
     #[tactic(auto, unfolding(ilp_journal::specs::TrialBalance::sold))]
     fn sold(&self, asset: u32) -> i128
         ensures { result ≡ pos (sold (peer_assets self.now.config) self.now.entries asset) }
@@ -285,30 +304,20 @@ impl<A: Allocator> Book<A> {
         self.total_of(Total::Sold(asset)) as i128
     }
 
-    // The same, where the route was looked up.
-    #[tactic(auto, unfolding(crate::specs::HoldStep::hold_step, crate::specs::HoldStep::hold_made))]
-    fn hold_routed(
-        &mut self,
-        actor: u32,
-        from: u32,
-        prepare: &Prepare<'_>,
-        route: Option<u32>,
-        now: i64,
-    ) -> Result<Held, HoldFault>
-        requires known { IsKnown self.old.config from }
-        requires route { IsRoute self.old.config.routes prepare.now.destination.now route }
-        ensures reply { result ≡ (hold_step self.old.config self.old.base self.old.entries actor from
-            (routed (plain_prepare prepare.now) route) now (is_memory result)).reply }
-        ensures entry { self.new ≡ with_entry self.old (hold_step self.old.config self.old.base
-            self.old.entries actor from (routed (plain_prepare prepare.now) route) now (is_memory result)).entry }
-        ensures err { OnErr result (self.new ≡ self.old) }
+    // The hold under a number, if it is open.
+    fn open_hold(&self, number: u32) -> Option<Hold>
+        ensures value { result ≡ open_hold_at self.now.entries number }
+        ensures lawful { IsLawful self.now }
     {
-        self.config.is_valid();
-        let moment = self.moment_at(now);
-        match hold_terms(&self.config, from, prepare, route, moment) {
-            Ok(hold) => self.book_hold(actor, hold, moment),
-            Err(fault) => Err(fault),
-        }
+        open_hold_at(&self.journal, number)
+    }
+
+    // The open hold of least deadline, and of several the first, with its number.
+    fn earliest_open(&self) -> Option<(u32, Hold)>
+        ensures value { result ≡ earliest self.now.entries }
+        ensures lawful { IsLawful self.now }
+    {
+        earliest_open(&self.journal)
     }
 
     // The moment of a call: of the years 1970 to 9999, and never before the last entry's.
@@ -316,21 +325,18 @@ impl<A: Allocator> Book<A> {
         ensures moment { result ≡ moment_at self.now.entries now }
         ensures first { pos 0 ≤ℤ result }
         ensures last { result ≤ℤ last_of_all }
+        ensures lawful { IsLawful self.now }
     {
         now.min(LAST_OF_ALL).max(0).max(last_moment(&self.journal))
     }
 
     // Books a hold of allowed terms, if there is room, totals and balance for it.
     #[tactic(auto, unfolding(crate::specs::HoldStep::hold_fitted))]
-    fn book_hold(&mut self, actor: u32, hold: Hold, moment: i64) -> Result<Held, HoldFault>
-        requires terms { HasTerms self.old.config moment hold }
-        requires later { last_moment self.old.entries ≤ℤ moment }
-        requires first { pos 0 ≤ℤ moment }
-        requires last { moment ≤ℤ last_of_all }
-        ensures reply { result ≡ (hold_told self.old.entries actor moment (is_memory result)
-            (hold_fitted self.old.config self.old.base self.old.entries hold)).reply }
-        ensures entry { self.new ≡ with_entry self.old (hold_told self.old.entries actor moment
-            (is_memory result) (hold_fitted self.old.config self.old.base self.old.entries hold)).entry }
+    fn book_hold(&mut self, actor: u32, now: i64, hold: Hold) -> Result<Held, HoldFault>
+        requires terms { HasTerms self.old.config (moment_at self.old.entries now) hold }
+        ensures step { Does self.old self.new result (hold_booked self.old (by actor now)
+            (growth_of result) (hold_fitted self.old hold)) }
+        ensures lawful { IsLawful self.new }
         ensures err { OnErr result (self.new ≡ self.old) }
     {
         self.config.is_valid();
@@ -344,6 +350,7 @@ impl<A: Allocator> Book<A> {
         if is_short(balance, hold.amount, self.config.least(hold.from)) {
             return Err(HoldFault::BelowLeast { balance });
         }
+        let moment = self.moment_at(now);
         let number = self.journal.len();
         let Ok(()) = self.journal.reserve(self.open_count as usize + 2) else {
             return Err(HoldFault::Memory);
@@ -362,9 +369,10 @@ impl<A: Allocator> Book<A> {
         })
     }
 
-    // Whether so many more entries fit, beside those that close what is open.
+    // Whether so many more entries fit, beside those that end what is open.
     fn has_room(&self, more: u32) -> bool
-        ensures { result ≡ has_room self.now.config self.now.entries more }
+        ensures value { result ≡ has_room self.now more }
+        ensures lawful { IsLawful self.now }
     {
         let needed = u64::from(self.journal.len()) + u64::from(self.open_count) + u64::from(more);
         needed <= u64::from(self.config.journal())
@@ -374,7 +382,7 @@ impl<A: Allocator> Book<A> {
     fn has_total(&self, hold: &Hold) -> bool
         requires from { IsKnown self.now.config hold.now.from }
         requires to { IsKnown self.now.config hold.now.to }
-        ensures { result ≡ has_total self.now.config self.now.base self.now.entries hold.now }
+        ensures { result ≡ has_total self.now hold.now }
     {
         let most = u128::from(u64::MAX);
         let from = self.config.asset(hold.from);
@@ -388,7 +396,7 @@ impl<A: Allocator> Book<A> {
     #[tactic(auto, unfolding(ilp_journal::specs::TrialBalance::total_in))]
     fn total_in(&self, asset: u32) -> u128
         ensures sum { result ≡ total_in (peer_assets self.now.config) self.now.base self.now.entries asset }
-        ensures bound { result ≤ 2 ^ 96 }
+        ensures bound { result ≤ most_sum }
     {
         self.total_of(Total::In {
             base: self.base,
@@ -396,11 +404,12 @@ impl<A: Allocator> Book<A> {
         })
     }
 
-    // The amounts out of those whose receivers are paid in the asset.
+    // The amounts out of the open and the fulfilled holds since the base whose receivers are paid in
+    // the asset.
     #[tactic(auto, unfolding(ilp_journal::specs::TrialBalance::total_out))]
     fn total_out(&self, asset: u32) -> u128
         ensures sum { result ≡ total_out (peer_assets self.now.config) self.now.base self.now.entries asset }
-        ensures bound { result ≤ 2 ^ 96 }
+        ensures bound { result ≤ most_sum }
     {
         self.total_of(Total::Out {
             base: self.base,
@@ -411,9 +420,10 @@ impl<A: Allocator> Book<A> {
     // Books the entry that ends an open hold, and tells its number.
     fn close(&mut self, entry: Entry) -> u32
         requires answer { IsSome (answered entry.what) }
-        requires lawful { IsLawful self.old.config self.old.base (self.old.entries ++ entry ∷ []) }
+        requires lawful { IsLawful (pushed self.old entry) }
         ensures number { result ≡ length self.old.entries }
-        ensures entry { self.new ≡ with_entry self.old (Some entry) }
+        ensures book { self.new ≡ pushed self.old entry }
+        ensures lawful { IsLawful self.new }
     {
         let number = self.journal.len();
         self.journal.push_reserved(entry);
@@ -424,8 +434,8 @@ impl<A: Allocator> Book<A> {
 
 // Whether a balance less an amount lies below the least.
 fn is_short(balance: i128, amount: u64, least: i64) -> bool
-    requires low { pos 0 ≤ℤ (balance +ℤ pos (2 ^ 96)) }
-    requires high { balance ≤ℤ pos (2 ^ 96) }
+    requires low { pos 0 ≤ℤ (balance +ℤ pos (most_sum)) }
+    requires high { balance ≤ℤ pos (most_sum) }
     ensures { result ≡ int_lt (balance -ℤ pos amount) least }
 {
     balance - i128::from(amount) < i128::from(least)

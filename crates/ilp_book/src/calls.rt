@@ -1,7 +1,6 @@
 //! What the calls of a book are told, and what they answer. Entries are named by their numbers,
 //! and peers by their places in the configuration.
 
-use ilp_assets::QuoteFault;
 use ilp_journal::Cause;
 
 /// A Prepare was accepted.
@@ -15,31 +14,6 @@ pub struct Held {
     pub out: u64,
     /// From this moment on no fulfillment counts; milliseconds since 1970.
     pub deadline: i64,
-}
-
-/// Why a Prepare was refused, in the order in which these are looked for.
-#[derive(Clone, Copy, Debug, PartialEq, Eq)]
-pub enum HoldFault {
-    /// The sender sends at most `max` in one packet.
-    AmountTooLarge { max: u64 },
-    /// The destination is routed to no peer.
-    NoRoute,
-    /// The destination is routed to the sender.
-    BackToSender,
-    /// The Prepare expires at this moment or before it.
-    Expired,
-    /// The Prepare leaves too little time to pass it on.
-    TooShort,
-    /// The amount can't pass from the sender's asset to the receiver's.
-    Quote(QuoteFault),
-    /// The journal has no room for the hold and the entry that closes it.
-    Full,
-    /// The open and the fulfilled holds of an asset would come to more than a packet carries.
-    TotalFull,
-    /// The sender's balance, which is this, would fall below its least.
-    BelowLeast { balance: i128 },
-    /// Memory was refused.
-    Memory,
 }
 
 /// What came back for a hold.
@@ -58,15 +32,10 @@ pub enum PeerReply {
 /// How a hold ended, and the number of the entry that says so.
 #[derive(Clone, Copy, Debug, PartialEq, Eq)]
 pub enum Outcome {
+    /// The sender's amount went on to the receiver.
     Fulfilled { entry: u32 },
+    /// The sender has its amount back, for this cause.
     Released { entry: u32, cause: Cause },
-}
-
-/// Nothing is open under a number.
-#[derive(Clone, Copy, Debug, PartialEq, Eq)]
-pub struct NotOpen {
-    /// The entry that closed it, if one did.
-    pub closer: Option<u32>,
 }
 
 /// A settlement from a peer is credited, once for each key.
@@ -80,19 +49,6 @@ pub struct Kept {
     pub fresh: bool,
 }
 
-/// Why a settlement from a peer was refused, in the order in which these are looked for.
-#[derive(Clone, Copy, Debug, PartialEq, Eq)]
-pub enum CreditFault {
-    /// It is more than 18446744073709551615 units of the peer's asset.
-    TooLarge,
-    /// The peer used the key for another quantity, at this entry.
-    KeyTaken { kept: u32 },
-    /// The journal has no room for it.
-    Full,
-    /// Memory was refused.
-    Memory,
-}
-
 /// A settlement to a peer is asked for.
 #[derive(Clone, Copy, Debug, PartialEq, Eq)]
 pub struct Asked {
@@ -100,19 +56,6 @@ pub struct Asked {
     pub number: u32,
     /// What is to be paid, in units of the peer's asset.
     pub amount: u64,
-}
-
-/// Why no settlement to a peer is asked for, in the order in which these are looked for.
-#[derive(Clone, Copy, Debug, PartialEq, Eq)]
-pub enum AskFault {
-    /// One to this peer is open.
-    StillOpen { number: u32, amount: u64 },
-    /// The peer's balance, which is this, is below its threshold, or it has none.
-    NotDue { balance: i128 },
-    /// The journal has no room for it and the entry that closes it.
-    Full,
-    /// Memory was refused.
-    Memory,
 }
 
 /// What the books of an asset come to, in its units. The balances of its peers, with `held`, `fees`
@@ -123,9 +66,9 @@ pub struct Sums {
     pub settled: i128,
     /// The amounts of the open holds whose senders pay in it.
     pub held: i128,
-    /// The fees of the fulfilled ones.
+    /// The fees of the fulfilled holds whose senders pay in it.
     pub fees: i128,
-    /// What the amounts of the fulfilled ones leave beside the fees.
+    /// The amounts of the fulfilled holds whose senders pay in it, less their fees.
     pub bought: i128,
     /// The amounts out of the fulfilled holds whose receivers are paid in it.
     pub sold: i128,

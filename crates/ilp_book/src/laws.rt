@@ -1,40 +1,76 @@
 //! What holds of every run of calls, and of every hold. These functions do nothing: their contracts
 //! are the laws.
 
-ghost use Rattle.std.specs.Prelude.{◌≡◌, ℕ, ℤ, List, [], length, replicate, true, Some};
+ghost use Rattle.std.specs.Prelude.{◌≡◌, ℕ, ◌≤◌, ◌≤ℤ◌, ◌<ℤ◌, List, length, replicate, true, Some, None};
+ghost use Rattle.ilp_terms.specs.Condition.{meets};
 ghost use Rattle.ilp_accounts.specs.Configuration.{Configuration};
 ghost use Rattle.ilp_accounts.specs.Valid.{IsValid};
 ghost use Rattle.ilp_journal.specs.declared.entry.Hold.{Hold};
-ghost use Rattle.ilp_journal.specs.Journal.{Entries, open_hold_at};
+ghost use Rattle.ilp_journal.specs.declared.entry.Credited.{Credited};
+ghost use Rattle.ilp_journal.specs.Journal.{open_hold_at};
 ghost use Rattle.ilp_journal.specs.TrialBalance.{IsBalanced};
 ghost use Rattle.ilp_book.specs.declared.calls.PeerReply.{PeerReply};
+ghost use Rattle.ilp_book.specs.Book.{PlainBook, By, new_book, with_base, with_entry, moment_at};
 ghost use Rattle.ilp_book.specs.Configured.{peer_assets};
+ghost use Rattle.ilp_book.specs.Open.{credit_at, IsEarliest};
 ghost use Rattle.ilp_book.specs.Lawful.{IsLawful};
-ghost use Rattle.ilp_book.specs.Made.{appended};
 ghost use Rattle.ilp_book.specs.AnswerStep.{answer_step, expire_step, IsOverBy};
-ghost use Rattle.ilp_book.specs.Run.{Step, AreAllowed, journal_after};
-ghost use Rattle.ilp_book.specs.Terms.{meets};
+ghost use Rattle.ilp_book.specs.Run.{Step, AreAllowed, book_after};
 ghost use Rattle.ilp_book.specs.Rows.{PaidRow, LateRow, ReleasedRow, ExpiredRow, LeastRow, TermsRow, TotalRow, FullRow, OlderRow, CreditedRow, SettledRow};
 
 /// Whatever calls come, of whatever actors, at whatever times and however short memory is, the
 /// journal is lawful, and the books of each asset sum to what was settled in it.
 pub fn runs_are_lawful()
     ensures lawful { (C : Configuration) (steps : List Step)
-        → IsValid C → AreAllowed C steps → IsLawful C 0 (journal_after C 0 [] steps) }
+        → IsValid C → AreAllowed C steps → IsLawful (book_after (new_book C) steps) }
     ensures balanced { (C : Configuration) (steps : List Step) (asset : ℕ)
         → IsValid C → AreAllowed C steps
-        → IsBalanced (peer_assets C) (journal_after C 0 [] steps) asset }
+        → IsBalanced (peer_assets C) (book_after (new_book C) steps).entries asset }
+    // So it is from every lawful book on, whatever its base.
+    ensures onward { (book : PlainBook) (steps : List Step)
+        → IsValid book.config → IsLawful book → AreAllowed book.config steps
+        → IsLawful (book_after book steps) }
+{}
+
+/// A lawful book stays lawful where its base is raised. `ilp_journal::laws::bases_stay` says which
+/// places are bases.
+pub fn bases_can_rise()
+    ensures { (book : PlainBook) (raised : ℕ)
+        → book.base ≤ raised → IsLawful book → IsLawful (with_base book raised) }
+{}
+
+/// In a lawful book no two credits are of one peer and under one key, and the books of each asset
+/// balance.
+pub fn lawful_books()
+    ensures credited_once { (book : PlainBook) (k m : ℕ) (c d : Credited) → IsLawful book
+        → credit_at book.entries k ≡ Some c → credit_at book.entries m ≡ Some d
+        → c.peer ≡ d.peer → c.key ≡ d.key → k ≡ m }
+    ensures balanced { (book : PlainBook) (asset : ℕ) → IsLawful book
+        → IsBalanced (peer_assets book.config) book.entries asset }
+{}
+
+/// A sweep takes, of the open holds, the one of least deadline, and of several the one of least
+/// number, once that deadline has come. Where it takes none, each open hold still has time.
+pub fn sweeps_take_the_earliest()
+    ensures taken { (book : PlainBook) (caller : By) (n : ℕ)
+        → (expire_step book caller).reply ≡ Some n
+        → (h : Hold) × IsEarliest book.entries n h
+        × (h.deadline ≤ℤ moment_at book.entries caller.now) }
+    ensures left { (book : PlainBook) (caller : By) → (expire_step book caller).reply ≡ None
+        → (n : ℕ) (h : Hold) → open_hold_at book.entries n ≡ Some h
+        → moment_at book.entries caller.now <ℤ h.deadline }
 {}
 
 /// The first answer of an open hold stands, and so does an expiry that took it: whatever comes
 /// after, each later answer is told of that entry and appends nothing, and no expiry takes the hold.
 pub fn first_answer_stands()
-    ensures answered { (j : Entries) (actor n : ℕ) (h : Hold) (reply : PeerReply) (now : ℤ)
-        → open_hold_at j n ≡ Some h
-        → IsOverBy (appended j (answer_step j actor n reply now).entry) n (length j) }
-    ensures expired { (j : Entries) (actor n : ℕ) (now : ℤ)
-        → (expire_step j actor now).reply ≡ Some n
-        → IsOverBy (appended j (expire_step j actor now).entry) n (length j) }
+    ensures answered { (book : PlainBook) (caller : By) (n : ℕ) (h : Hold) (reply : PeerReply)
+        → open_hold_at book.entries n ≡ Some h
+        → IsOverBy (with_entry book (answer_step book caller n reply).entry) n
+            (length book.entries) }
+    ensures expired { (book : PlainBook) (caller : By) (n : ℕ)
+        → (expire_step book caller).reply ≡ Some n
+        → IsOverBy (with_entry book (expire_step book caller).entry) n (length book.entries) }
 {}
 
 /// Worked runs of calls, and what they are answered. Where a preimage is looked at, they hold for

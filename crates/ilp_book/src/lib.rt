@@ -5,6 +5,7 @@
 mod answers;
 mod book;
 mod calls;
+mod fault;
 pub mod laws;
 mod moments;
 mod settlements;
@@ -12,6 +13,5 @@ mod terms;
 mod totals;
 
 pub use book::Book;
-pub use calls::{
-    AskFault, Asked, CreditFault, Held, HoldFault, Kept, NotOpen, Outcome, PeerReply, Sums,
-};
+pub use calls::{Asked, Held, Kept, Outcome, PeerReply, Sums};
+pub use fault::{AskFault, CreditFault, HoldFault, NotOpen};

@@ -2,15 +2,12 @@
 ghost use Rattle.std.specs.Prelude.{◌≡◌, pos, ◌≤ℤ◌, ◌+ℤ◌, ◌-ℤ◌};
 ghost use Rattle.std.specs.Int.{int_min};
 ghost use Rattle.ilp_journal.specs.Journal.{last_moment};
-ghost use Rattle.ilp_book.specs.Terms.{last_of_all};
+ghost use Rattle.ilp_terms.specs.Expiry.{last_of_all};
 
 use ilp_journal::Journal;
 use std::alloc::Allocator;
 
-/// 9999-12-31, 23:59:59.999.
-pub(crate) const LAST_OF_ALL: i64 = 253_402_300_799_999;
-
-// The moment of the last entry, or 0 before any.
+/// The moment of the last entry, or 0 before any.
 pub(crate) fn last_moment<A: Allocator>(journal: &Journal<A>) -> i64
     ensures { result ≡ last_moment journal.now.entries }
 {
@@ -24,7 +21,7 @@ pub(crate) fn last_moment<A: Allocator>(journal: &Journal<A>) -> i64
     }
 }
 
-// The moment that lies some milliseconds before another.
+/// The moment that lies some milliseconds before another.
 pub(crate) fn before(moment: i64, span: u32) -> i64
     requires { pos 0 ≤ℤ moment }
     ensures { result ≡ moment -ℤ pos span }
@@ -32,7 +29,7 @@ pub(crate) fn before(moment: i64, span: u32) -> i64
     moment - i64::from(span)
 }
 
-// The moment that lies some milliseconds after another.
+/// The moment that lies some milliseconds after another.
 pub(crate) fn after(moment: i64, span: u32) -> i64
     requires { moment ≤ℤ last_of_all }
     ensures { result ≡ moment +ℤ pos span }
@@ -40,7 +37,7 @@ pub(crate) fn after(moment: i64, span: u32) -> i64
     moment + i64::from(span)
 }
 
-// The sooner of two moments.
+/// The sooner of two moments.
 pub(crate) fn sooner(one: i64, other: i64) -> i64
     ensures { result ≡ int_min one other }
 {

@@ -1,16 +1,15 @@
 //! What settlements come to.
 ghost use Rattle.std.specs.Prelude.{◌≡◌, slice_get, option_map, unwrap_or};
 ghost use Rattle.ilp_journal.specs.declared.entry.Entry.{Entry};
-ghost use Rattle.ilp_journal.specs.Journal.{ask_at};
 ghost use Rattle.ilp_journal.specs.TrialBalance.{settled_in, settled_out, settled};
 ghost use Rattle.ilp_book.specs.Configured.{peer_assets};
 
 use crate::totals::has_asset;
 use ilp_accounts::Config;
-use ilp_journal::{Ask, Journal, What};
+use ilp_journal::{Journal, What};
 use std::alloc::Allocator;
 
-// What was settled in an asset: all that raised it, less all that lowered it.
+/// What was settled in an asset: all that raised it, less all that lowered it.
 #[tactic(auto, unfolding(ilp_journal::specs::TrialBalance::settled))]
 pub(crate) fn settled<A: Allocator>(config: &Config, journal: &Journal<A>, asset: u32) -> i128
     ensures { result ≡ settled (peer_assets config.now) journal.now.entries asset }
@@ -24,7 +23,7 @@ pub(crate) fn settled<A: Allocator>(config: &Config, journal: &Journal<A>, asset
     raised as i128 - lowered as i128
 }
 
-// By how much the entry of a number raises it.
+// By how much the entry of a number raises what was settled.
 fn raised_at<A: Allocator>(config: &Config, journal: &Journal<A>, asset: u32, number: u32) -> u64
     ensures { result ≡ unwrap_or (option_map
         (λ (e : Entry). settled_in (peer_assets config.now) journal.now.entries asset e.what)
@@ -36,7 +35,7 @@ fn raised_at<A: Allocator>(config: &Config, journal: &Journal<A>, asset: u32, nu
     }
 }
 
-// By how much it lowers it.
+// By how much the entry of a number lowers what was settled.
 fn lowered_at<A: Allocator>(config: &Config, journal: &Journal<A>, asset: u32, number: u32) -> u64
     ensures { result ≡ unwrap_or (option_map
         (λ (e : Entry). settled_out (peer_assets config.now) asset e.what)
@@ -54,7 +53,7 @@ fn settled_in<A: Allocator>(config: &Config, journal: &Journal<A>, asset: u32, w
 {
     match what {
         What::Credited(credited) if has_asset(config, asset, credited.peer) => credited.credited,
-        What::Undone { ask } => match ask_at(journal, *ask) {
+        What::Undone { ask } => match journal.ask(*ask) {
             Some(asked) if has_asset(config, asset, asked.peer) => asked.amount,
             _ => 0,
         },
@@ -62,22 +61,12 @@ fn settled_in<A: Allocator>(config: &Config, journal: &Journal<A>, asset: u32, w
     }
 }
 
-// By how much it lowers it: the amount of an asked settlement.
+// By how much an entry lowers what was settled: by the amount of an asked settlement.
 fn settled_out(config: &Config, asset: u32, what: &What) -> u64
     ensures { result ≡ settled_out (peer_assets config.now) asset what.now }
 {
     match what {
         What::Asked(ask) if has_asset(config, asset, ask.peer) => ask.amount,
         _ => 0,
-    }
-}
-
-// The settlement under a number.
-fn ask_at<A: Allocator>(journal: &Journal<A>, number: u32) -> Option<Ask>
-    ensures { result ≡ ask_at journal.now.entries number }
-{
-    match &journal.get(number)?.what {
-        What::Asked(ask) => Some(*ask),
-        _ => None,
     }
 }

@@ -2,10 +2,10 @@
 ghost use Rattle.std.specs.Prelude.{◌≡◌, pos, ◌≤ℤ◌, IfOk, IfSome};
 ghost use Rattle.ilp_packet.specs.Packet.{plain_prepare};
 ghost use Rattle.ilp_book.specs.Configured.{IsKnown, quote_between};
-ghost use Rattle.ilp_book.specs.Terms.{last_of_all};
-ghost use Rattle.ilp_book.specs.HoldStep.{routed, hold_terms};
+ghost use Rattle.ilp_terms.specs.Expiry.{last_of_all};
+ghost use Rattle.ilp_book.specs.HoldStep.{given_route, hold_terms};
 
-use crate::calls::HoldFault;
+use crate::fault::HoldFault;
 use crate::moments::{after, before, sooner};
 use ilp_accounts::Config;
 use ilp_assets::{Quote, QuoteFault};
@@ -28,20 +28,21 @@ fn quote_between(config: &Config, from: u32, to: u32, amount: u64) -> Result<Quo
     )
 }
 
-// The hold that a Prepare asks for, or the first refusal of its terms.
+/// The hold that a Prepare asks for, or the first refusal of its terms.
 #[tactic(auto, unfolding(crate::specs::HoldStep::hold_terms))]
 pub(crate) fn hold_terms(
     config: &Config,
+    moment: i64,
     from: u32,
     prepare: &Prepare<'_>,
     route: Option<u32>,
-    moment: i64,
 ) -> Result<Hold, HoldFault>
     requires known { IsKnown config.now from }
     requires route { IfSome route (IsKnown config.now) }
     requires first { pos 0 ≤ℤ moment }
     requires last { moment ≤ℤ last_of_all }
-    ensures terms { result ≡ hold_terms config.now from (routed (plain_prepare prepare.now) route) moment }
+    ensures terms { result ≡ hold_terms config.now moment
+        (given_route from (plain_prepare prepare.now) route) }
 {
     let max = config.max_packet(from);
     if prepare.amount > max {
@@ -60,10 +61,7 @@ pub(crate) fn hold_terms(
     if latest <= moment {
         return Err(HoldFault::TooShort);
     }
-    let quote = match quote_between(config, from, to, prepare.amount) {
-        Ok(quote) => quote,
-        Err(fault) => return Err(HoldFault::Quote(fault)),
-    };
+    let quote = quote_between(config, from, to, prepare.amount)?;
     Ok(Hold {
         from,
         to,

@@ -1,13 +1,12 @@
 //! What the holds of a journal come to. Each call goes once over the entries.
-ghost use Rattle.std.specs.Prelude.{◌≡◌, ◌≤◌, ◌^◌};
+ghost use Rattle.std.specs.Prelude.{◌≡◌, ◌<◌, ◌≤◌, ◌^◌, length};
+ghost use Rattle.ilp_journal.specs.Booked.{most_sum};
 ghost use Rattle.ilp_journal.specs.Places.{Each};
-ghost use Rattle.ilp_journal.specs.Journal.{AnswersOnce, fulfilled, released};
+ghost use Rattle.ilp_journal.specs.Journal.{AnswersOnce, sent_by};
 ghost use Rattle.ilp_journal.specs.TrialBalance.{has_asset, amount_in, fee_in, amount_out, of_named, since};
 ghost use Rattle.ilp_book.specs.Configured.{peer_assets};
-ghost use Rattle.ilp_book.specs.Open.{sent_by};
-ghost use Rattle.ilp_book.specs.Counted.{part_of, total_of, begun, ended, begun_at, ended_at};
+ghost use Rattle.ilp_book.specs.Walks.{part_of, total_of, begun, ended, begun_at, ended_at};
 
-use crate::answers::{answered, hold_at};
 use ilp_accounts::Config;
 use ilp_journal::{Hold, Journal, What};
 use std::alloc::Allocator;
@@ -19,24 +18,26 @@ pub(crate) enum Total {
     Sent(u32),
     /// The amounts of the open holds whose senders pay in this asset.
     Held(u32),
-    /// The amounts of the fulfilled ones.
+    /// The amounts of the fulfilled holds whose senders pay in this asset.
     Taken(u32),
-    /// The fees of the fulfilled ones.
+    /// The fees of the fulfilled holds whose senders pay in this asset.
     Fees(u32),
     /// The amounts out of the fulfilled holds whose receivers are paid in this asset.
     Sold(u32),
     /// The amounts of the open and the fulfilled holds from the number `base` on whose senders pay in
     /// the asset.
     In { base: u32, asset: u32 },
-    /// The amounts out of those whose receivers are paid in the asset.
+    /// The amounts out of the open and the fulfilled holds from the number `base` on whose receivers
+    /// are paid in the asset.
     Out { base: u32, asset: u32 },
 }
 
-// A total: what entries brought, less what they ended.
+/// A total: what entries brought, less what they ended.
 pub(crate) fn total_of<A: Allocator>(config: &Config, journal: &Journal<A>, total: Total) -> u128
     requires { Each AnswersOnce journal.now.entries }
     ensures sum { result ≡ total_of (peer_assets config.now) total journal.now.entries }
-    ensures bound { result ≤ 2 ^ 96 }
+    ensures bound { result ≤ most_sum }
+    ensures entries { length journal.now.entries < 2 ^ 32 }
 {
     let mut brought = 0u128;
     let mut gone = 0u128;
@@ -57,7 +58,7 @@ fn begun_at<A: Allocator>(config: &Config, journal: &Journal<A>, total: Total, n
     }
 }
 
-// What counts of the hold that it ends.
+// What counts of the hold that the entry of this number ends.
 fn ended_at<A: Allocator>(config: &Config, journal: &Journal<A>, total: Total, number: u32) -> u64
     ensures { result ≡ ended_at (peer_assets config.now) total journal.now.entries number }
 {
@@ -79,7 +80,7 @@ fn part_named<A: Allocator>(
     let Some(number) = number else {
         return 0;
     };
-    match hold_at(journal, number) {
+    match journal.hold(number) {
         Some(hold) => part_of(config, total, &hold),
         None => 0,
     }
@@ -117,7 +118,7 @@ fn amount_in(config: &Config, asset: u32, hold: &Hold) -> u64
     }
 }
 
-// Its fee, where the sender pays in the asset.
+// The fee of a hold, where the sender pays in the asset.
 fn fee_in(config: &Config, asset: u32, hold: &Hold) -> u64
     ensures { result ≡ fee_in (peer_assets config.now) asset hold.now }
 {
@@ -128,7 +129,7 @@ fn fee_in(config: &Config, asset: u32, hold: &Hold) -> u64
     }
 }
 
-// Its amount out, where the receiver is paid in the asset.
+// The amount out of a hold, where the receiver is paid in the asset.
 fn amount_out(config: &Config, asset: u32, hold: &Hold) -> u64
     ensures { result ≡ amount_out (peer_assets config.now) asset hold.now }
 {
@@ -145,7 +146,7 @@ fn begun(total: Total, number: u32, what: &What) -> Option<u32>
 {
     match total {
         Total::Sent(_) | Total::Held(_) => Some(number),
-        Total::Taken(_) | Total::Fees(_) | Total::Sold(_) => fulfilled(what),
+        Total::Taken(_) | Total::Fees(_) | Total::Sold(_) => what.fulfilled(),
         Total::In { base, .. } | Total::Out { base, .. } => since(base, Some(number)),
     }
 }
@@ -155,29 +156,9 @@ fn ended(total: Total, what: &What) -> Option<u32>
     ensures { result ≡ ended total what.now }
 {
     match total {
-        Total::Sent(_) | Total::Held(_) => answered(what),
+        Total::Sent(_) | Total::Held(_) => what.answered(),
         Total::Taken(_) | Total::Fees(_) | Total::Sold(_) => None,
-        Total::In { base, .. } | Total::Out { base, .. } => since(base, released(what)),
-    }
-}
-
-// The number of the hold that an entry fulfills.
-fn fulfilled(what: &What) -> Option<u32>
-    ensures { result ≡ fulfilled what.now }
-{
-    match what {
-        What::Fulfilled { hold, .. } => Some(*hold),
-        _ => None,
-    }
-}
-
-// The number of the hold that an entry releases.
-fn released(what: &What) -> Option<u32>
-    ensures { result ≡ released what.now }
-{
-    match what {
-        What::Released { hold, .. } => Some(*hold),
-        _ => None,
+        Total::In { base, .. } | Total::Out { base, .. } => since(base, what.released()),
     }
 }
 
@@ -191,7 +172,7 @@ fn since(base: u32, number: Option<u32>) -> Option<u32>
     }
 }
 
-// Whether the balance of a peer is in the asset.
+/// Whether the balance of a peer is in the asset.
 pub(crate) fn has_asset(config: &Config, asset: u32, peer: u32) -> bool
     ensures { result ≡ has_asset (peer_assets config.now) asset peer }
 {

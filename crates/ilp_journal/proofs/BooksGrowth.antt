@@ -1,7 +1,7 @@
 -- What one more entry does to the sums of an asset.
-use Rattle.std.proofs.Common.{◌≡◌, ℕ, ◌+◌, pos, ◌+ℤ◌, ◌-ℤ◌, Bool, true, false, cond, not, ◌||◌, ◌&&◌, List, [], ◌∷◌, ◌++◌, length, Option, Some, None, refl, sym, ap, ◌∙◌, subst, arith, zero-add, add-zero}
+use Rattle.std.proofs.Common.{◌≡◌, ℕ, ◌+◌, ◌≤◌, pos, ◌+ℤ◌, ◌-ℤ◌, Bool, true, false, cond, not, ◌||◌, ◌&&◌, List, [], ◌∷◌, ◌++◌, length, Option, Some, None, refl, sym, ap, ◌∙◌, subst, arith, zero-add, add-zero}
 use Rattle.std.specs.Prelude.{slice_get, unwrap_or, option_map, option_and_then, ◌==◌, IsSome, IsNone, IfSome, is_some, nat_le}
-use Rattle.std.proofs.lemmas.Bool.{eqb-true, eq-eqb}
+use Rattle.std.proofs.lemmas.Bool.{eqb-true, eq-eqb, leb-true, le-leb}
 use Rattle.std.proofs.lemmas.List.Sums.{sum_by_push}
 use Rattle.std.proofs.lemmas.List.Folds.{list_any-append}
 use Rattle.ilp_journal.specs.declared.entry.Entry.{Entry}
@@ -12,7 +12,7 @@ use Rattle.ilp_journal.specs.declared.entry.Ask.{Ask}
 use Rattle.ilp_journal.specs.Places.{sum_from, Each}
 use Rattle.ilp_journal.specs.Journal.{Entries, hold_at, ask_at, as_hold, answered, fulfilled, released, closed, is_number, answer_of, closing_of, is_unanswered, is_fulfilled, of_hold, sum_of_holds, AnswersOnce, ClosesOnce}
 use Rattle.ilp_journal.specs.TrialBalance.{has_asset, amount_in, amount_out, fee_in, held, fees, taken, bought, sold, settled, settled_in, settled_out, is_counted, total_in, total_out, of_named, since}
-use Rattle.ilp_journal.proofs.Sums.{by_push, sum_from-add, sum_from-same, sum_from_push, sum_from_named}
+use Rattle.ilp_journal.proofs.Sums.{by_push, sum_from-add, sum_from-le, sum_from-same, sum_from_push, sum_from_named}
 use Rattle.ilp_journal.proofs.Naming.{is_some-place-push, place_of_last, ask_at-append}
 use Rattle.ilp_journal.proofs.Growth.{difference-push, unnamed-push, looked_up-push}
 
@@ -216,6 +216,29 @@ counted-push base f j e each last =
         part true false false true false free before both = refl
         part true false false false true free before both = omega arith
         part true false false false false free before both = refl
+
+-- from a later place on fewer holds count
+counted-raised : (base raised : ℕ) (f : Hold → ℕ) (j : Entries) → base ≤ raised → sum_of_holds (is_counted raised j) f j ≤ sum_of_holds (is_counted base j) f j
+counted-raised base raised f j later =
+    sum_from-le _ _ 0 j (λ k d. fewer (nat_le raised k) (nat_le base k) (is_unanswered j k || is_fulfilled j k) (of_hold f d.what) (below k))
+  where
+    below : (k : ℕ) → nat_le raised k ≡ true → nat_le base k ≡ true
+    below k is = le-leb base k (omega (arith, leb-true raised k is))
+
+    fewer : (a b c : Bool) (x : ℕ) → (a ≡ true → b ≡ true) → cond (a && c) x 0 ≤ cond (b && c) x 0
+    fewer false b c x h = omega arith
+    fewer true true c x h = omega arith
+    fewer true false c x h = cc (h refl)
+
+-- the amounts since a later place are no more
+pub total_in-raised : (assets : List ℕ) (base raised : ℕ) (j : Entries) (x : ℕ) → base ≤ raised → total_in assets raised j x ≤ total_in assets base j x
+unfolding total_in
+total_in-raised assets base raised j x later = counted-raised base raised (amount_in assets x) j later
+
+-- nor are the amounts out
+pub total_out-raised : (assets : List ℕ) (base raised : ℕ) (j : Entries) (x : ℕ) → base ≤ raised → total_out assets raised j x ≤ total_out assets base j x
+unfolding total_out
+total_out-raised assets base raised j x later = counted-raised base raised (amount_out assets x) j later
 
 -- ---- the sums of an asset
 

@@ -31,7 +31,8 @@ module _ {K : Type 0} (kind : What → Option K) where
   stands_at_within : (j : Entries) (n : ℕ) → IsSome (stands_at j n) → n < length j
   stands_at_within j n h = elim (cases_lt n (length j)) [ inl within ↦ within | inr past ↦ cc (stands_at-past j n past) ]
 
-  stands_at-push : (j : Entries) (e : Entry) (n : ℕ) → stands_at (j ++ e ∷ []) n ≡ cond (n == length j) (kind e.what) (stands_at j n)
+  -- one more entry stands under the number that is the length
+  pub stands_at-push : (j : Entries) (e : Entry) (n : ℕ) → stands_at (j ++ e ∷ []) n ≡ cond (n == length j) (kind e.what) (stands_at j n)
   stands_at-push j e n =
       ap (option_and_then (λ (e : Entry). kind e.what)) (slice_get-push j e n) ∙ inside (n == length j) (slice_get j n)
     where

@@ -45,7 +45,20 @@ EachAfter-both P Q before (x ∷ xs) p q = ((p.0, q.0), EachAfter-both P Q (befo
 pub Each-both : {X : Type 0} (P Q : List X → X → Type 0) (xs : List X) → Each P xs → Each Q xs → Each (λ b x. P b x × Q b x) xs
 Each-both P Q xs p q = EachAfter-both P Q [] xs p q
 
+EachAfter-each : {X : Type 0} (P Q : List X → X → Type 0) (before xs : List X) → ((b : List X) (x : X) → P b x → Q b x) → EachAfter P before xs → EachAfter Q before xs
+EachAfter-each P Q before [] step each = tt
+EachAfter-each P Q before (x ∷ xs) step each = (step before x each.0, EachAfter-each P Q (before ++ x ∷ []) xs step each.1)
+
+-- what follows from a fact of each element holds of each
+pub Each-each : {X : Type 0} (P Q : List X → X → Type 0) (xs : List X) → ((b : List X) (x : X) → P b x → Q b x) → Each P xs → Each Q xs
+Each-each P Q xs step each = EachAfter-each P Q [] xs step each
+
 -- ---- sums by place
+
+-- smaller terms have a smaller sum
+pub sum_from-le : {X : Type 0} (f g : ℕ → X → ℕ) (n : ℕ) (xs : List X) → ((k : ℕ) (x : X) → f k x ≤ g k x) → sum_from f n xs ≤ sum_from g n xs
+sum_from-le f g n [] less = omega arith
+sum_from-le f g n (x ∷ xs) less = omega (arith, less n x, sum_from-le f g (n + 1) xs less)
 
 -- a sum of sums
 pub sum_from-add : {X : Type 0} (f g h : ℕ → X → ℕ) (n : ℕ) (xs : List X) → ((k : ℕ) (x : X) → f k x ≡ g k x + h k x) → sum_from f n xs ≡ sum_from g n xs + sum_from h n xs

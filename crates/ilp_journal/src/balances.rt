@@ -2,6 +2,7 @@
 
 ghost use Rattle.std.specs.Prelude.{◌≡◌, ◌^◌, ◌≤◌, pos, ◌+ℤ◌, ◌≤ℤ◌, length};
 ghost use Rattle.ilp_journal.specs.Balance.{rise, fall, balance};
+ghost use Rattle.ilp_journal.specs.Booked.{most_sum};
 
 use crate::answers::{ask_at, hold_at};
 use crate::entry::{Entry, What};
@@ -11,8 +12,8 @@ use crate::entry::{Entry, What};
 pub(crate) fn owed(entries: &[Entry], peer: u32) -> i128
     requires { length entries.now ≤ 2 ^ 32 }
     ensures sum { result ≡ balance entries.now peer }
-    ensures low { pos 0 ≤ℤ (result +ℤ pos (2 ^ 96)) }
-    ensures high { result ≤ℤ pos (2 ^ 96) }
+    ensures low { pos 0 ≤ℤ (result +ℤ pos most_sum) }
+    ensures high { result ≤ℤ pos most_sum }
 {
     let mut raised = 0u128;
     let mut lowered = 0u128;

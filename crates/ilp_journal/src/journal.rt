@@ -2,7 +2,7 @@
 
 ghost use Rattle.std.specs.Prelude.{◌≡◌, ◌+◌, ◌^◌, ◌<◌, ◌≤◌, pos, ◌+ℤ◌, ◌≤ℤ◌, [], ◌∷◌, ◌++◌, ◌↔◌, length, IsTrue, IsOk, IfOk, OnOk, OnErr, slice_get};
 ghost use Rattle.std.specs.Option.{option_copied};
-ghost use Rattle.ilp_journal.specs.Booked.{Booked};
+ghost use Rattle.ilp_journal.specs.Booked.{Booked, most_sum};
 ghost use Rattle.ilp_journal.specs.Journal.{answer_of, hold_at, ask_at};
 ghost use Rattle.ilp_journal.specs.Balance.{balance};
 
@@ -133,8 +133,8 @@ impl<A: Allocator> Journal<A> {
     /// by, less all that it fell by. Each call adds up all entries.
     pub fn balance(&self, peer: u32) -> i128
         ensures sum { result ≡ balance self.now.entries peer }
-        ensures low { pos 0 ≤ℤ (result +ℤ pos (2 ^ 96)) }
-        ensures high { result ≤ℤ pos (2 ^ 96) }
+        ensures low { pos 0 ≤ℤ (result +ℤ pos most_sum) }
+        ensures high { result ≤ℤ pos most_sum }
     {
         owed(&self.entries, peer)
     }

@@ -16,3 +16,8 @@ refuse_if false e = Ok tt
 abbrev pub found_or : {A E : Type 0} → Option A → E → Result A E
 found_or (Some x) e = Ok x
 found_or None e = Err e
+
+-- a refusal, where one was found
+abbrev pub refuse_some : {E : Type 0} → Option E → Result (Unit {0}) E
+refuse_some (Some e) = Err e
+refuse_some None = Ok tt

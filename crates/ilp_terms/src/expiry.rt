@@ -6,6 +6,10 @@ ghost use Rattle.ilp_terms.specs.Expiry.{AreDigits, IsExpiry, IsMoment, moment_o
 
 use crate::calendar;
 
+/// The last millisecond of the year 9999, which is the last moment that an expiry names; in
+/// milliseconds since 1970-01-01T00:00:00Z.
+pub const LAST_OF_ALL: i64 = 253_402_300_799_999;
+
 /// The milliseconds of a day.
 const DAY: i64 = 86_400_000;
 

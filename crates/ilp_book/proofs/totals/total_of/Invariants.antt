@@ -1,6 +1,6 @@
 use Rattle.std.proofs.Common.{◌≡◌, ◌+◌, ◌*◌, ◌^◌, ◌≤◌, take}
 use Rattle.ilp_book.specs.Configured.{peer_assets}
-use Rattle.ilp_book.specs.Counted.{total_of}
+use Rattle.ilp_book.specs.Walks.{total_of}
 use Rattle.ilp_book.proofs.totals.total_of.Given as goal
 
 -- what was brought so far is the total as far as the entry, and what is gone

@@ -1,13 +1,13 @@
--- Which holds count in a total, and what of each does. An entry brings at most one hold among those that count, and ends at most one.
+-- How a walk over a journal adds up its holds. These are words of private contracts; no public clause cites them. An entry
+-- brings at most one hold among those that count, and ends at most one.
 use Rattle.std.specs.Prelude.{ℕ, Bool, List, Option, Some, None, slice_get, option_map, unwrap_or}
 use Rattle.ilp_journal.specs.declared.entry.Entry.{Entry}
 use Rattle.ilp_journal.specs.declared.entry.What.{What}
 use Rattle.ilp_journal.specs.declared.entry.Hold.{Hold}
-use Rattle.ilp_journal.specs.Journal.{Entries, answered, fulfilled, released, is_unanswered, is_fulfilled, sum_of_holds}
+use Rattle.ilp_journal.specs.Journal.{Entries, answered, fulfilled, released, is_unanswered, is_fulfilled, sum_of_holds, sent_by}
 use Rattle.ilp_journal.specs.TrialBalance.{amount_in, fee_in, amount_out, is_counted, of_named, since}
 use Rattle.ilp_book.specs.declared.totals.Total.{Total}
 use Rattle.ilp_book.specs.declared.totals.Total.TheVariants as total
-use Rattle.ilp_book.specs.Open.{sent_by}
 
 -- whether the hold n counts
 abbrev pub counts : Total → Entries → ℕ → Bool
