@@ -13,3 +13,4 @@ pub mod Answered
 pub mod Prefixes
 pub mod KeptOnce
 pub mod RowProofs
+pub mod RejectCodes

@@ -69,6 +69,10 @@ says reply = record { reply = reply; entry = None }
 abbrev pub books : {R : Type 0} → PlainBook → By → R → What → Made R
 books book caller reply what = record { reply = reply; entry = Some (entry_by book caller what) }
 
+-- what was made, with another reply for its own
+abbrev pub replied_as : {R S : Type 0} → (R → S) → Made R → Made S
+replied_as told made = record { reply = told made.reply; entry = made.entry }
+
 -- a journal with the entry that a call makes, if it makes one
 abbrev pub appended : Entries → Option Entry → Entries
 appended j None = j

@@ -13,7 +13,7 @@ use Rattle.ilp_book.specs.declared.fault.CreditFault.{CreditFault}
 use Rattle.ilp_book.specs.declared.calls.Asked.{Asked}
 use Rattle.ilp_book.specs.declared.fault.AskFault.{AskFault}
 use Rattle.ilp_book.specs.Configured.{IsKnown}
-use Rattle.ilp_book.specs.Book.{PlainBook, By, Growth, Made, with_entry}
+use Rattle.ilp_book.specs.Book.{PlainBook, By, Growth, Made, replied_as, with_entry}
 use Rattle.ilp_book.specs.HoldStep.{Incoming, hold_step}
 use Rattle.ilp_book.specs.AnswerStep.{answer_step, expire_step}
 use Rattle.ilp_book.specs.SettleStep.{Payment, EngineVerdict, credit_step, ask_step, close_step}
@@ -54,11 +54,7 @@ abbrev pub AreAllowed : Configuration → List Step → Type 0
 AreAllowed C [] = ⊤
 AreAllowed C (s ∷ ss) = IsAllowed C s.call × AreAllowed C ss
 
--- what a call makes, its reply as one of the six kinds
-abbrev pub replied_as : {R : Type 0} → (R → CallReply) → Made R → Made CallReply
-replied_as kind made = record { reply = kind made.reply; entry = made.entry }
-
--- what a call makes of a book
+-- what a call makes of a book, its reply as one of the six kinds
 abbrev pub made_by : PlainBook → By → Growth → Call → Made CallReply
 made_by book caller growth (hold sent) = replied_as of_hold (hold_step book caller sent growth)
 made_by book caller growth (answer n reply) = replied_as of_answer (answer_step book caller n reply)

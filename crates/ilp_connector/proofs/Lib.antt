@@ -2,4 +2,4 @@ pub mod FirstLine
 pub mod Fields
 pub mod BalanceLines
 pub mod Written
-pub mod Replies
+pub mod LineSteps

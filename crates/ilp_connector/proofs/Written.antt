@@ -3,9 +3,9 @@ use Rattle.std.proofs.Common.{◌≡◌, ℕ, List, [], ◌∷◌, ◌++◌, len
 use Rattle.std.specs.Io.KnownBytes.{Appends}
 use Rattle.std.proofs.KnownBytes.{Appends-trans}
 use Rattle.ilp_io.specs.Writing.{AppendsPrefix, AppendsProperPrefix}
-use Rattle.ilp_book.specs.Kept.{PlainBook}
+use Rattle.ilp_book.specs.Book.{PlainBook, Does}
 use Rattle.ilp_connector.specs.Script.{lines_of}
-use Rattle.ilp_connector.specs.declared.reply.Reply.{Reply}
+use Rattle.ilp_connector.specs.declared.reply.LineReply.{LineReply}
 use Rattle.ilp_connector.specs.Text.{reply_text}
 use Rattle.ilp_connector.specs.Replay.{text_from, line_step, line_text, after_line}
 
@@ -37,10 +37,9 @@ text_from-step book after rest line more written text whole lines told booked be
     rw (told, booked) (ap (λ (xs : List ℕ). written ++ xs) (sym (text_from-line book rest line more lines)) ∙ before)
 
 -- what was printed is the line's text
-pub line_printed : (book after : PlainBook) (line text : List ℕ) (reply : Reply) → after ≡ after_line book line
-    → reply ≡ (line_step book line).reply → text ≡ reply_text after reply → text ≡ line_text book line
-line_printed book after line text reply booked replied printed =
-    printed ∙ ap (λ (b : PlainBook). reply_text b reply) booked ∙ ap (λ (r : Reply). reply_text (after_line book line) r) replied
+pub line_printed : (book after : PlainBook) (line text : List ℕ) (reply : LineReply) → Does book after reply (line_step book line) → text ≡ reply_text after reply → text ≡ line_text book line
+line_printed book after line text reply does printed =
+    printed ∙ ap (λ (b : PlainBook). reply_text b reply) does.book ∙ ap (λ (r : LineReply). reply_text (after_line book line) r) does.reply
 
 -- where nothing is left, all was written
 pub all_written : (before after : Option (List ℕ)) (book : PlainBook) (rest written text : List ℕ) → length rest ≡ 0 → written ++ text_from book (lines_of rest) ≡ text

@@ -1,3 +1,4 @@
+pub mod Calls
 pub mod CheckText
 pub mod ConfigReading
 pub mod PacketText

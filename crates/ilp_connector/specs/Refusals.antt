@@ -9,8 +9,8 @@ use Rattle.ilp_packet.specs.declared.fault.PacketFault.{PacketFault}
 use Rattle.ilp_packet.specs.declared.fault.PacketFault.TheVariants as packet_fault
 use Rattle.ilp_assets.specs.declared.quote.QuoteFault.{QuoteFault}
 use Rattle.ilp_assets.specs.declared.quote.QuoteFault.TheVariants as quote_fault
-use Rattle.ilp_book.specs.declared.calls.HoldFault.{HoldFault}
-use Rattle.ilp_book.specs.declared.calls.HoldFault.TheVariants as hold_fault
+use Rattle.ilp_book.specs.declared.fault.HoldFault.{HoldFault}
+use Rattle.ilp_book.specs.declared.fault.HoldFault.TheVariants as hold_fault
 use Rattle.ilp_connector.specs.declared.refusal.Refusal.{Refusal}
 use Rattle.ilp_connector.specs.declared.refusal.Refusal.TheVariants as refusals
 use Rattle.ilp_connector.specs.declared.refusal.Refusal.TheVariants.{Truncated, BadPrefix, TooLong, UnknownType, Trailing, BadExpiry, BadAddress, FieldTooLong, BadHex, NotPrepare, DoubleAsset, NoSuchAsset, ScaleGap, ZeroPrice, NoPrice, RoundsToNothing, OutTooLarge, DoublePrice, ConfigUnread, NotToml, Missing, BadValue, DoublePeer, DoubleToken, DoubleRoute, BadLevels, AmountTooLarge, NoRoute, BackToSender, Expired, TooShort, Full, TotalFull, BelowLeast, Memory, ReadFault, WriteFault, ScriptTooLong}

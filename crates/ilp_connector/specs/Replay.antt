@@ -1,5 +1,5 @@
 -- What a script prints, and what a replay reads and writes.
-use Rattle.std.specs.Prelude.{ℕ, ◌<◌, ℤ, false, List, [], ◌∷◌, ◌++◌, length, Option, Some, None, Result, Ok, Err}
+use Rattle.std.specs.Prelude.{ℕ, ◌<◌, ℤ, List, [], ◌∷◌, ◌++◌, length, Option, Some, None, Result, Ok, Err}
 use Rattle.std.specs.Io.KnownBytes.{Consumes, Appends}
 use Rattle.hex.specs.Hex.{decode_of}
 use Rattle.hex.specs.declared.error.FromHexError.{FromHexError}
@@ -11,20 +11,19 @@ use Rattle.ilp_packet.specs.Reading.{reading}
 use Rattle.ilp_journal.specs.declared.entry.Cause.TheVariants as cause
 use Rattle.ilp_accounts.specs.Configuration.{Configuration, peer_names}
 use Rattle.ilp_book.specs.declared.calls.Held.{Held}
-use Rattle.ilp_book.specs.declared.calls.HoldFault.{HoldFault}
+use Rattle.ilp_book.specs.declared.fault.HoldFault.{HoldFault}
 use Rattle.ilp_book.specs.declared.calls.PeerReply.{PeerReply}
 use Rattle.ilp_book.specs.declared.calls.PeerReply.TheVariants as peer_reply
 use Rattle.ilp_book.specs.declared.calls.Outcome.{Outcome}
 use Rattle.ilp_book.specs.declared.calls.Outcome.TheVariants as outcome
-use Rattle.ilp_book.specs.declared.calls.NotOpen.{NotOpen}
-use Rattle.ilp_book.specs.Made.{Made}
-use Rattle.ilp_book.specs.HoldStep.{asked, hold_step}
+use Rattle.ilp_book.specs.declared.fault.NotOpen.{NotOpen}
+use Rattle.ilp_book.specs.Book.{PlainBook, new_book, by, granted, Made, says, replied_as, with_entry}
+use Rattle.ilp_book.specs.HoldStep.{incoming, hold_step}
 use Rattle.ilp_book.specs.AnswerStep.{answer_step, expire_step}
-use Rattle.ilp_book.specs.Kept.{PlainBook, with_entry}
 use Rattle.ilp_connector.specs.declared.refusal.Refusal.{Refusal}
 use Rattle.ilp_connector.specs.declared.refusal.Refusal.TheVariants as refusals
-use Rattle.ilp_connector.specs.declared.reply.Reply.{Reply}
-use Rattle.ilp_connector.specs.declared.reply.Reply.TheVariants as replies
+use Rattle.ilp_connector.specs.declared.reply.LineReply.{LineReply}
+use Rattle.ilp_connector.specs.declared.reply.LineReply.TheVariants as replies
 use Rattle.ilp_connector.specs.declared.runner.ReplayFault.{ReplayFault}
 use Rattle.ilp_connector.specs.declared.runner.ReplayFault.TheVariants as replay_fault
 use Rattle.ilp_connector.specs.Refusals.{packet_refusal}
@@ -33,27 +32,21 @@ use Rattle.ilp_connector.specs.Text.{reply_text}
 
 -- ---- one line
 
--- a reply that books nothing
-abbrev pub says : Reply → Made Reply
-says reply = record { reply = reply; entry = None }
-
-abbrev pub hold_reply : Result Held HoldFault → Reply
+abbrev pub hold_reply : Result Held HoldFault → LineReply
 hold_reply (Ok held) = replies.Held held
 hold_reply (Err fault) = replies.Rejected fault
 
-abbrev pub answer_reply : ℕ → Result Outcome NotOpen → Reply
+abbrev pub answer_reply : ℕ → Result Outcome NotOpen → LineReply
 answer_reply number (Ok outcome) = replies.Answered number outcome
 answer_reply number (Err refused) = replies.NotOpen number refused.closer
 
-abbrev pub expire_reply : ℕ → Option ℕ → Reply
+abbrev pub expire_reply : ℕ → Option ℕ → LineReply
 expire_reply entry (Some number) = replies.Answered number (outcome.Released entry cause.Late)
 expire_reply entry None = replies.NoneDue
 
--- a packet of a peer, by the actor 0 and with no growth refused: only a Prepare can be held
-abbrev pub hold_packet : PlainBook → ℤ → ℕ → Result PlainPacket PacketFault → Made Reply
-hold_packet book now peer (Ok (prepare p)) =
-    let made = hold_step book.config book.base book.entries 0 peer (asked book.config p) now false in
-    record { reply = hold_reply made.reply; entry = made.entry }
+-- a packet of a peer, by the actor 0 and with memory granted: only a Prepare can be held
+abbrev pub hold_packet : PlainBook → ℤ → ℕ → Result PlainPacket PacketFault → Made LineReply
+hold_packet book now peer (Ok (prepare p)) = replied_as hold_reply (hold_step book (by 0 now) (incoming book.config peer p) granted)
 hold_packet book now peer (Ok (fulfill f)) = says (replies.BadPacket refusals.NotPrepare)
 hold_packet book now peer (Ok (reject r)) = says (replies.BadPacket refusals.NotPrepare)
 hold_packet book now peer (Err fault) = says (replies.BadPacket (packet_refusal fault))
@@ -65,28 +58,24 @@ came_back (Ok (fulfill f)) = peer_reply.Fulfil f.preimage
 came_back (Ok (reject r)) = peer_reply.Reject r.code
 came_back (Err fault) = peer_reply.NoReply
 
-abbrev pub answer_with : PlainBook → ℤ → ℕ → PeerReply → Made Reply
-answer_with book now number reply =
-    let made = answer_step book.entries 0 number reply now in
-    record { reply = answer_reply number made.reply; entry = made.entry }
+abbrev pub answer_with : PlainBook → ℤ → ℕ → PeerReply → Made LineReply
+answer_with book now number reply = replied_as (answer_reply number) (answer_step book (by 0 now) number reply)
 
 -- the release of one hold whose deadline has come
-abbrev pub expire_due : PlainBook → ℤ → Made Reply
-expire_due book now =
-    let made = expire_step book.entries 0 now in
-    record { reply = expire_reply (length book.entries) made.reply; entry = made.entry }
+abbrev pub expire_due : PlainBook → ℤ → Made LineReply
+expire_due book now = replied_as (expire_reply (length book.entries)) (expire_step book (by 0 now))
 
 -- hexadecimal text that is none makes a bad line
-abbrev pub hold_text : PlainBook → ℤ → ℕ → Result (List ℕ) FromHexError → Made Reply
+abbrev pub hold_text : PlainBook → ℤ → ℕ → Result (List ℕ) FromHexError → Made LineReply
 hold_text book now peer (Ok octets) = hold_packet book now peer (reading octets)
 hold_text book now peer (Err fault) = says replies.BadLine
 
-abbrev pub answer_text : PlainBook → ℤ → ℕ → Result (List ℕ) FromHexError → Made Reply
+abbrev pub answer_text : PlainBook → ℤ → ℕ → Result (List ℕ) FromHexError → Made LineReply
 answer_text book now number (Ok octets) = answer_with book now number (came_back (reading octets))
 answer_text book now number (Err fault) = says replies.BadLine
 
 -- what a line replies, and the entry that it books
-abbrev pub form_step : PlainBook → Form → Made Reply
+abbrev pub form_step : PlainBook → Form → Made LineReply
 form_step book (hold now peer packet) = hold_text book now peer (decode_of packet)
 form_step book (answer now number (Some packet)) = answer_text book now number (decode_of packet)
 form_step book (answer now number None) = answer_with book now number peer_reply.NoReply
@@ -95,7 +84,7 @@ form_step book report = says replies.Report
 form_step book silent = says replies.Silent
 form_step book bad = says replies.BadLine
 
-unfoldable pub line_step : PlainBook → List ℕ → Made Reply
+unfoldable pub line_step : PlainBook → List ℕ → Made LineReply
 line_step book line = form_step book (form_of (peer_names book.config.peers) line)
 
 -- the book after a line
@@ -113,9 +102,10 @@ abbrev pub text_from : PlainBook → List (List ℕ) → List ℕ
 text_from book [] = []
 text_from book (line ∷ lines) = line_text book line ++ text_from (after_line book line) lines
 
--- a book of this configuration, in which nothing was booked
-abbrev pub new_book : Configuration → PlainBook
-new_book C = record { config = C; base = 0; entries = [] }
+-- the book after lines
+abbrev pub after_lines : PlainBook → List (List ℕ) → PlainBook
+after_lines book [] = book
+after_lines book (line ∷ lines) = after_lines (after_line book line) lines
 
 -- what a script prints
 abbrev pub text_of : Configuration → List ℕ → List ℕ

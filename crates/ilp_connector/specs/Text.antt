@@ -6,33 +6,18 @@ use Rattle.ilp_journal.specs.declared.entry.Cause.{Cause}
 use Rattle.ilp_journal.specs.declared.entry.Cause.TheVariants.{Late, WrongPreimage, NoReply, Peer}
 use Rattle.ilp_journal.specs.Journal.{Entries}
 use Rattle.ilp_journal.specs.Balance.{balance}
-use Rattle.ilp_assets.specs.declared.quote.QuoteFault.TheVariants as quote_fault
 use Rattle.ilp_accounts.specs.Configuration.{peer_at, peer_names}
-use Rattle.ilp_book.specs.declared.calls.HoldFault.{HoldFault}
-use Rattle.ilp_book.specs.declared.calls.HoldFault.TheVariants as hold_fault
+use Rattle.ilp_book.specs.declared.fault.HoldFault.{HoldFault}
 use Rattle.ilp_book.specs.declared.calls.Outcome.{Outcome}
 use Rattle.ilp_book.specs.declared.calls.Outcome.TheVariants as outcome
-use Rattle.ilp_book.specs.Kept.{PlainBook}
-use Rattle.ilp_connector.specs.declared.reply.Reply.{Reply}
-use Rattle.ilp_connector.specs.declared.reply.Reply.TheVariants.{Silent, BadLine, BadPacket, Held, Rejected, Answered, NotOpen, NoneDue, Report}
+use Rattle.ilp_book.specs.Book.{PlainBook}
+use Rattle.ilp_book.specs.RejectCode.{reject_code}
+use Rattle.ilp_connector.specs.declared.reply.LineReply.{LineReply}
+use Rattle.ilp_connector.specs.declared.reply.LineReply.TheVariants.{Silent, BadLine, BadPacket, Held, Rejected, Answered, NotOpen, NoneDue, Report}
 use Rattle.ilp_connector.specs.Refusals.{refusal_text, named_text, hold_refusal}
 use Rattle.ilp_connector.specs.Report.{report_line}
 
--- the code of the Reject that the sender of a refused Prepare gets
-abbrev pub reject_code : HoldFault → List ℕ
-reject_code (hold_fault.AmountTooLarge max) = codes "F08"
-reject_code hold_fault.NoRoute = codes "F02"
-reject_code hold_fault.BackToSender = codes "F02"
-reject_code hold_fault.Expired = codes "R00"
-reject_code hold_fault.TooShort = codes "R02"
-reject_code (hold_fault.Quote quote_fault.NoPrice) = codes "F02"
-reject_code (hold_fault.Quote quote_fault.OutTooLarge) = codes "F03"
-reject_code (hold_fault.Quote quote_fault.RoundsToNothing) = codes "R01"
-reject_code hold_fault.Full = codes "T03"
-reject_code hold_fault.TotalFull = codes "T04"
-reject_code (hold_fault.BelowLeast balance) = codes "T04"
-reject_code hold_fault.Memory = codes "T00"
-
+-- the Reject that the sender of a refused Prepare gets
 abbrev pub rejected_text : HoldFault → List ℕ
 rejected_text fault = codes "reject " ++ (reject_code fault ++ (codes " " ++ (named_text (hold_refusal fault) ++ codes "\n")))
 
@@ -63,7 +48,7 @@ abbrev pub name_of : PlainBook → ℕ → List ℕ
 name_of book peer = (peer_at book.config peer).name
 
 -- what a reply prints, over the book that its line left
-abbrev pub reply_text : PlainBook → Reply → List ℕ
+abbrev pub reply_text : PlainBook → LineReply → List ℕ
 reply_text book Silent = []
 reply_text book BadLine = codes "bad line\n"
 reply_text book (BadPacket refusal) = codes "bad packet " ++ (refusal_text refusal ++ codes "\n")

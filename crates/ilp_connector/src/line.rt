@@ -1,37 +1,33 @@
 //! Running one line of a script.
-ghost use Rattle.std.specs.Prelude.{◌≡◌, IfOk, OnOk, OnErr, MatchOption, IsErr, Ok, false};
+ghost use Rattle.std.specs.Prelude.{◌≡◌, IfOk, OnErr, MatchOption, IsErr, Ok};
 ghost use Rattle.hex.specs.Hex.{decode_of};
 ghost use Rattle.ilp_packet.specs.Reading.{reading};
-ghost use Rattle.ilp_packet.specs.Packet as packets;
+ghost use Rattle.ilp_book.specs.Book.{granted, Does};
 ghost use Rattle.ilp_book.specs.Configured.{IsKnown};
-ghost use Rattle.ilp_book.specs.HoldStep as holds;
-ghost use Rattle.ilp_book.specs.Kept.{with_entry};
+ghost use Rattle.ilp_book.specs.HoldStep.{growth_of};
 ghost use Rattle.ilp_connector.specs.Replay as replays;
 ghost use Rattle.ilp_connector.specs.Replay.{line_step};
 
 use crate::form::{Form, parse};
 use crate::refusal::Refusal;
-use crate::reply::Reply;
+use crate::reply::LineReply;
 use hex::FromHexError;
-use ilp_book::{Book, HoldFault, NotOpen, Outcome, PeerReply};
+use ilp_book::{Book, Held, HoldFault, NotOpen, Outcome, PeerReply};
 use ilp_journal::Cause;
-use ilp_packet::{Packet, Prepare};
+use ilp_packet::Packet;
 use std::alloc::{AllocError, Allocator};
 
 /// The actor that a script's entries are booked by.
 const ACTOR: u32 = 0;
 
-/// Runs one line. Where memory is refused, nothing was booked.
+/// Runs one line. Where memory is denied, nothing was booked.
 #[tactic(auto, unfolding(crate::specs::Replay::line_step))]
 pub(crate) fn run_line<A: Allocator + Copy>(
     alloc: A,
     book: &mut Book<A>,
     line: &[u8],
-) -> Result<Reply, AllocError>
-    ensures reply { IfOk result (λ reply.
-        reply ≡ (line_step book.old line.now).reply) }
-    ensures entry { OnOk result (book.new ≡ with_entry book.old
-        (line_step book.old line.now).entry) }
+) -> Result<LineReply, AllocError>
+    ensures step { IfOk result (λ reply. Does book.old book.new reply (line_step book.old line.now)) }
     ensures err { OnErr result (book.new ≡ book.old) }
 {
     let form = parse(book.config(), line);
@@ -48,120 +44,78 @@ pub(crate) fn run_line<A: Allocator + Copy>(
             packet: None,
         } => Ok(answer(book, now, number, PeerReply::NoReply)),
         Form::Expire { now } => Ok(expire(book, now)),
-        Form::Report => Ok(Reply::Report),
-        Form::Silent => Ok(Reply::Silent),
-        Form::Bad => Ok(Reply::BadLine),
+        Form::Report => Ok(LineReply::Report),
+        Form::Silent => Ok(LineReply::Silent),
+        Form::Bad => Ok(LineReply::BadLine),
     }
 }
 
-// A packet of a peer.
+// A packet of a peer, as hexadecimal text: only a Prepare can be held.
 fn run_hold<A: Allocator + Copy>(
     alloc: A,
     book: &mut Book<A>,
     now: i64,
     peer: u32,
     packet: &[u8],
-) -> Result<Reply, AllocError>
+) -> Result<LineReply, AllocError>
     requires known { IsKnown book.old.config peer }
-    ensures reply { IfOk result (λ reply. reply ≡ (replays.hold_text book.old
-        now peer (decode_of packet.now)).reply) }
-    ensures entry { OnOk result (book.new ≡ with_entry book.old (replays.hold_text
-        book.old now peer (decode_of packet.now)).entry) }
+    ensures step { IfOk result (λ reply. Does book.old book.new reply
+        (replays.hold_text book.old now peer (decode_of packet.now))) }
     ensures err { OnErr result (book.new ≡ book.old) }
 {
     let Some(octets) = decode(alloc, packet)? else {
-        return Ok(Reply::BadLine);
+        return Ok(LineReply::BadLine);
     };
-    hold_octets(book, now, peer, &octets)
-}
-
-fn hold_octets<A: Allocator>(
-    book: &mut Book<A>,
-    now: i64,
-    peer: u32,
-    octets: &[u8],
-) -> Result<Reply, AllocError>
-    requires known { IsKnown book.old.config peer }
-    ensures reply { IfOk result (λ reply. reply ≡ (replays.hold_packet book.old
-        now peer (reading octets.now)).reply) }
-    ensures entry { OnOk result (book.new ≡ with_entry book.old (replays.hold_packet
-        book.old now peer (reading octets.now)).entry) }
-    ensures err { OnErr result (book.new ≡ book.old) }
-{
-    let prepare = match Packet::read(octets) {
-        Ok(Packet::Prepare(prepare)) => prepare,
-        Ok(Packet::Fulfill(_)) => return Ok(Reply::BadPacket(Refusal::NotPrepare)),
-        Ok(Packet::Reject(_)) => return Ok(Reply::BadPacket(Refusal::NotPrepare)),
-        Err(fault) => return Ok(Reply::BadPacket(Refusal::from(fault))),
-    };
-    hold_prepare(book, now, peer, &prepare)
-}
-
-fn hold_prepare<A: Allocator>(
-    book: &mut Book<A>,
-    now: i64,
-    peer: u32,
-    prepare: &Prepare<'_>,
-) -> Result<Reply, AllocError>
-    requires known { IsKnown book.old.config peer }
-    ensures reply { IfOk result (λ reply. reply ≡ (replays.hold_packet book.old now peer
-        (Ok (packets.prepare (packets.plain_prepare prepare.now)))).reply) }
-    ensures entry { OnOk result (book.new ≡ with_entry book.old (replays.hold_packet book.old
-        now peer (Ok (packets.prepare (packets.plain_prepare prepare.now)))).entry) }
-    ensures err { OnErr result (book.new ≡ book.old) }
-{
-    match book.hold(ACTOR, peer, prepare, now) {
-        Ok(held) => Ok(Reply::Held(held)),
-        Err(fault) => {
-            let reply = rejected(fault)?;
-            Ok(reply)
-        }
+    match Packet::read(&octets) {
+        Ok(Packet::Prepare(prepare)) => hold_reply(book.hold(ACTOR, peer, &prepare, now)),
+        Ok(Packet::Fulfill(_)) => Ok(LineReply::BadPacket(Refusal::NotPrepare)),
+        Ok(Packet::Reject(_)) => Ok(LineReply::BadPacket(Refusal::NotPrepare)),
+        Err(fault) => Ok(LineReply::BadPacket(Refusal::from(fault))),
     }
 }
 
-// Want of memory is no reply.
-fn rejected(fault: HoldFault) -> Result<Reply, AllocError>
-    ensures { IfOk result (λ reply.
-        (reply ≡ Reply.Rejected fault) × (holds.is_memory (Err fault) ≡ false)) }
+// What is replied to a Prepare. Want of memory is no reply.
+fn hold_reply(outcome: Result<Held, HoldFault>) -> Result<LineReply, AllocError>
+    ensures reply { IfOk result (λ reply. reply ≡ replays.hold_reply outcome) }
+    ensures granted { IfOk result (λ _. growth_of outcome ≡ granted) }
+    ensures denied { OnErr result (IsErr outcome) }
 {
-    match fault {
-        HoldFault::Memory => Err(AllocError),
-        _ => Ok(Reply::Rejected(fault)),
+    match outcome {
+        Ok(held) => Ok(LineReply::Held(held)),
+        Err(HoldFault::Memory) => Err(AllocError),
+        Err(fault) => Ok(LineReply::Rejected(fault)),
     }
 }
 
-// What came back for a hold.
+// What came back for a hold, as hexadecimal text.
 fn run_answer<A: Allocator + Copy>(
     alloc: A,
     book: &mut Book<A>,
     now: i64,
     number: u32,
     packet: &[u8],
-) -> Result<Reply, AllocError>
-    ensures reply { IfOk result (λ reply. reply
-        ≡ (replays.answer_text book.old now number (decode_of packet.now)).reply) }
-    ensures entry { OnOk result (book.new ≡ with_entry book.old
-        (replays.answer_text book.old now number (decode_of packet.now)).entry) }
+) -> Result<LineReply, AllocError>
+    ensures step { IfOk result (λ reply. Does book.old book.new reply
+        (replays.answer_text book.old now number (decode_of packet.now))) }
     ensures err { OnErr result (book.new ≡ book.old) }
 {
     let Some(octets) = decode(alloc, packet)? else {
-        return Ok(Reply::BadLine);
+        return Ok(LineReply::BadLine);
     };
     let reply = came_back(&octets);
     Ok(answer(book, now, number, reply))
 }
 
-fn answer<A: Allocator>(book: &mut Book<A>, now: i64, number: u32, reply: PeerReply) -> Reply
-    ensures reply { result ≡ (replays.answer_with book.old now number reply).reply }
-    ensures entry { book.new ≡ with_entry book.old
-        (replays.answer_with book.old now number reply).entry }
+// What came back for a hold.
+fn answer<A: Allocator>(book: &mut Book<A>, now: i64, number: u32, reply: PeerReply) -> LineReply
+    ensures step { Does book.old book.new result (replays.answer_with book.old now number reply) }
 {
     match book.answer(ACTOR, number, reply, now) {
-        Ok(outcome) => Reply::Answered {
+        Ok(outcome) => LineReply::Answered {
             hold: number,
             outcome,
         },
-        Err(NotOpen { closer }) => Reply::NotOpen {
+        Err(NotOpen { closer }) => LineReply::NotOpen {
             hold: number,
             closer,
         },
@@ -169,24 +123,23 @@ fn answer<A: Allocator>(book: &mut Book<A>, now: i64, number: u32, reply: PeerRe
 }
 
 // The release of a hold whose deadline has come, if there is one.
-fn expire<A: Allocator>(book: &mut Book<A>, now: i64) -> Reply
-    ensures reply { result ≡ (replays.expire_due book.old now).reply }
-    ensures entry { book.new ≡ with_entry book.old (replays.expire_due book.old now).entry }
+fn expire<A: Allocator>(book: &mut Book<A>, now: i64) -> LineReply
+    ensures step { Does book.old book.new result (replays.expire_due book.old now) }
 {
     let entry = book.len();
     match book.expire_one(ACTOR, now) {
-        Some(hold) => Reply::Answered {
+        Some(hold) => LineReply::Answered {
             hold,
             outcome: Outcome::Released {
                 entry,
                 cause: Cause::Late,
             },
         },
-        None => Reply::NoneDue,
+        None => LineReply::NoneDue,
     }
 }
 
-// Octets that are no packet, and a Prepare, count as no reply.
+// What octets from the receiver say: those that are no packet, and a Prepare, count as no reply.
 fn came_back(octets: &[u8]) -> PeerReply
     ensures { result ≡ replays.came_back (reading octets.now) }
 {
@@ -198,7 +151,7 @@ fn came_back(octets: &[u8]) -> PeerReply
     }
 }
 
-// The octets of a hexadecimal text, if it is one.
+/// The octets of a hexadecimal text, if it is one.
 pub(crate) fn decode<A: Allocator>(alloc: A, text: &[u8]) -> Result<Option<Vec<u8, A>>, AllocError>
     ensures { IfOk result (λ decoded. MatchOption decoded (IsErr (decode_of text.now))
         (λ octets. decode_of text.now ≡ Ok octets.items)) }

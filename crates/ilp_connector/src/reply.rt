@@ -1,5 +1,5 @@
 //! What a line of a script prints.
-ghost use Rattle.std.specs.Prelude.{◌≡◌, IfOk, string_bytes};
+ghost use Rattle.std.specs.Prelude.{◌≡◌, IfOk, IsAscii, string_bytes};
 ghost use Rattle.ilp_accounts.specs.Configuration.{peer_at, peer_names};
 ghost use Rattle.ilp_connector.specs.Text as texts;
 ghost use Rattle.ilp_connector.specs.Text.{reply_text, balance_lines};
@@ -7,22 +7,31 @@ ghost use Rattle.ilp_connector.specs.Text.{reply_text, balance_lines};
 use crate::columns::report_line;
 use crate::refusal::{Named, Refusal};
 use ilp_accounts::Config;
-use ilp_assets::QuoteFault;
 use ilp_book::{Book, Held, HoldFault, Outcome};
 use ilp_journal::Cause;
 use std::alloc::{AllocError, Allocator};
+use std::str;
 
 /// What a line replies.
 #[derive(Clone, Copy, Debug, PartialEq, Eq)]
-pub(crate) enum Reply {
+pub(crate) enum LineReply {
+    /// A line that asks for nothing.
     Silent,
+    /// A line of no form.
     BadLine,
+    /// A packet that can't be held.
     BadPacket(Refusal),
+    /// A Prepare is held.
     Held(Held),
+    /// A Prepare is refused.
     Rejected(HoldFault),
+    /// A hold ended.
     Answered { hold: u32, outcome: Outcome },
+    /// Nothing is open under the number.
     NotOpen { hold: u32, closer: Option<u32> },
+    /// A sweep found nothing due.
     NoneDue,
+    /// The balances are asked for.
     Report,
 }
 
@@ -30,31 +39,32 @@ pub(crate) enum Reply {
 pub(crate) fn reply_text<A: Allocator + Copy>(
     alloc: A,
     book: &Book<A>,
-    reply: Reply,
+    reply: LineReply,
 ) -> Result<String<A>, AllocError>
     ensures { IfOk result (λ text. string_bytes text
         ≡ texts.reply_text book.now reply) }
 {
     match reply {
-        Reply::Silent => Ok(String::new(alloc)),
-        Reply::BadLine => String::from_str(alloc, "bad line\n"),
-        Reply::BadPacket(refusal) => format!(in alloc; "bad packet {refusal}\n"),
-        Reply::Held(held) => held_text(alloc, book, held),
-        Reply::Rejected(fault) => rejected_text(alloc, fault),
-        Reply::Answered { hold, outcome } => outcome_text(alloc, hold, outcome),
-        Reply::NotOpen { hold, closer } => not_open_text(alloc, hold, closer),
-        Reply::NoneDue => String::from_str(alloc, "none due\n"),
-        Reply::Report => report_text(alloc, book),
+        LineReply::Silent => Ok(String::new(alloc)),
+        LineReply::BadLine => String::from_str(alloc, "bad line\n"),
+        LineReply::BadPacket(refusal) => format!(in alloc; "bad packet {refusal}\n"),
+        LineReply::Held(held) => held_text(alloc, book, held),
+        LineReply::Rejected(fault) => rejected_text(alloc, fault),
+        LineReply::Answered { hold, outcome } => outcome_text(alloc, hold, outcome),
+        LineReply::NotOpen { hold, closer } => not_open_text(alloc, hold, closer),
+        LineReply::NoneDue => String::from_str(alloc, "none due\n"),
+        LineReply::Report => report_text(alloc, book),
     }
 }
 
+// A Prepare is held.
 fn held_text<A: Allocator + Copy>(
     alloc: A,
     book: &Book<A>,
     held: Held,
 ) -> Result<String<A>, AllocError>
     ensures { IfOk result (λ text. string_bytes text
-        ≡ texts.reply_text book.now (Reply.Held held)) }
+        ≡ texts.reply_text book.now (LineReply.Held held)) }
 {
     let name = name_of(book.config(), held.to);
     let number = held.number;
@@ -62,34 +72,28 @@ fn held_text<A: Allocator + Copy>(
     format!(in alloc; "held {number} to {name} out {out}\n")
 }
 
+// A Prepare is refused, with the code of its Reject.
 fn rejected_text<A: Allocator + Copy>(alloc: A, fault: HoldFault) -> Result<String<A>, AllocError>
     ensures { IfOk result (λ text. string_bytes text ≡ texts.rejected_text fault) }
 {
-    let code = reject_code(fault);
+    let code = fault.reject_code();
+    let code = code_text(&code);
     let named = Named(Refusal::from(fault));
     format!(in alloc; "reject {code} {named}\n")
 }
 
-// The code of the Reject that the sender of a refused Prepare gets.
-fn reject_code(fault: HoldFault) -> &'static str
-    ensures { result.now ≡ texts.reject_code fault }
+// The code of a Reject as text.
+fn code_text(code: &[u8; 3]) -> &str
+    requires { IsAscii code.now }
+    ensures { result.now ≡ code.now }
 {
-    match fault {
-        HoldFault::AmountTooLarge { .. } => "F08",
-        HoldFault::NoRoute => "F02",
-        HoldFault::BackToSender => "F02",
-        HoldFault::Expired => "R00",
-        HoldFault::TooShort => "R02",
-        HoldFault::Quote(QuoteFault::NoPrice) => "F02",
-        HoldFault::Quote(QuoteFault::OutTooLarge) => "F03",
-        HoldFault::Quote(QuoteFault::RoundsToNothing) => "R01",
-        HoldFault::Full => "T03",
-        HoldFault::TotalFull => "T04",
-        HoldFault::BelowLeast { .. } => "T04",
-        HoldFault::Memory => "T00",
+    match str::from_utf8(code) {
+        Ok(text) => text,
+        Err(_) => unreachable!(),
     }
 }
 
+// How a hold ended.
 fn outcome_text<A: Allocator + Copy>(
     alloc: A,
     hold: u32,
@@ -121,6 +125,7 @@ fn cause_text<A: Allocator + Copy>(alloc: A, cause: Cause) -> Result<String<A>, 
     }
 }
 
+// Nothing is open under a number.
 fn not_open_text<A: Allocator + Copy>(
     alloc: A,
     hold: u32,
