@@ -19,6 +19,7 @@ use Rattle.ilp_journal.specs.Balance.{balance}
 use Rattle.ilp_journal.specs.TrialBalance.{total_in, total_out, has_asset}
 use Rattle.ilp_packet.specs.Packet.{PlainPrepare}
 use Rattle.ilp_lookup.specs.Answer.{route_of}
+use Rattle.ilp_lookup.proofs.RouteOf.{IsRoute-route_of}
 use Rattle.ilp_book.specs.declared.calls.Held.{Held}
 use Rattle.ilp_book.specs.declared.fault.HoldFault.{HoldFault}
 use Rattle.ilp_book.specs.declared.fault.HoldFault.TheVariants as hold_fault
@@ -186,3 +187,7 @@ hold_termed book new caller sent growth result h e does =
 pub hold_by_route : (book new : PlainBook) (caller : By) (from : ℕ) (packet : PlainPrepare) (growth : Growth) (result : Result Held HoldFault) (route : Option ℕ) → route ≡ route_of book.config.routes packet.destination
     → Does book new result (hold_step book caller (given_route from packet route) growth) → Does book new result (hold_step book caller (incoming book.config from packet) growth)
 hold_by_route book new caller from packet growth result route e does = subst (λ o. Does book new result (hold_step book caller (given_route from packet o) growth)) e does
+
+-- the route that a destination has is its own
+pub own_route : (C : Configuration) (from : ℕ) (packet : PlainPrepare) → IsRoute C.routes packet.destination (incoming C from packet).route
+own_route C from packet = IsRoute-route_of C.routes packet.destination

@@ -7,6 +7,7 @@ mod columns;
 mod config_file;
 mod describe;
 mod form;
+pub mod laws;
 mod line;
 mod lines;
 mod refusal;

@@ -1,0 +1,20 @@
+//! What holds of every script. These functions do nothing: their contracts are the laws.
+ghost use Rattle.std.specs.Prelude.{◌≡◌, ℕ, List};
+ghost use Rattle.ilp_accounts.specs.Configuration.{Configuration};
+ghost use Rattle.ilp_accounts.specs.Valid.{IsValid};
+ghost use Rattle.ilp_book.specs.Book.{PlainBook, new_book};
+ghost use Rattle.ilp_book.specs.Lawful.{IsLawful};
+ghost use Rattle.ilp_book.specs.Run.{AreAllowed, book_after};
+ghost use Rattle.ilp_connector.specs.Calls.{calls_of};
+ghost use Rattle.ilp_connector.specs.Replay.{after_lines};
+
+/// What the lines of a script book is what a list of the book's calls books, each of them by the
+/// actor 0 and within its conditions; so the laws of runs speak of every replay, and the book that
+/// a script leaves is lawful.
+pub fn scripts_make_calls()
+    ensures booked { (book : PlainBook) (lines : List (List ℕ))
+        → after_lines book lines ≡ book_after book (calls_of book.config lines) }
+    ensures allowed { (C : Configuration) (lines : List (List ℕ)) → AreAllowed C (calls_of C lines) }
+    ensures lawful { (C : Configuration) (lines : List (List ℕ))
+        → IsValid C → IsLawful (after_lines (new_book C) lines) }
+{}
