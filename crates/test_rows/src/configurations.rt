@@ -20,6 +20,7 @@ pub(crate) fn print_configurations<R: Files + Print + AllocGlobal>(rt: &R) -> io
     print_configuration(rt)?;
     print_longest_prefixes(rt)?;
     print_rows(rt, "ranges.rows", "two_peers.toml", Telling::Fault)?;
+    print_rows(rt, "texts.rows", "priced.toml", Telling::Fault)?;
     print_rows(rt, "tables.rows", "two_peers.toml", Telling::Fault)?;
     print_rows(rt, "prices.rows", "priced.toml", Telling::Fault)?;
     print_rows(rt, "order.rows", "two_peers.toml", Telling::Fault)?;

@@ -6,40 +6,34 @@ use ilp_connector::{Refusal, ReplayFault, replay};
 use std::rt::Runtime;
 use std::{fs, io};
 
-// The files of scripts, each with the configuration that its scripts run over.
-const RUNS: [(&str, &str); 6] = [
-    ("scripts/two_peers.toml", "scripts/two_peers.scripts"),
-    ("scripts/dear_peer.toml", "scripts/dear_peer.scripts"),
-    (
-        "scripts/short_journal.toml",
-        "scripts/short_journal.scripts",
-    ),
-    ("scripts/deep_credit.toml", "scripts/deep_credit.scripts"),
-    (
-        "scripts/small_packets.toml",
-        "scripts/small_packets.scripts",
-    ),
-    ("scripts/three_assets.toml", "scripts/three_assets.scripts"),
+// The names of the configurations, each of which has a file of scripts beside it.
+const CONFIGURATIONS: [&str; 7] = [
+    "two_peers",
+    "dear_peer",
+    "short_journal",
+    "deep_credit",
+    "deep_credit_short_journal",
+    "small_packets",
+    "three_assets",
 ];
 
 /// Prints what each script prints, under its name.
 pub(crate) fn print_scripts<R: Runtime + AllocGlobal>(rt: &R) -> io::Result<()> {
-    for (configuration, scripts) in RUNS {
-        print_run(rt, configuration, scripts)?;
+    for name in CONFIGURATIONS {
+        print_over(rt, name)?;
     }
     print_faults(rt)
 }
 
-fn print_run<R: Runtime + AllocGlobal>(
-    rt: &R,
-    configuration: &str,
-    scripts: &str,
-) -> io::Result<()> {
-    let octets = fs::read(rt, configuration)?;
-    let scripts = fs::read_to_string(rt, scripts)?;
+// Prints what the scripts of a configuration print.
+fn print_over<R: Runtime + AllocGlobal>(rt: &R, name: &str) -> io::Result<()> {
+    let path = format!(in rt.alloc(); "scripts/{name}.toml")?;
+    let octets = fs::read(rt, path.as_str())?;
+    let path = format!(in rt.alloc(); "scripts/{name}.scripts")?;
+    let scripts = fs::read_to_string(rt, path.as_str())?;
     match Config::read(rt.alloc(), &octets) {
         Ok(config) => print_all(rt, &config, scripts.as_str()),
-        Err(fault) => print_refused(rt, configuration, fault),
+        Err(fault) => print_refused(rt, name, fault),
     }
 }
 

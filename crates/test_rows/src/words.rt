@@ -72,11 +72,14 @@ fn put_prepare(octets: &mut Octets, words: &str) -> Result<(), RowFault> {
     let Some((amount, words)) = words.split_once(' ') else {
         return Err(RowFault::NotUnderstood);
     };
-    let (destination, expires) = words.split_once(" until ").unwrap_or((words, ""));
+    let (destination, digits) = match words.split_once(" until ") {
+        Some((destination, digits)) => (destination, Some(digits)),
+        None => (words, None),
+    };
     let Ok(amount) = amount.parse::<u64>() else {
         return Err(RowFault::NotUnderstood);
     };
-    let expires = moment(expires)?;
+    let expires = expiry(digits)?;
     if !is_address(destination.as_bytes()) {
         return Err(RowFault::NotUnderstood);
     }
@@ -91,13 +94,13 @@ fn put_prepare(octets: &mut Octets, words: &str) -> Result<(), RowFault> {
     Ok(())
 }
 
-// The moment of these digits, in milliseconds since 1970: the usual expiry where there are none.
-fn moment(digits: &str) -> Result<i64, RowFault>
+// The moment of these digits, in milliseconds since 1970, or the usual expiry.
+fn expiry(digits: Option<&str>) -> Result<i64, RowFault>
     ensures { IfOk result IsMoment }
 {
-    if digits.is_empty() {
+    let Some(digits) = digits else {
         return Ok(EXPIRES);
-    }
+    };
     match digits.parse::<i64>() {
         Ok(moment) if (FIRST_MOMENT..=LAST_MOMENT).contains(&moment) => Ok(moment),
         _ => Err(RowFault::NotUnderstood),
