@@ -1,0 +1,148 @@
+//! Octets and octet strings.
+
+use super::GROWTHS;
+use ilp_oer::{Octets, write_octets};
+use std::alloc::{AllocError, Allocator};
+use std::process::Abort;
+use std::test::Fail;
+use test_allocator::DenyingAllocator;
+
+// Takes as many more octets as fit without memory.
+fn fill_up<A: Allocator>(rt: &impl Abort, out: &mut Octets<A>) {
+    for _ in 0..out.spare() {
+        assert_eq!(rt; out.append(&[9]), Ok(()));
+    }
+    assert_eq!(rt; out.spare(), 0);
+}
+
+#[test]
+fn reserving(rt: HostRuntime) -> Result<(), Fail> {
+    for granted in 0..GROWTHS {
+        let heap = DenyingAllocator::after(rt.alloc(), granted);
+        let mut out = Octets::new(&heap);
+        let outcome = out.reserve(3);
+        if heap.has_denied() {
+            assert_eq!(rt; outcome, Err(AllocError), "the first");
+            assert!(rt; out.as_slice().is_empty());
+            assert_eq!(rt; out.spare(), 0);
+            continue;
+        }
+        outcome?;
+        assert!(rt; out.spare() >= 3);
+        out.append(b"abc")?;
+        let spare = out.spare();
+        let outcome = out.reserve(1_000);
+        assert_eq!(rt; out.as_slice(), b"abc".as_slice());
+        if heap.has_denied() {
+            assert_eq!(rt; outcome, Err(AllocError), "the second");
+            assert_eq!(rt; out.spare(), spare);
+            continue;
+        }
+        outcome?;
+        assert!(rt; out.spare() >= 1_000);
+        assert_eq!(rt; granted, 2, "each call grows once");
+        return Ok(());
+    }
+    assert!(rt; false, "some growth was always denied");
+    Ok(())
+}
+
+#[test]
+fn reserving_more_than_there_can_be(rt: HostRuntime) -> Result<(), Fail> {
+    let mut out = Octets::new(rt.alloc());
+    assert_eq!(rt; out.reserve(usize::MAX), Err(AllocError));
+    assert_eq!(rt; out.spare(), 0);
+    out.append(b"abc")?;
+    let spare = out.spare();
+    for additional in [usize::MAX, usize::MAX - 3, usize::MAX / 2] {
+        assert_eq!(rt; out.reserve(additional), Err(AllocError));
+        assert_eq!(rt; out.as_slice(), b"abc".as_slice());
+        assert_eq!(rt; out.spare(), spare);
+    }
+    Ok(())
+}
+
+#[test]
+fn appending(rt: HostRuntime) -> Result<(), Fail> {
+    for granted in 0..GROWTHS {
+        let heap = DenyingAllocator::after(rt.alloc(), granted);
+        let mut out = Octets::new(&heap);
+        let outcome = out.append(b"abc");
+        if heap.has_denied() {
+            assert_eq!(rt; outcome, Err(AllocError), "the first");
+            assert!(rt; out.as_slice().is_empty());
+            assert_eq!(rt; out.spare(), 0);
+            continue;
+        }
+        outcome?;
+        let spare = out.spare();
+        let outcome = out.append(&[7; 1_000]);
+        if heap.has_denied() {
+            assert_eq!(rt; outcome, Err(AllocError), "the second");
+            assert_eq!(rt; out.as_slice(), b"abc".as_slice());
+            assert_eq!(rt; out.spare(), spare);
+            continue;
+        }
+        outcome?;
+        assert_eq!(rt; out.as_slice().len(), 1_003);
+        assert!(rt; out.as_slice().starts_with(b"abc\x07"));
+        assert!(rt; out.as_slice().ends_with(&[7; 1_000]));
+        assert_eq!(rt; granted, 2, "each call grows once");
+        return Ok(());
+    }
+    assert!(rt; false, "some growth was always denied");
+    Ok(())
+}
+
+#[test]
+fn writing_octet_strings(rt: HostRuntime) -> Result<(), Fail> {
+    for (len, prefix) in [
+        (0, &[0][..]),
+        (127, &[0x7f][..]),
+        (128, &[0x81, 0x80][..]),
+        (65_535, &[0x82, 0xff, 0xff][..]),
+    ] {
+        let content = vec![in rt.alloc(); 5; len]?;
+        write_behind(&rt, b"", &content, prefix)?;
+        write_behind(&rt, b"held", &content, prefix)?;
+    }
+    Ok(())
+}
+
+// Writes the octet string of the content, which begins with the prefix, behind what is held.
+fn write_behind(
+    rt: &(impl Abort + AllocGlobal),
+    held: &[u8],
+    content: &[u8],
+    prefix: &[u8],
+) -> Result<(), Fail> {
+    assert!(rt; content.len() <= 65_535);
+    for granted in 0..GROWTHS {
+        let heap = DenyingAllocator::after(rt.alloc(), granted);
+        let mut out = Octets::new(&heap);
+        let outcome = out.append(held);
+        if heap.has_denied() {
+            assert_eq!(rt; outcome, Err(AllocError));
+            continue;
+        }
+        outcome?;
+        fill_up(rt, &mut out);
+        let mut wanted = out.as_slice().to_vec(rt.alloc())?;
+        let outcome = write_octets(&mut out, content);
+        if heap.has_denied() {
+            assert_eq!(rt; outcome, Err(AllocError), "of {} octets", content.len());
+            assert_eq!(rt; out.as_slice(), wanted.as_slice());
+            assert_eq!(rt; out.spare(), 0);
+            continue;
+        }
+        outcome?;
+        wanted.extend_from_slice(prefix)?;
+        wanted.extend_from_slice(content)?;
+        assert_eq!(rt; out.as_slice(), wanted.as_slice());
+        let growths = if held.is_empty() { 1 } else { 2 };
+        assert_eq!(rt; granted, growths, "each call grows once");
+        return Ok(());
+    }
+    assert!(rt; false, "some growth was always denied");
+    Ok(())
+}

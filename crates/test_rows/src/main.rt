@@ -1,0 +1,26 @@
+//! Rows: what goes in lies in `data/`, and what is to be printed of it in `stdout`. Both were written
+//! by hand from the rules, and the stored run compares them. `README.md` says how rows are written.
+#![tactic(auto)]
+
+mod configurations;
+mod cuts;
+mod examples;
+mod fault;
+mod packets;
+mod scripts;
+mod words;
+
+use configurations::print_configurations;
+use cuts::print_cuts;
+use examples::print_examples;
+use packets::print_packets;
+use scripts::print_scripts;
+use std::io;
+
+fn main(rt: HostRuntime) -> io::Result<()> {
+    print_configurations(&rt)?;
+    print_scripts(&rt)?;
+    print_packets(&rt)?;
+    print_cuts(&rt)?;
+    print_examples(&rt)
+}

@@ -1,0 +1,60 @@
+//! Configurations read to their end, up to their limit and where a read fails.
+
+use ilp_connector::{BUILT_IN, Refusal, read_config};
+use ilp_io::Pieces;
+use std::alloc::{AllocError, Global};
+use std::test::Fail;
+
+// How many octets are read of a source of so many, in pieces.
+fn read_of(
+    alloc: Global,
+    count: usize,
+    piece: usize,
+) -> Result<Result<usize, Refusal>, AllocError> {
+    let octets = vec![in alloc; b'#'; count]?;
+    let mut reader = Pieces::new(&octets, piece.max(1));
+    match read_config(alloc, &mut reader) {
+        Ok(read) => Ok(Ok(read.len())),
+        Err(refusal) => Ok(Err(refusal)),
+    }
+}
+
+#[test]
+fn reads_configurations_up_to_their_limit(rt: HostRuntime) -> Result<(), Fail> {
+    for (count, piece, expected) in [
+        (0, 1, Ok(0)),
+        (1_000, 7, Ok(1_000)),
+        (1_048_576, 4096, Ok(1_048_576)),
+        (1_048_576, 1_000, Ok(1_048_576)),
+        (1_048_577, 4096, Err(Refusal::ConfigUnread)),
+        (1_048_577, 1_000, Err(Refusal::ConfigUnread)),
+        (1_100_000, 4096, Err(Refusal::ConfigUnread)),
+    ] {
+        assert_eq!(rt;
+            read_of(rt.alloc(), count, piece)?,
+            expected,
+            "of {count} octets"
+        );
+    }
+    Ok(())
+}
+
+#[test]
+fn reads_the_whole_of_a_configuration(rt: HostRuntime) -> Result<(), Fail> {
+    let mut reader = Pieces::new(BUILT_IN.as_bytes(), 10);
+    let octets = read_config(rt.alloc(), &mut reader)?;
+    assert_eq!(rt; octets.as_slice(), BUILT_IN.as_bytes());
+    let mut again = BUILT_IN.as_bytes();
+    assert_eq!(rt; read_config(rt.alloc(), &mut again)?.len(), BUILT_IN.len());
+    Ok(())
+}
+
+#[test]
+fn reads_no_configuration_where_a_read_fails(rt: HostRuntime) {
+    for place in [0, 1, 100, BUILT_IN.len()] {
+        let mut reader = Pieces::failing(BUILT_IN.as_bytes(), 50, place);
+        let outcome = read_config(rt.alloc(), &mut reader);
+        assert!(rt; matches!(outcome, Err(Refusal::ConfigUnread)), "at {place}");
+        assert_eq!(rt; reader.failures, 1);
+    }
+}
