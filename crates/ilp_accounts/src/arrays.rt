@@ -2,6 +2,7 @@
 ghost use Rattle.std.specs.Prelude.{◌≡◌, ◌≤◌, length, map, IfOk};
 ghost use Rattle.toml.specs.View.{view, table_view};
 ghost use Rattle.ilp_fields.specs.Checks.{Reads};
+ghost use Rattle.ilp_accounts.specs.Limits.{most_peers};
 ghost use Rattle.ilp_accounts.specs.Views.{plain_arrays};
 ghost use Rattle.ilp_accounts.specs.Configuration.{arrays_of};
 ghost use Rattle.ilp_accounts.specs.Faults.{arrays_fault};
@@ -32,7 +33,7 @@ pub(crate) struct Arrays<'a> {
 pub(crate) fn arrays_of(table: &Table) -> Result<Arrays<'_>, ConfigFault>
     ensures reads { Reads plain_arrays result
         (arrays_fault (table_view table.now)) (arrays_of (table_view table.now)) }
-    ensures few { IfOk result (λ arrays. length arrays.peers.now ≤ 256) }
+    ensures few { IfOk result (λ arrays. length arrays.peers.now ≤ most_peers) }
 {
     let assets = tables_at(table, Field::Asset, MAX_ASSETS)?;
     if assets.is_empty() {

@@ -4,6 +4,7 @@ ghost use Rattle.toml.specs.Data.{Members};
 ghost use Rattle.toml.specs.View.{table_view};
 ghost use Rattle.ilp_fields.specs.Checks.{Reads};
 ghost use Rattle.ilp_accounts.specs.Configuration.{configuration, peer_at, peer_names, peer_tokens};
+ghost use Rattle.ilp_accounts.specs.Limits.{most_peers};
 ghost use Rattle.ilp_accounts.specs.Valid.{IsValid};
 ghost use Rattle.ilp_accounts.specs.Views.{plain_peer};
 ghost use Rattle.ilp_lookup.specs.Texts.{IsPlaceOf};
@@ -224,7 +225,7 @@ impl Config {
     pub fn peers(&self) -> u32
         ensures count { result ≡ length self.now.peers }
         ensures some { 1 ≤ result }
-        ensures few { result ≤ 256 }
+        ensures few { result ≤ most_peers }
     {
         self.peers.len() as u32
     }

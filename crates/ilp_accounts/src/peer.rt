@@ -14,6 +14,9 @@ use ilp_fields::{
 use std::alloc::{AllocError, Global};
 use toml::Table;
 
+// The greatest amount that TOML can write.
+const MAX_WRITTEN: u64 = i64::MAX as u64;
+
 /// The levels between which the connector settles with a peer, in units of the peer's asset.
 #[derive(Clone, Copy, Debug, PartialEq, Eq)]
 pub struct Levels {
@@ -70,7 +73,7 @@ pub(crate) fn fields_of(table: &Table) -> Result<PeerFields<'_>, ConfigFault>
     let out_path = defaulted_text(table, Field::OutPath, Form::Path, "/ilp")?;
     let least = required_integer(table, Field::Least)?;
     let fee_ppm = defaulted_number(table, Field::FeePpm, 0, 1_000_000, 0)?;
-    let max_packet = defaulted_amount(table, Field::MaxPacket, 9223372036854775807, u64::MAX)?;
+    let max_packet = defaulted_amount(table, Field::MaxPacket, MAX_WRITTEN, u64::MAX)?;
     let engine = optional_text(table, Field::Engine, Form::Place)?;
     let threshold = optional_integer(table, Field::Threshold)?;
     let settle_to = optional_integer(table, Field::SettleTo)?;

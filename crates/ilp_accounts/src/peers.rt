@@ -3,6 +3,7 @@ ghost use Rattle.std.specs.Prelude.{◌≡◌, ◌≢◌, ◌≤◌, ◌<◌, �
 ghost use Rattle.toml.specs.View.{view, table_view};
 ghost use Rattle.ilp_fields.specs.Checks.{Reads, first_beside};
 ghost use Rattle.ilp_fields.specs.Fields.{tables};
+ghost use Rattle.ilp_accounts.specs.Limits.{most_peers};
 ghost use Rattle.ilp_accounts.specs.Views.{plain_peer, plain_fields};
 ghost use Rattle.ilp_accounts.specs.Configuration.{peer_of, peer_from, peer_names, peer_tokens};
 ghost use Rattle.ilp_accounts.specs.Faults.{is_among, peer_fault, peer_fault_among, peer_rules_fault, levels_fault, are_ordered};
@@ -98,7 +99,7 @@ pub(crate) fn peers_of(
     assets: &AssetTable,
     values: &[Value],
 ) -> Result<Peers, ConfigFault>
-    requires { length values.now ≤ 256 }
+    requires { length values.now ≤ most_peers }
     ensures { let known = assets.now.assets in
         let ts = tables (map view values.now) in
         Reads (λ peers. peers) result

@@ -1,5 +1,6 @@
 //! Where in a configuration a fault lies.
 ghost use Rattle.std.specs.Prelude.{◌≤◌, length};
+ghost use Rattle.ilp_accounts.specs.Limits.{most_peers};
 
 use crate::arrays::{Arrays, arrays_of};
 use crate::assets::{asset_from, table_of};
@@ -110,7 +111,7 @@ pub(crate) fn place_of(
 
 // How many of the first tables it takes at least for this fault, which all of them have.
 fn least_count(alloc: Global, arrays: Arrays<'_>, fault: ConfigFault) -> Result<usize, AllocError>
-    requires { length arrays.peers.now ≤ 256 }
+    requires { length arrays.peers.now ≤ most_peers }
 {
     let mut too_few = 0;
     let mut enough = count_of(arrays);
@@ -127,7 +128,7 @@ fn least_count(alloc: Global, arrays: Arrays<'_>, fault: ConfigFault) -> Result<
 
 // The first fault of the tables.
 fn fault_of(alloc: Global, arrays: Arrays<'_>) -> Result<Option<ConfigFault>, AllocError>
-    requires { length arrays.peers.now ≤ 256 }
+    requires { length arrays.peers.now ≤ most_peers }
 {
     match read(alloc, arrays) {
         Ok(()) => Ok(None),
@@ -137,7 +138,7 @@ fn fault_of(alloc: Global, arrays: Arrays<'_>) -> Result<Option<ConfigFault>, Al
 }
 
 fn read(alloc: Global, arrays: Arrays<'_>) -> Result<(), ConfigFault>
-    requires { length arrays.peers.now ≤ 256 }
+    requires { length arrays.peers.now ≤ most_peers }
 {
     let assets = table_of(alloc, arrays)?;
     let peers = peers_of(alloc, &assets, arrays.peers)?;

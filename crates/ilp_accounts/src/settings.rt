@@ -10,6 +10,10 @@ use ilp_fields::{ConfigFault, Field, Form, defaulted_number, defaulted_text, req
 use std::alloc::{AllocError, Global};
 use toml::Table;
 
+const HOUR_MS: u32 = 3_600_000;
+
+const MINUTE_MS: u32 = 60_000;
+
 // The settings, with their texts in the table.
 #[derive(Clone, Copy)]
 pub(crate) struct SettingsFields<'a> {
@@ -55,10 +59,10 @@ pub(crate) fn settings_of(table: &Table) -> Result<SettingsFields<'_>, ConfigFau
     let path = defaulted_text(table, Field::Path, Form::Path, "/ilp")?;
     let workers = defaulted_number(table, Field::Workers, 1, 64, 4)?;
     let journal = defaulted_number(table, Field::Journal, 2, 16_777_216, 65_536)?;
-    let window_ms = defaulted_number(table, Field::WindowMs, 0, 3_600_000, 1_000)?;
-    let max_hold_ms = defaulted_number(table, Field::MaxHoldMs, 1, 3_600_000, 30_000)?;
-    let sweep_ms = defaulted_number(table, Field::SweepMs, 1, 60_000, 100)?;
-    let settle_ms = defaulted_number(table, Field::SettleMs, 1, 60_000, 1_000)?;
+    let window_ms = defaulted_number(table, Field::WindowMs, 0, HOUR_MS, 1_000)?;
+    let max_hold_ms = defaulted_number(table, Field::MaxHoldMs, 1, HOUR_MS, 30_000)?;
+    let sweep_ms = defaulted_number(table, Field::SweepMs, 1, MINUTE_MS, 100)?;
+    let settle_ms = defaulted_number(table, Field::SettleMs, 1, MINUTE_MS, 1_000)?;
     Ok(SettingsFields {
         address,
         run,
