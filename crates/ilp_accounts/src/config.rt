@@ -26,7 +26,7 @@ use std::marker::Model;
 use toml::Table;
 
 /// The configuration of a connector. It is valid: what each layer relies on stands in `IsValid`,
-/// which `is_valid` tells.
+/// which `journal`, `assets`, `peers` and `route` tell.
 #[derive(Drop)]
 pub struct Config {
     settings: Settings,
@@ -177,7 +177,8 @@ impl Config {
 
     /// How many entries the journal may have: 2 to 16777216.
     pub fn journal(&self) -> u32
-        ensures { result ≡ self.now.settings.journal }
+        ensures value { result ≡ self.now.settings.journal }
+        ensures valid { IsValid self.now }
     {
         self.settings.journal
     }
@@ -213,7 +214,8 @@ impl Config {
 
     /// The assets and their prices.
     pub fn assets(&self) -> &AssetTable
-        ensures { result.now ≡ self.now.table }
+        ensures value { result.now ≡ self.now.table }
+        ensures valid { IsValid self.now }
     {
         &self.assets
     }
@@ -226,6 +228,7 @@ impl Config {
         ensures count { result ≡ length self.now.peers }
         ensures some { 1 ≤ result }
         ensures few { result ≤ most_peers }
+        ensures valid { IsValid self.now }
     {
         self.peers.len() as u32
     }
@@ -368,6 +371,7 @@ impl Config {
     pub fn route(&self, octets: &[u8]) -> Option<u32>
         ensures route { IsRoute self.now.routes octets.now result }
         ensures known { IfSome result (λ peer. peer < length self.now.peers) }
+        ensures valid { IsValid self.now }
     {
         self.routes.find(octets)
     }
