@@ -17,7 +17,7 @@ use Rattle.ilp_fields.specs.declared.form.Form.TheVariants as form
 use Rattle.ilp_fields.specs.Fields.{text_of}
 use Rattle.ilp_lookup.specs.Route.{Route, prefixes}
 use Rattle.ilp_accounts.specs.Configuration.{PlainPeer, fields_of, peer_from, peer_of, peer_names, peer_tokens, levels_from, route_of}
-use Rattle.ilp_accounts.specs.Faults.{is_among, fields_checks, fields_fault, levels_checks, levels_fault, are_ordered, peer_rules_checks, peer_rules_fault, peer_fault_among, peer_fault, route_checks, route_fault}
+use Rattle.ilp_accounts.specs.Faults.{is_among, fields_checks, fields_fault, levels_checks, levels_fault, are_ordered, peer_rules_checks, peer_rules_fault, peer_checks, peer_fault, route_checks, route_fault}
 use Rattle.ilp_accounts.specs.Limits.{whole_ppm}
 use Rattle.ilp_accounts.specs.Valid.{AreOrdered, IsPeer, IsRouteTo}
 use Rattle.ilp_accounts.proofs.Passing.{passed, not_false}
@@ -62,15 +62,15 @@ levels_ordered p (Some t) (Some s) engine ordered =
 
 module _ (assets : List PlainAsset) (before : List PlainPeer) (t : Members) (none : peer_fault assets before t ≡ None) where
   fields_pass : first_of (fields_checks t) ≡ None
-  unfolding peer_fault peer_fault_among fields_fault
-  fields_pass = passed (fields_fault t ∷ peer_rules_fault assets (peer_names before) (peer_tokens before) (fields_of t) ∷ []) none 0
+  unfolding peer_fault fields_fault
+  fields_pass = passed (peer_checks assets before t) none 0
 
   rules : List (Option ConfigFault)
   rules = peer_rules_checks assets (peer_names before) (peer_tokens before) (fields_of t)
 
   rules_pass : first_of rules ≡ None
-  unfolding peer_fault peer_fault_among peer_rules_fault rules
-  rules_pass = passed (fields_fault t ∷ peer_rules_fault assets (peer_names before) (peer_tokens before) (fields_of t) ∷ []) none 1
+  unfolding peer_fault peer_rules_fault rules
+  rules_pass = passed (peer_checks assets before t) none 1
 
   levels_pass : first_of (levels_checks (fields_of t)) ≡ None
   unfolding levels_fault rules

@@ -135,12 +135,15 @@ peer_rules_checks assets names tokens f =
 unfoldable pub peer_rules_fault : List PlainAsset → List (List ℕ) → List (List ℕ) → PlainFields → Option ConfigFault
 peer_rules_fault assets names tokens f = first_of (peer_rules_checks assets names tokens f)
 
-unfoldable pub peer_fault_among : List PlainAsset → List (List ℕ) → List (List ℕ) → Members → Option ConfigFault
-peer_fault_among assets names tokens t = first_of (fields_fault t ∷ peer_rules_fault assets names tokens (fields_of t) ∷ [])
-
 -- a peer beside those before it
+abbrev pub peer_checks : List PlainAsset → List PlainPeer → Members → List (Option ConfigFault)
+peer_checks assets before t =
+    fields_fault t
+    ∷ peer_rules_fault assets (peer_names before) (peer_tokens before) (fields_of t)
+    ∷ []
+
 unfoldable pub peer_fault : List PlainAsset → List PlainPeer → Members → Option ConfigFault
-peer_fault assets before t = peer_fault_among assets (peer_names before) (peer_tokens before) t
+peer_fault assets before t = first_of (peer_checks assets before t)
 
 -- the name of a peer, and a prefix that no route before has
 abbrev pub route_checks : List (List ℕ) → List Route → Members → List (Option ConfigFault)

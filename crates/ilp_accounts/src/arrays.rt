@@ -19,7 +19,7 @@ const MAX_PEERS: usize = 256;
 
 const MAX_ROUTES: usize = 4096;
 
-// The elements of the arrays, all of which are tables.
+/// The elements of the arrays, all of which are tables.
 #[derive(Clone, Copy)]
 pub(crate) struct Arrays<'a> {
     pub(crate) assets: &'a [Value],
@@ -28,7 +28,7 @@ pub(crate) struct Arrays<'a> {
     pub(crate) routes: &'a [Value],
 }
 
-// Reads the arrays: at least one asset and one peer.
+/// Reads the arrays: at least one asset and one peer.
 #[tactic(auto, unfolding(crate::specs::Faults::arrays_fault, crate::specs::Configuration::arrays_of), using(ilp_fields::proofs::Elements::length_seen))]
 pub(crate) fn arrays_of(table: &Table) -> Result<Arrays<'_>, ConfigFault>
     ensures reads { Reads plain_arrays result

@@ -68,8 +68,8 @@ impl Config {
     /// come the fields of all assets, those of all prices, and what is wrong among assets and
     /// prices. Then peer by peer its fields, `NoSuchAsset`, `DoublePeer`, `DoubleToken`, the fields
     /// that a threshold needs and `BadLevels`; and last route by route its fields, with an unknown
-    /// peer as `BadValue`, and `DoubleRoute`. `Memory` may come in place of any answer, where
-    /// memory was refused.
+    /// peer as `BadValue`, and `DoubleRoute`. `Memory` may come in place of any answer, where a
+    /// growth of memory was denied.
     pub fn read(alloc: Global, octets: &[u8]) -> Result<Config, ConfigFault>
         ensures toml { (t : Members) → IsToml octets.now t
             → Reads (λ c. c) result (first_fault t) (configuration t) }

@@ -14,7 +14,7 @@ const HOUR_MS: u32 = 3_600_000;
 
 const MINUTE_MS: u32 = 60_000;
 
-// The settings, with their texts in the table.
+/// The settings, with texts that lie elsewhere, as in a table.
 #[derive(Clone, Copy)]
 pub(crate) struct SettingsFields<'a> {
     address: &'a str,
@@ -30,7 +30,7 @@ pub(crate) struct SettingsFields<'a> {
     settle_ms: u32,
 }
 
-// What holds for the connector as a whole.
+/// What holds for the connector as a whole: times in milliseconds, the journal in entries.
 #[derive(Debug, Drop)]
 pub(crate) struct Settings {
     pub(crate) address: String,
@@ -46,7 +46,7 @@ pub(crate) struct Settings {
     pub(crate) settle_ms: u32,
 }
 
-// Reads the top fields.
+/// Reads the top fields.
 #[tactic(auto, unfolding(crate::specs::Faults::settings_fault, crate::specs::Configuration::settings_of))]
 pub(crate) fn settings_of(table: &Table) -> Result<SettingsFields<'_>, ConfigFault>
     ensures { Reads read_settings result
@@ -79,7 +79,7 @@ pub(crate) fn settings_of(table: &Table) -> Result<SettingsFields<'_>, ConfigFau
 }
 
 impl SettingsFields<'_> {
-    // The same with texts of their own.
+    /// The settings, with texts of their own in place of those in the table.
     pub(crate) fn owned(self, alloc: Global) -> Result<Settings, AllocError>
         ensures { IfOk result (λ settings. plain_settings settings ≡ read_settings self.entry) }
     {
@@ -100,7 +100,7 @@ impl SettingsFields<'_> {
 }
 
 impl Settings {
-    // The settings as they stand in a table.
+    /// The settings, with their texts where they lie.
     pub(crate) fn fields(&self) -> SettingsFields<'_>
         ensures { read_settings result ≡ plain_settings self.now }
     {
