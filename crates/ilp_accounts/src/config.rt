@@ -29,13 +29,14 @@ use toml::Table;
 /// which `journal`, `assets`, `peers` and `route` tell.
 #[derive(Drop)]
 pub struct Config {
-    settings: Settings,
+    settings: Settings<String>,
     assets: AssetTable,
     peers: Peers,
     routes: RouteIndex,
 }
 
 impl Model for Config {
+    ghost use Rattle.std.specs.Prelude.{string_bytes};
     ghost use Rattle.ilp_accounts.specs.Configuration.{Configuration};
     ghost use Rattle.ilp_accounts.specs.Views.{plain_settings};
     ghost use Rattle.ilp_accounts.specs.Valid.{IsValid};
@@ -43,14 +44,14 @@ impl Model for Config {
     ghost Value = { Configuration };
 
     ghost view = { λ c. record {
-      settings = plain_settings c.settings;
+      settings = plain_settings string_bytes c.settings;
       table = c.assets;
       peers = c.peers;
       routes = c.routes;
     } };
 
     ghost invariant = { λ c. IsValid (record {
-      settings = plain_settings c.settings;
+      settings = plain_settings string_bytes c.settings;
       table = c.assets;
       peers = c.peers;
       routes = c.routes;
