@@ -88,14 +88,6 @@ impl Config {
         }
     }
 
-    /// Tells what every configuration has that was read. It does nothing: who relies on it in a
-    /// proof calls it.
-    pub fn is_valid(&self)
-        ensures { IsValid self.now }
-    {
-        let _peers = &self.peers;
-    }
-
     // The configuration that a table stands for.
     #[tactic(auto, unfolding(crate::specs::Faults::first_fault))]
     fn from_table(alloc: Global, table: &Table) -> Result<Config, ConfigFault>
