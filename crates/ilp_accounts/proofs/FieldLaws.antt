@@ -1,7 +1,7 @@
 -- What the field of a table holds where its check has no fault.
-use Rattle.std.proofs.Common.{◌≡◌, ℕ, suc, ◌≤◌, nat_le, true, List, [], ◌∷◌, length, Option, Some, None, IfSome, is_some, unwrap_or, option_and_then, refl, ap, arith}
+use Rattle.std.proofs.Common.{◌≡◌, ℕ, suc, ◌≤◌, nat_le, Bool, true, List, [], ◌∷◌, length, Option, Some, None, IfSome, is_some, unwrap_or, option_and_then, refl, ap, arith, inl, inr}
 use Rattle.std.specs.List.{list_all, cons_option}
-use Rattle.std.specs.Prelude.{pos, negsuc}
+use Rattle.std.specs.Option.{IsSomeAnd}
 use Rattle.std.proofs.lemmas.Bool.{and_parts}
 use Rattle.std.proofs.lemmas.Bool.Decides.{nat_tests}
 use Rattle.toml.specs.Data.{Data, Items, Members, string, integer, float, boolean, datetime, array, table, as_str, as_array, as_table}
@@ -10,12 +10,48 @@ use Rattle.ilp_fields.specs.declared.fault.ConfigFault.TheVariants.{BadValue}
 use Rattle.ilp_fields.specs.declared.form.Form.{Form}
 use Rattle.ilp_fields.specs.Forms.{is_within}
 use Rattle.ilp_fields.specs.Checks.{required, required_in, optional, optional_in}
-use Rattle.ilp_fields.specs.Fields.{at, is_text, is_natural, natural, text_of, text_in, natural_in, elements_in, elements_of, are_tables, are_tables_in, list_of, is_table, tables}
-use Rattle.ilp_accounts.specs.Valid.{HasForm, IsWithin}
+use Rattle.ilp_fields.specs.Fields.{at, is_text, is_natural, is_natural_within, natural, text_of, text_in, natural_of, natural_in, elements_in, elements_of, are_tables, are_tables_in, list_of, is_table, tables}
+use Rattle.ilp_accounts.specs.Limits.{most_written, most_carried}
+use Rattle.ilp_accounts.specs.Valid.{HasForm, IsWithin, IsMaxPacket}
 use Rattle.ilp_accounts.proofs.Passing.{unless-None}
 
--- a value of a form is a text of it
-formed : (f : Form) (value : Data) → is_text f value ≡ true → HasForm f (unwrap_or (as_str value) [])
+-- ---- a field whose value is read by `read`, where each value that fits is read as one of which P holds
+module _ {V : Type 0} (fits : Data → Bool) (read : Data → Option V) (P : V → Type 0) (reads : (value : Data) → fits value ≡ true → IsSomeAnd (read value) P) where
+  there : (o : Option V) (default : V) → IsSomeAnd o P → P (unwrap_or o default)
+  there None default h = absurd h
+  there (Some x) default h = h
+
+  if_there : (o : Option V) → IsSomeAnd o P → IfSome o P
+  if_there None h = tt
+  if_there (Some x) h = h
+
+  or_default : (o : Option V) (default : V) → P default → IfSome o P → P (unwrap_or o default)
+  or_default None default holds h = holds
+  or_default (Some x) default holds h = h
+
+  -- what stands under the key, of a field that has to be there
+  pub required_holds : (which : Field) (t : Members) (default : V) → required fits which t ≡ None → P (unwrap_or (option_and_then read (at which t)) default)
+  required_holds which t default none = by (at which t) none
+    where
+      by : (found : Option Data) → required_in fits which found ≡ None → P (unwrap_or (option_and_then read found) default)
+      by None none = cc
+      by (Some value) none = there (read value) default (reads value (unless-None (fits value) (BadValue which) none))
+
+  -- what stands under the key, if anything does
+  pub optional_holds : (which : Field) (t : Members) → optional fits which t ≡ None → IfSome (option_and_then read (at which t)) P
+  optional_holds which t none = by (at which t) none
+    where
+      by : (found : Option Data) → optional_in fits which found ≡ None → IfSome (option_and_then read found) P
+      by None none = tt
+      by (Some value) none = if_there (read value) (reads value (unless-None (fits value) (BadValue which) none))
+
+  -- what stands under the key, or else a default
+  pub defaulted_holds : (which : Field) (t : Members) (default : V) → P default → optional fits which t ≡ None → P (unwrap_or (option_and_then read (at which t)) default)
+  defaulted_holds which t default holds none = or_default (option_and_then read (at which t)) default holds (optional_holds which t none)
+
+-- ---- texts
+
+formed : (f : Form) (value : Data) → is_text f value ≡ true → IsSomeAnd (as_str value) (HasForm f)
 formed f (string text) fits = fits
 formed f (integer z) fits = cc
 formed f (float x) fits = cc
@@ -24,65 +60,41 @@ formed f (datetime d) fits = cc
 formed f (array items) fits = cc
 formed f (table t) fits = cc
 
-formed_required : (f : Form) (which : Field) (found : Option Data) → required_in (is_text f) which found ≡ None → HasForm f (unwrap_or (option_and_then as_str found) [])
-formed_required f which None none = cc
-formed_required f which (Some value) none = formed f value (unless-None (is_text f value) (BadValue which) none)
-
--- a text that has to be there has its form
 pub text_formed : (f : Form) (which : Field) (t : Members) → required (is_text f) which t ≡ None → HasForm f (text_of which t)
-text_formed f which t none = formed_required f which (at which t) none
+text_formed f which t none = required_holds (is_text f) as_str (HasForm f) (formed f) which t [] none
 
-formed_some : (f : Form) (value : Data) → is_text f value ≡ true → IfSome (as_str value) (HasForm f)
-formed_some f (string text) fits = fits
-formed_some f (integer z) fits = cc
-formed_some f (float x) fits = cc
-formed_some f (boolean b) fits = cc
-formed_some f (datetime d) fits = cc
-formed_some f (array items) fits = cc
-formed_some f (table t) fits = cc
-
-formed_optional : (f : Form) (which : Field) (found : Option Data) → optional_in (is_text f) which found ≡ None → IfSome (option_and_then as_str found) (HasForm f)
-formed_optional f which None none = tt
-formed_optional f which (Some value) none = formed_some f value (unless-None (is_text f value) (BadValue which) none)
-
--- one that needn't be there has its form where it is
 pub text_formed_if : (f : Form) (which : Field) (t : Members) → optional (is_text f) which t ≡ None → IfSome (text_in which t) (HasForm f)
-text_formed_if f which t none = formed_optional f which (at which t) none
+text_formed_if f which t none = optional_holds (is_text f) as_str (HasForm f) (formed f) which t none
 
-or_else : (f : Form) (text : Option (List ℕ)) (default : List ℕ) → HasForm f default → IfSome text (HasForm f) → HasForm f (unwrap_or text default)
-or_else f None default h formed = h
-or_else f (Some text) default h formed = formed
-
--- and so has what stands for it, if its default has
 pub text_formed_or : (f : Form) (which : Field) (t : Members) (default : List ℕ) → HasForm f default → optional (is_text f) which t ≡ None → HasForm f (unwrap_or (text_in which t) default)
-text_formed_or f which t default h none = or_else f (text_in which t) default h (text_formed_if f which t none)
+text_formed_or f which t default h none = defaulted_holds (is_text f) as_str (HasForm f) (formed f) which t default h none
+
+-- ---- numbers
 
 within_parts : (least most n : ℕ) → is_within least most n ≡ true → IsWithin least most n
 within_parts least most n fits =
     let both = and_parts (nat_le least n) (nat_le n most) fits in
     (grind (arith, nat_tests, both.0), grind (arith, nat_tests, both.1))
 
-ranged : (least most : ℕ) (value : Data) → is_natural least most value ≡ true → IfSome (natural value) (IsWithin least most)
-ranged least most (integer (pos n)) fits = within_parts least most n fits
-ranged least most (integer (negsuc n)) fits = cc
-ranged least most (string text) fits = cc
-ranged least most (float x) fits = cc
-ranged least most (boolean b) fits = cc
-ranged least most (datetime d) fits = cc
-ranged least most (array items) fits = cc
-ranged least most (table t) fits = cc
+ranged : (least most : ℕ) (n : Option ℕ) → is_natural_within least most n ≡ true → IsSomeAnd n (IsWithin least most)
+ranged least most None fits = cc
+ranged least most (Some n) fits = within_parts least most n fits
 
-ranged_or : (least most : ℕ) (which : Field) (default : ℕ) (found : Option Data) → IsWithin least most default → optional_in (is_natural least most) which found ≡ None → IsWithin least most (unwrap_or (option_and_then natural found) default)
-ranged_or least most which default None h none = h
-ranged_or least most which default (Some value) h none = pick (natural value) (ranged least most value (unless-None (is_natural least most value) (BadValue which) none))
-  where
-    pick : (n : Option ℕ) → IfSome n (IsWithin least most) → IsWithin least most (unwrap_or n default)
-    pick None within = h
-    pick (Some n) within = within
+pub number_ranged : (least most : ℕ) (which : Field) (t : Members) → required (is_natural least most) which t ≡ None → IsWithin least most (natural_of which t)
+number_ranged least most which t none = required_holds (is_natural least most) natural (IsWithin least most) (λ value. ranged least most (natural value)) which t 0 none
 
--- a number lies in its range, if its default does
 pub number_ranged_or : (least most : ℕ) (which : Field) (t : Members) (default : ℕ) → IsWithin least most default → optional (is_natural least most) which t ≡ None → IsWithin least most (unwrap_or (natural_in which t) default)
-number_ranged_or least most which t default h none = ranged_or least most which default (at which t) h none
+number_ranged_or least most which t default h none = defaulted_holds (is_natural least most) natural (IsWithin least most) (λ value. ranged least most (natural value)) which t default h none
+
+written : (n : Option ℕ) → is_natural_within 0 most_written n ≡ true → IsSomeAnd n IsMaxPacket
+written None fits = cc
+written (Some n) fits = inl (within_parts 0 most_written n fits).1
+
+-- the greatest amount that a peer may send
+pub max_packet_of : (which : Field) (t : Members) → optional (is_natural 0 most_written) which t ≡ None → IsMaxPacket (unwrap_or (natural_in which t) most_carried)
+max_packet_of which t none = defaulted_holds (is_natural 0 most_written) natural IsMaxPacket (λ value. written (natural value)) which t most_carried (inr refl) none
+
+-- ---- arrays of tables
 
 -- where all elements are tables, there are as many tables
 all_tables : (values : List Data) → list_all is_table values ≡ true → length (tables values) ≡ length values

@@ -16,10 +16,7 @@ use Rattle.ilp_lookup.specs.declared.fault.LookupFault.TheVariants.{Double}
 use Rattle.ilp_accounts.specs.Configuration.{place_named}
 use Rattle.ilp_accounts.specs.Faults.{is_among}
 
-pub among : (text : List ℕ) (texts : List (List ℕ)) → Contains texts text → is_among text texts ≡ true
-among = list_any-from_Contains nat_list_eq_equiv
-
-pub not_among : (text : List ℕ) (texts : List (List ℕ)) → ¬ Contains texts text → is_among text texts ≡ false
+not_among : (text : List ℕ) (texts : List (List ℕ)) → ¬ Contains texts text → is_among text texts ≡ false
 not_among text texts none = by (is_among text texts) refl
   where
     by : (b : Bool) → is_among text texts ≡ b → is_among text texts ≡ false
@@ -52,9 +49,15 @@ placed names name answer is = by answer is (place_named names name) refl
         let inside = slice_get_within names place name there.0 in
         absurd (false≢true (sym (nowhere names name is place inside) ∙ (bytes_eq-Decides name (get_or names place name)).1 (sym (get_or_from_slice_get names place name name there.0))))
 
--- what an insertion says of the texts before it
-pub fresh : {X : Type 0} (texts : List (List ℕ)) (text : List ℕ) (x : X) → ((◌≡◌ {A = Result X LookupFault} (Ok x) (Err Double)) ↔ Contains texts text) → is_among text texts ≡ false
-fresh texts text x double = not_among text texts (λ there. never x (double.1 there))
-  where
-    never : {X : Type 0} (x : X) → ◌≡◌ {A = Result X LookupFault} (Ok x) (Err Double) → ⊥
-    never x same = cc
+-- An insertion of the octets of a text tells whether the text was there.
+module _ {X : Type 0} (texts : List (List ℕ)) (text octets : List ℕ) (same : octets ≡ text) (inserted : Result X LookupFault) (double : (inserted ≡ Err Double) ↔ Contains texts octets) where
+  -- it was not where the insertion was done
+  pub fresh : (x : X) → inserted ≡ Ok x → is_among text texts ≡ false
+  fresh x is = rw (← same) (not_among octets texts (λ there. never (sym is ∙ double.1 there)))
+    where
+      never : ◌≡◌ {A = Result X LookupFault} (Ok x) (Err Double) → ⊥
+      never same = cc
+
+  -- it was where the insertion was refused for it
+  pub among : inserted ≡ Err Double → is_among text texts ≡ true
+  among is = rw (← same) (list_any-from_Contains nat_list_eq_equiv octets texts (double.0 is))

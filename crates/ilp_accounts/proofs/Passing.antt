@@ -1,35 +1,43 @@
 -- What follows of checks where none of them has a fault.
-use Rattle.std.proofs.Common.{◌≡◌, ◌≢◌, ℕ, zero, suc, ◌≤◌, Bool, true, false, List, [], ◌∷◌, ◌++◌, length, get_or, map, Option, Some, None, refl, ap, sym, ◌∙◌, arith, append_assoc, append-nil, All, slice_index_or}
+use Rattle.std.proofs.Common.{◌≡◌, ◌≢◌, ℕ, zero, suc, ◌≤◌, Bool, true, false, not, List, [], ◌∷◌, ◌++◌, length, get_or, map, Option, Some, None, refl, ap, sym, ◌∙◌, arith, append_assoc, append-nil, All, slice_index_or}
 use Rattle.std.proofs.lemmas.Bool.{false≢true}
 use Rattle.std.proofs.lemmas.List.{map-append, length-append, length-map}
 use Rattle.std.proofs.lemmas.Slice.Eq.{bytes_eq-Decides}
 use Rattle.std.proofs.lemmas.List.Folds.{list_any_at}
-use Rattle.std.proofs.lemmas.List.Elements.{All-push}
+use Rattle.std.proofs.lemmas.List.Elements.{All-nil, All-cons, All-push}
 use Rattle.std.proofs.lemmas.List.Quantifiers.{all_pairs_push}
 use Rattle.std.specs.Str.{bytes_eq}
 use Rattle.std.specs.List.{cons_option}
 use Rattle.toml.specs.Data.{Data, Members, as_table}
 use Rattle.ilp_fields.specs.Fields.{tables}
-use Rattle.ilp_order.specs.Checks.{first_of, when}
+use Rattle.ilp_order.specs.Checks.{first_of}
+use Rattle.ilp_assets.proofs.Checking.{first_of-None}
 use Rattle.ilp_fields.specs.declared.fault.ConfigFault.{ConfigFault}
 use Rattle.ilp_fields.specs.Checks.{fault_unless, first_beside}
 use Rattle.ilp_accounts.specs.Faults.{is_among}
 use Rattle.ilp_accounts.specs.Valid.{AreDistinct}
 
 -- of checks with no fault, none has one
-pub passed : (checks : List (Option ConfigFault)) → first_of checks ≡ None → (place : ℕ) → slice_index_or checks place None ≡ None
+pub passed : {E : Type 0} (checks : List (Option E)) → first_of checks ≡ None → (place : ℕ) → slice_index_or checks place None ≡ None
 passed [] none place = refl
 passed (None ∷ checks) none zero = refl
 passed (None ∷ checks) none (suc place) = passed checks none place
 passed (Some fault ∷ checks) none place = cc
 
-pub when-None : (fails : Bool) (fault : ConfigFault) → when fails fault ≡ None → fails ≡ false
-when-None true fault none = cc
-when-None false fault none = refl
+pub not_false : (b : Bool) → not b ≡ false → b ≡ true
+not_false true h = refl
+not_false false h = cc
 
 pub unless-None : (fits : Bool) (fault : ConfigFault) → fault_unless fits fault ≡ None → fits ≡ true
 unless-None true fault none = refl
 unless-None false fault none = cc
+
+-- what each of several has that has no fault, all have
+pub All-mapped : {X R E : Type 0} (fault : X → Option E) (give : X → R) (P : R → Type 0) → ((x : X) → fault x ≡ None → P (give x)) → (xs : List X) → first_of (map fault xs) ≡ None → All P (map give xs)
+All-mapped fault give P each [] none = All-nil P
+All-mapped fault give P each (x ∷ xs) none =
+    let parts = first_of-None (fault x) (map fault xs) none in
+    All-cons P (give x) (map give xs) (each x parts.0) (All-mapped fault give P each xs parts.1)
 
 -- what is unlike all texts so far keeps them distinct
 distinct_push : (texts : List (List ℕ)) (text : List ℕ) → AreDistinct texts → is_among text texts ≡ false → AreDistinct (texts ++ text ∷ [])

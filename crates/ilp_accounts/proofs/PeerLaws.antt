@@ -9,16 +9,19 @@ use Rattle.std.specs.Int.Signed.{le_z_yes, lt_z_yes, lt_z_no}
 use Rattle.toml.specs.Data.{Members}
 use Rattle.ilp_order.specs.Checks.{first_of}
 use Rattle.ilp_assets.specs.Assets.{PlainAsset, is_asset as same_asset, place_of}
+use Rattle.ilp_assets.proofs.Checking.{when-None}
 use Rattle.ilp_fields.specs.declared.fault.Field.TheVariants as field
+use Rattle.ilp_fields.specs.declared.fault.ConfigFault.{ConfigFault}
 use Rattle.ilp_fields.specs.declared.fault.ConfigFault.TheVariants.{NoSuchAsset, DoublePeer, DoubleToken, BadValue, DoubleRoute, BadLevels, Missing}
 use Rattle.ilp_fields.specs.declared.form.Form.TheVariants as form
 use Rattle.ilp_fields.specs.Fields.{text_of}
 use Rattle.ilp_lookup.specs.Route.{Route, prefixes}
-use Rattle.ilp_accounts.specs.Configuration.{PlainPeer, PlainFields, fields_of, peer_from, peer_of, peer_names, peer_tokens, levels_from, route_of}
-use Rattle.ilp_accounts.specs.Faults.{is_among, fields_checks, fields_fault, levels_checks, levels_fault, are_ordered, peer_rules_checks, peer_rules_fault, peer_fault_among, peer_fault, route_checks, route_fault}
-use Rattle.ilp_accounts.specs.Valid.{HasForm, IsWithin, AreOrdered, IsPeer, IsRouteTo}
-use Rattle.ilp_accounts.proofs.Passing.{passed, when-None}
-use Rattle.ilp_accounts.proofs.FieldLaws.{text_formed, text_formed_if, text_formed_or, number_ranged_or}
+use Rattle.ilp_accounts.specs.Configuration.{PlainPeer, fields_of, peer_from, peer_of, peer_names, peer_tokens, levels_from, route_of}
+use Rattle.ilp_accounts.specs.Faults.{is_among, fields_checks, fields_fault, levels_checks, levels_fault, are_ordered, peer_rules_checks, peer_rules_fault, peer_checks, peer_fault, route_checks, route_fault}
+use Rattle.ilp_accounts.specs.Limits.{whole_ppm}
+use Rattle.ilp_accounts.specs.Valid.{AreOrdered, IsPeer, IsRouteTo}
+use Rattle.ilp_accounts.proofs.Passing.{passed, not_false}
+use Rattle.ilp_accounts.proofs.FieldLaws.{text_formed, text_formed_if, text_formed_or, number_ranged_or, max_packet_of}
 
 -- a place that is found lies in the list
 bound_either : (b : Bool) (start n : ℕ) (r : Option ℕ) → (is_none r ≡ false → unwrap_or r 0 < start + 1 + n) → is_none (cond b (Some start) r) ≡ false → unwrap_or (cond b (Some start) r) 0 < start + suc n
@@ -36,74 +39,12 @@ position-bound test xs d some = by (position test xs) refl some
     by None is none = absurd (false≢true (sym none))
     by (Some place) is there = (position-Some test xs place d is).0
 
--- the fields of a peer's table have their forms
-pub record AreFields (f : PlainFields) : Type 0 where
-  pub name : HasForm form.Name f.name
-  pub token : HasForm form.Token f.token
-  pub out_token : HasForm form.Token f.out_token
-  pub host : HasForm form.Place f.host
-  pub out_path : HasForm form.Path f.out_path
-  pub fee_ppm : IsWithin 0 1000000 f.fee_ppm
-  pub engine : IfSome f.engine (HasForm form.Place)
-
-are_fields : (t : Members) → fields_fault t ≡ None → AreFields (fields_of t)
-unfolding fields_fault fields_of
-are_fields t none =
-    let checks = fields_checks t in
-    record {
-      name = text_formed form.Name field.Name t (passed checks none 0);
-      token = text_formed form.Token field.Token t (passed checks none 2);
-      out_token = text_formed form.Token field.OutToken t (passed checks none 3);
-      host = text_formed form.Place field.Host t (passed checks none 4);
-      out_path = text_formed_or form.Path field.OutPath t (codes "/ilp") refl (passed checks none 5);
-      fee_ppm = number_ranged_or 0 1000000 field.FeePpm t 0 (omega arith, omega arith) (passed checks none 7);
-      engine = text_formed_if form.Place field.Engine t (passed checks none 9);
-    }
-
--- the rules that a peer without a fault keeps
-pub record KeepsRules (assets : List PlainAsset) (names tokens : List (List ℕ)) (f : PlainFields) : Type 0 where
-  pub asset : is_none (place_of assets f.asset) ≡ false
-  pub name : is_among f.name names ≡ false
-  pub token : is_among f.token tokens ≡ false
-  pub levels : levels_fault f ≡ None
-
-keeps_rules : (assets : List PlainAsset) (names tokens : List (List ℕ)) (f : PlainFields) → peer_rules_fault assets names tokens f ≡ None → KeepsRules assets names tokens f
-unfolding peer_rules_fault
-keeps_rules assets names tokens f none =
-    let checks = peer_rules_checks assets names tokens f in
-    record {
-      asset = when-None _ NoSuchAsset (passed checks none 0);
-      name = when-None _ DoublePeer (passed checks none 1);
-      token = when-None _ DoubleToken (passed checks none 2);
-      levels = passed checks none 3;
-    }
-
--- the tests of levels that pass
-pub record HasLevels (f : PlainFields) : Type 0 where
-  pub engine : (is_some f.threshold && is_none f.engine) ≡ false
-  pub least : int_lt (pos 0) f.least ≡ false
-  pub ordered : not (are_ordered f.least f.threshold f.settle_to) ≡ false
-
-has_levels : (f : PlainFields) → levels_fault f ≡ None → HasLevels f
-unfolding levels_fault
-has_levels f none =
-    let checks = levels_checks f in
-    record {
-      engine = when-None _ (Missing field.Engine) (passed checks none 1);
-      least = when-None _ BadLevels (passed checks none 2);
-      ordered = when-None _ BadLevels (passed checks none 3);
-    }
-
 not_above : (a b : ℤ) → int_lt a b ≡ false → b ≤ℤ a
 not_above a b e = lt_z_no (T_from_true (not (int_lt a b)) (rw e refl))
 
 is_there : {X : Type 0} (o : Option X) → is_none o ≡ false → IsSome o
 is_there None h = cc
 is_there (Some x) h = refl
-
-not_not : (b : Bool) → not b ≡ false → b ≡ true
-not_not true h = refl
-not_not false h = cc
 
 levels_ordered : (p : PlainPeer) (threshold settle_to : Option ℤ)
     → (is_some threshold && is_none p.engine) ≡ false → not (are_ordered p.least threshold settle_to) ≡ false
@@ -112,7 +53,7 @@ levels_ordered p None None engine ordered = tt
 levels_ordered p None (Some s) engine ordered = tt
 levels_ordered p (Some t) None engine ordered = tt
 levels_ordered p (Some t) (Some s) engine ordered =
-    let both = and_parts (int_le p.least s) (int_lt s t) (not_not _ ordered) in
+    let both = and_parts (int_le p.least s) (int_lt s t) (not_false _ ordered) in
     record {
       engine = is_there p.engine engine;
       least = le_z_yes (T_from_true _ both.0);
@@ -120,40 +61,52 @@ levels_ordered p (Some t) (Some s) engine ordered =
     }
 
 module _ (assets : List PlainAsset) (before : List PlainPeer) (t : Members) (none : peer_fault assets before t ≡ None) where
-  peer_parts : (fields_fault t ≡ None) × (peer_rules_fault assets (peer_names before) (peer_tokens before) (fields_of t) ≡ None)
-  unfolding peer_fault peer_fault_among
-  peer_parts = let checks = fields_fault t ∷ peer_rules_fault assets (peer_names before) (peer_tokens before) (fields_of t) ∷ [] in (passed checks none 0, passed checks none 1)
+  fields_pass : first_of (fields_checks t) ≡ None
+  unfolding peer_fault fields_fault
+  fields_pass = passed (peer_checks assets before t) none 0
 
-  rules_kept : KeepsRules assets (peer_names before) (peer_tokens before) (fields_of t)
-  rules_kept = keeps_rules assets (peer_names before) (peer_tokens before) (fields_of t) peer_parts.1
+  rules : List (Option ConfigFault)
+  rules = peer_rules_checks assets (peer_names before) (peer_tokens before) (fields_of t)
+
+  rules_pass : first_of rules ≡ None
+  unfolding peer_fault peer_rules_fault rules
+  rules_pass = passed (peer_checks assets before t) none 1
+
+  levels_pass : first_of (levels_checks (fields_of t)) ≡ None
+  unfolding levels_fault rules
+  levels_pass = passed rules rules_pass 3
 
   -- a peer without a fault is one
   pub is_peer : IsPeer (length assets) (peer_of assets t)
-  unfolding peer_from
+  unfolding peer_from fields_of rules
   is_peer =
-      let fields = are_fields t peer_parts.0 in
-      let levels = has_levels (fields_of t) rules_kept.levels in
+      let checks = fields_checks t in
+      let levels = levels_checks (fields_of t) in
+      let known : is_none (place_of assets (fields_of t).asset) ≡ false = when-None _ NoSuchAsset (passed rules rules_pass 0) in
+      let with_engine = when-None _ (Missing field.Engine) (passed levels levels_pass 1) in
+      let ordered = when-None _ BadLevels (passed levels levels_pass 3) in
       record {
-        name = fields.name;
-        asset = omega (arith, position_from-bound (same_asset (fields_of t).asset) 0 assets rules_kept.asset);
-        token = fields.token;
-        out_token = fields.out_token;
-        host = fields.host;
-        out_path = fields.out_path;
-        least = not_above (pos 0) (fields_of t).least levels.least;
-        fee_ppm = fields.fee_ppm.1;
-        engine = fields.engine;
-        levels = levels_ordered (peer_of assets t) (fields_of t).threshold (fields_of t).settle_to levels.engine levels.ordered;
+        name = text_formed form.Name field.Name t (passed checks fields_pass 0);
+        asset = omega (arith, position_from-bound (same_asset (fields_of t).asset) 0 assets known);
+        token = text_formed form.Token field.Token t (passed checks fields_pass 2);
+        out_token = text_formed form.Token field.OutToken t (passed checks fields_pass 3);
+        host = text_formed form.Place field.Host t (passed checks fields_pass 4);
+        out_path = text_formed_or form.Path field.OutPath t (codes "/ilp") refl (passed checks fields_pass 5);
+        least = not_above (pos 0) (fields_of t).least (when-None _ BadLevels (passed levels levels_pass 2));
+        fee_ppm = (number_ranged_or 0 whole_ppm field.FeePpm t 0 (omega arith, omega arith) (passed checks fields_pass 7)).1;
+        max_packet = max_packet_of field.MaxPacket t (passed checks fields_pass 8);
+        engine = text_formed_if form.Place field.Engine t (passed checks fields_pass 9);
+        levels = levels_ordered (peer_of assets t) (fields_of t).threshold (fields_of t).settle_to with_engine ordered;
       }
 
   -- no peer before it has its name, and none its token
   pub name_fresh : is_among (peer_of assets t).name (peer_names before) ≡ false
-  unfolding peer_from
-  name_fresh = rules_kept.name
+  unfolding peer_from rules
+  name_fresh = when-None _ DoublePeer (passed rules rules_pass 1)
 
   pub token_fresh : is_among (peer_of assets t).token (peer_tokens before) ≡ false
-  unfolding peer_from
-  token_fresh = rules_kept.token
+  unfolding peer_from rules
+  token_fresh = when-None _ DoubleToken (passed rules rules_pass 2)
 
 module _ (names : List (List ℕ)) (before : List Route) (t : Members) (none : route_fault names before t ≡ None) where
   route_passes : first_of (route_checks names before t) ≡ None

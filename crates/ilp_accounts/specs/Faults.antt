@@ -14,6 +14,7 @@ use Rattle.ilp_fields.specs.declared.fault.ConfigFault.TheVariants.{Missing, Bad
 use Rattle.ilp_fields.specs.FromAssets.{from_assets}
 use Rattle.ilp_fields.specs.Checks.{required, optional, first_beside}
 use Rattle.ilp_fields.specs.Fields.{is_text, is_natural, is_integer, is_asset, are_tables, text_of, elements_of, tables}
+use Rattle.ilp_accounts.specs.Limits.{most_assets, most_prices, most_peers, most_routes, most_workers, least_journal, most_journal, longest_ms, longest_rest_ms, most_scale, most_term, whole_ppm, most_written}
 use Rattle.ilp_accounts.specs.Configuration.{PlainPeer, PlainFields, PlainArrays, peer_names, peer_tokens, place_named, fields_of, peer_of, route_of, arrays_of, assets_of, prices_of, peers_of}
 
 -- the top fields
@@ -24,12 +25,12 @@ settings_checks t =
     ∷ optional (is_text form.Place) field.Listen t
     ∷ optional (is_text form.Place) field.EngineListen t
     ∷ optional (is_text form.Path) field.Path t
-    ∷ optional (is_natural 1 64) field.Workers t
-    ∷ optional (is_natural 2 16777216) field.Journal t
-    ∷ optional (is_natural 0 3600000) field.WindowMs t
-    ∷ optional (is_natural 1 3600000) field.MaxHoldMs t
-    ∷ optional (is_natural 1 60000) field.SweepMs t
-    ∷ optional (is_natural 1 60000) field.SettleMs t
+    ∷ optional (is_natural 1 most_workers) field.Workers t
+    ∷ optional (is_natural least_journal most_journal) field.Journal t
+    ∷ optional (is_natural 0 longest_ms) field.WindowMs t
+    ∷ optional (is_natural 1 longest_ms) field.MaxHoldMs t
+    ∷ optional (is_natural 1 longest_rest_ms) field.SweepMs t
+    ∷ optional (is_natural 1 longest_rest_ms) field.SettleMs t
     ∷ []
 
 unfoldable pub settings_fault : Members → Option ConfigFault
@@ -38,30 +39,36 @@ settings_fault t = first_of (settings_checks t)
 -- the arrays: at least one asset and one peer
 abbrev pub arrays_checks : Members → List (Option ConfigFault)
 arrays_checks t =
-    optional (are_tables 64) field.Asset t
+    optional (are_tables most_assets) field.Asset t
     ∷ when (length (elements_of field.Asset t) == 0) (Missing field.Asset)
-    ∷ optional (are_tables 4032) field.Price t
-    ∷ optional (are_tables 256) field.Peer t
+    ∷ optional (are_tables most_prices) field.Price t
+    ∷ optional (are_tables most_peers) field.Peer t
     ∷ when (length (elements_of field.Peer t) == 0) (Missing field.Peer)
-    ∷ optional (are_tables 4096) field.Route t
+    ∷ optional (are_tables most_routes) field.Route t
     ∷ []
 
 unfoldable pub arrays_fault : Members → Option ConfigFault
 arrays_fault t = first_of (arrays_checks t)
 
-abbrev pub asset_fault : Members → Option ConfigFault
-asset_fault t = first_of (
+abbrev pub asset_checks : Members → List (Option ConfigFault)
+asset_checks t =
     required (is_text form.Code) field.Code t
-    ∷ required (is_natural 0 255) field.Scale t
-    ∷ [])
+    ∷ required (is_natural 0 most_scale) field.Scale t
+    ∷ []
 
-unfoldable pub price_fault : Members → Option ConfigFault
-price_fault t = first_of (
+abbrev pub asset_fault : Members → Option ConfigFault
+asset_fault t = first_of (asset_checks t)
+
+abbrev pub price_checks : Members → List (Option ConfigFault)
+price_checks t =
     required is_asset field.From t
     ∷ required is_asset field.To t
-    ∷ required (is_natural 0 4294967295) field.P t
-    ∷ required (is_natural 0 4294967295) field.Q t
-    ∷ [])
+    ∷ required (is_natural 0 most_term) field.P t
+    ∷ required (is_natural 0 most_term) field.Q t
+    ∷ []
+
+unfoldable pub price_fault : Members → Option ConfigFault
+price_fault t = first_of (price_checks t)
 
 -- the fields of all assets, then those of all prices, and then what is wrong among them
 abbrev pub assets_checks : PlainArrays → List (Option ConfigFault)
@@ -83,8 +90,8 @@ fields_checks t =
     ∷ required (is_text form.Place) field.Host t
     ∷ optional (is_text form.Path) field.OutPath t
     ∷ required is_integer field.Least t
-    ∷ optional (is_natural 0 1000000) field.FeePpm t
-    ∷ optional (is_natural 0 9223372036854775807) field.MaxPacket t
+    ∷ optional (is_natural 0 whole_ppm) field.FeePpm t
+    ∷ optional (is_natural 0 most_written) field.MaxPacket t
     ∷ optional (is_text form.Place) field.Engine t
     ∷ optional is_integer field.Threshold t
     ∷ optional is_integer field.SettleTo t
@@ -128,12 +135,15 @@ peer_rules_checks assets names tokens f =
 unfoldable pub peer_rules_fault : List PlainAsset → List (List ℕ) → List (List ℕ) → PlainFields → Option ConfigFault
 peer_rules_fault assets names tokens f = first_of (peer_rules_checks assets names tokens f)
 
-unfoldable pub peer_fault_among : List PlainAsset → List (List ℕ) → List (List ℕ) → Members → Option ConfigFault
-peer_fault_among assets names tokens t = first_of (fields_fault t ∷ peer_rules_fault assets names tokens (fields_of t) ∷ [])
-
 -- a peer beside those before it
+abbrev pub peer_checks : List PlainAsset → List PlainPeer → Members → List (Option ConfigFault)
+peer_checks assets before t =
+    fields_fault t
+    ∷ peer_rules_fault assets (peer_names before) (peer_tokens before) (fields_of t)
+    ∷ []
+
 unfoldable pub peer_fault : List PlainAsset → List PlainPeer → Members → Option ConfigFault
-peer_fault assets before t = peer_fault_among assets (peer_names before) (peer_tokens before) t
+peer_fault assets before t = first_of (peer_checks assets before t)
 
 -- the name of a peer, and a prefix that no route before has
 abbrev pub route_checks : List (List ℕ) → List Route → Members → List (Option ConfigFault)

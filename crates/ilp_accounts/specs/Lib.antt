@@ -1,5 +1,6 @@
 pub mod Configuration
 pub mod Faults
+pub mod Limits
 pub mod Valid
 pub mod Views
 pub use Rattle.ilp_fields.specs.Checks

@@ -1,12 +1,15 @@
 -- What every configuration that was read has.
-use Rattle.std.specs.Prelude.{◌≡◌, ◌≢◌, ℕ, ◌<◌, ◌≤◌, pos, ◌≤ℤ◌, ◌<ℤ◌, List, length, All, IsTrue, IsSome, IfSome, None}
+use Rattle.std.specs.Prelude.{◌≡◌, ◌≢◌, ◌⊎◌, ℕ, ◌<◌, ◌≤◌, pos, ◌≤ℤ◌, ◌<ℤ◌, List, length, All, Contains, IsTrue, IsSome, IfSome, None}
 use Rattle.std.specs.List.{AllPairs}
+use Rattle.std.specs.Int.{abs_diff}
 use Rattle.ilp_lookup.specs.Route.{Route, prefixes}
+use Rattle.ilp_assets.specs.Assets.{PlainAsset, PlainPrice}
 use Rattle.ilp_assets.specs.Faults.{fault_of}
 use Rattle.ilp_fields.specs.declared.form.Form.{Form}
 use Rattle.ilp_fields.specs.declared.form.Form.TheVariants as form
 use Rattle.ilp_accounts.specs.declared.peer.Levels.{Levels}
 use Rattle.ilp_fields.specs.Forms.{admits}
+use Rattle.ilp_accounts.specs.Limits.{most_assets, most_prices, most_peers, most_routes, most_workers, least_journal, most_journal, longest_ms, longest_rest_ms, most_scale, most_term, most_gap, whole_ppm, most_written, most_carried}
 use Rattle.ilp_accounts.specs.Configuration.{PlainSettings, PlainPeer, Configuration, peer_names, peer_tokens}
 
 -- no two texts are equal
@@ -26,18 +29,35 @@ pub record AreSettings (s : PlainSettings) : Type 0 where
   pub listen : HasForm form.Place s.listen
   pub engine_listen : HasForm form.Place s.engine_listen
   pub path : HasForm form.Path s.path
-  pub workers : IsWithin 1 64 s.workers
-  pub journal : IsWithin 2 16777216 s.journal
-  pub window_ms : IsWithin 0 3600000 s.window_ms
-  pub max_hold_ms : IsWithin 1 3600000 s.max_hold_ms
-  pub sweep_ms : IsWithin 1 60000 s.sweep_ms
-  pub settle_ms : IsWithin 1 60000 s.settle_ms
+  pub workers : IsWithin 1 most_workers s.workers
+  pub journal : IsWithin least_journal most_journal s.journal
+  pub window_ms : IsWithin 0 longest_ms s.window_ms
+  pub max_hold_ms : IsWithin 1 longest_ms s.max_hold_ms
+  pub sweep_ms : IsWithin 1 longest_rest_ms s.sweep_ms
+  pub settle_ms : IsWithin 1 longest_rest_ms s.settle_ms
+
+pub record IsAsset (a : PlainAsset) : Type 0 where
+  pub code : HasForm form.Code a.code
+  pub scale : a.scale ≤ most_scale
+
+-- a price of one of these assets in another one of them, whose scales are near each other
+pub record IsPrice (assets : List PlainAsset) (price : PlainPrice) : Type 0 where
+  pub from : Contains assets price.from
+  pub to : Contains assets price.to
+  pub other : price.from ≢ price.to
+  pub p : IsWithin 1 most_term price.p
+  pub q : IsWithin 1 most_term price.q
+  pub near : abs_diff price.from.scale price.to.scale ≤ most_gap
 
 -- least <= settle_to < threshold
 pub record AreOrdered (p : PlainPeer) (levels : Levels) : Type 0 where
   pub engine : IsSome p.engine
   pub least : p.least ≤ℤ levels.settle_to
   pub settle_to : levels.settle_to <ℤ levels.threshold
+
+-- the greatest amount that a peer may send: one that was written, or, where none was, as much as a packet can carry
+abbrev pub IsMaxPacket : ℕ → Type 0
+IsMaxPacket amount = (amount ≤ most_written) ⊎ (amount ≡ most_carried)
 
 -- a peer whose asset is one of so many
 pub record IsPeer (assets : ℕ) (p : PlainPeer) : Type 0 where
@@ -48,7 +68,8 @@ pub record IsPeer (assets : ℕ) (p : PlainPeer) : Type 0 where
   pub host : HasForm form.Place p.host
   pub out_path : HasForm form.Path p.out_path
   pub least : p.least ≤ℤ pos 0
-  pub fee_ppm : p.fee_ppm ≤ 1000000
+  pub fee_ppm : p.fee_ppm ≤ whole_ppm
+  pub max_packet : IsMaxPacket p.max_packet
   pub engine : IfSome p.engine (HasForm form.Place)
   pub levels : IfSome p.levels (AreOrdered p)
 
@@ -59,13 +80,15 @@ pub record IsRouteTo (peers : ℕ) (r : Route) : Type 0 where
 
 pub record IsValid (c : Configuration) : Type 0 where
   pub settings : AreSettings c.settings
-  pub asset_count : IsWithin 1 64 (length c.table.assets)
-  pub price_count : length c.table.prices ≤ 4032
+  pub asset_count : IsWithin 1 most_assets (length c.table.assets)
+  pub assets : All IsAsset c.table.assets
+  pub price_count : length c.table.prices ≤ most_prices
+  pub prices : All (IsPrice c.table.assets) c.table.prices
   pub sound : fault_of c.table.assets c.table.prices ≡ None
-  pub peer_count : IsWithin 1 256 (length c.peers)
+  pub peer_count : IsWithin 1 most_peers (length c.peers)
   pub peers : All (IsPeer (length c.table.assets)) c.peers
   pub names : AreDistinct (peer_names c.peers)
   pub tokens : AreDistinct (peer_tokens c.peers)
-  pub route_count : length c.routes ≤ 4096
+  pub route_count : length c.routes ≤ most_routes
   pub routes : All (IsRouteTo (length c.peers)) c.routes
   pub prefixes : AreDistinct (prefixes c.routes)

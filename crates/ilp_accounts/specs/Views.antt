@@ -3,35 +3,19 @@ use Rattle.std.specs.Prelude.{◌≡◌, ℕ, List, map, option_map, string_byte
 use Rattle.toml.specs.View.{view}
 use Rattle.ilp_assets.specs.Assets.{plain_asset}
 use Rattle.ilp_accounts.specs.declared.settings.Settings.{Settings}
-use Rattle.ilp_accounts.specs.declared.settings.SettingsFields.{SettingsFields}
 use Rattle.ilp_accounts.specs.declared.arrays.Arrays.{Arrays}
 use Rattle.ilp_accounts.specs.declared.peer.Peer.{Peer}
 use Rattle.ilp_accounts.specs.declared.peer.PeerFields.{PeerFields}
 use Rattle.ilp_accounts.specs.Configuration.{PlainSettings, PlainArrays, PlainPeer, PlainFields, peer_names, peer_tokens}
 
-abbrev pub plain_settings : Settings → PlainSettings
-plain_settings s = record {
-  address = string_bytes s.address;
-  run = string_bytes s.run;
-  listen = string_bytes s.listen;
-  engine_listen = string_bytes s.engine_listen;
-  path = string_bytes s.path;
-  workers = s.workers;
-  journal = s.journal;
-  window_ms = s.window_ms;
-  max_hold_ms = s.max_hold_ms;
-  sweep_ms = s.sweep_ms;
-  settle_ms = s.settle_ms;
-}
-
--- settings whose texts still lie in the table
-abbrev pub read_settings : SettingsFields → PlainSettings
-read_settings s = record {
-  address = s.address.now;
-  run = s.run.now;
-  listen = s.listen.now;
-  engine_listen = s.engine_listen.now;
-  path = s.path.now;
+-- settings, by what a text of theirs is
+abbrev pub plain_settings : {T : Type 0} → (T → List ℕ) → Settings T → PlainSettings
+plain_settings text s = record {
+  address = text s.address;
+  run = text s.run;
+  listen = text s.listen;
+  engine_listen = text s.engine_listen;
+  path = text s.path;
   workers = s.workers;
   journal = s.journal;
   window_ms = s.window_ms;

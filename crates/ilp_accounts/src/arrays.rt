@@ -2,6 +2,7 @@
 ghost use Rattle.std.specs.Prelude.{◌≡◌, ◌≤◌, length, map, IfOk};
 ghost use Rattle.toml.specs.View.{view, table_view};
 ghost use Rattle.ilp_fields.specs.Checks.{Reads};
+ghost use Rattle.ilp_accounts.specs.Limits.{most_peers};
 ghost use Rattle.ilp_accounts.specs.Views.{plain_arrays};
 ghost use Rattle.ilp_accounts.specs.Configuration.{arrays_of};
 ghost use Rattle.ilp_accounts.specs.Faults.{arrays_fault};
@@ -18,7 +19,7 @@ const MAX_PEERS: usize = 256;
 
 const MAX_ROUTES: usize = 4096;
 
-// The elements of the arrays, all of which are tables.
+/// The elements of the arrays, all of which are tables.
 #[derive(Clone, Copy)]
 pub(crate) struct Arrays<'a> {
     pub(crate) assets: &'a [Value],
@@ -27,12 +28,12 @@ pub(crate) struct Arrays<'a> {
     pub(crate) routes: &'a [Value],
 }
 
-// Reads the arrays: at least one asset and one peer.
+/// Reads the arrays: at least one asset and one peer.
 #[tactic(auto, unfolding(crate::specs::Faults::arrays_fault, crate::specs::Configuration::arrays_of), using(ilp_fields::proofs::Elements::length_seen))]
 pub(crate) fn arrays_of(table: &Table) -> Result<Arrays<'_>, ConfigFault>
     ensures reads { Reads plain_arrays result
         (arrays_fault (table_view table.now)) (arrays_of (table_view table.now)) }
-    ensures few { IfOk result (λ arrays. length arrays.peers.now ≤ 256) }
+    ensures few { IfOk result (λ arrays. length arrays.peers.now ≤ most_peers) }
 {
     let assets = tables_at(table, Field::Asset, MAX_ASSETS)?;
     if assets.is_empty() {

@@ -15,7 +15,7 @@ use ilp_fields::{ConfigFault, Field, Form, required_asset, required_number, requ
 use std::alloc::Global;
 use toml::{Table, Value};
 
-// The table of all assets and prices.
+/// The table of all assets and prices.
 #[tactic(auto, unfolding(crate::specs::Faults::assets_fault))]
 pub(crate) fn table_of(alloc: Global, arrays: Arrays<'_>) -> Result<AssetTable, ConfigFault>
     ensures { Reads (λ table. table) result
@@ -27,6 +27,7 @@ pub(crate) fn table_of(alloc: Global, arrays: Arrays<'_>) -> Result<AssetTable, 
     Ok(table)
 }
 
+// Reads all assets.
 fn assets_of<'a>(alloc: Global, values: &'a [Value]) -> Result<Vec<Asset<'a>>, ConfigFault>
     ensures { let ts = tables (map view values.now) in
         Reads (λ assets. map plain_asset assets.items) result
@@ -42,6 +43,7 @@ fn assets_of<'a>(alloc: Global, values: &'a [Value]) -> Result<Vec<Asset<'a>>, C
     Ok(assets)
 }
 
+/// Reads one asset.
 pub(crate) fn asset_from(table: &Table) -> Result<Asset<'_>, ConfigFault>
     ensures { Reads plain_asset result
         (asset_fault (table_view table.now)) (asset_from (table_view table.now)) }
@@ -54,6 +56,7 @@ pub(crate) fn asset_from(table: &Table) -> Result<Asset<'_>, ConfigFault>
     })
 }
 
+// Reads all prices.
 fn prices_of<'a>(alloc: Global, values: &'a [Value]) -> Result<Vec<Price<'a>>, ConfigFault>
     ensures { let ts = tables (map view values.now) in
         Reads (λ prices. map plain_price prices.items) result
@@ -69,6 +72,7 @@ fn prices_of<'a>(alloc: Global, values: &'a [Value]) -> Result<Vec<Price<'a>>, C
     Ok(prices)
 }
 
+// Reads one price.
 #[tactic(auto, unfolding(crate::specs::Faults::price_fault, crate::specs::Configuration::price_from))]
 fn price_from(table: &Table) -> Result<Price<'_>, ConfigFault>
     ensures { Reads plain_price result

@@ -4,6 +4,7 @@ ghost use Rattle.toml.specs.Data.{Members};
 ghost use Rattle.toml.specs.View.{table_view};
 ghost use Rattle.ilp_fields.specs.Checks.{Reads};
 ghost use Rattle.ilp_accounts.specs.Configuration.{configuration, peer_at, peer_names, peer_tokens};
+ghost use Rattle.ilp_accounts.specs.Limits.{most_peers};
 ghost use Rattle.ilp_accounts.specs.Valid.{IsValid};
 ghost use Rattle.ilp_accounts.specs.Views.{plain_peer};
 ghost use Rattle.ilp_lookup.specs.Texts.{IsPlaceOf};
@@ -25,16 +26,17 @@ use std::marker::Model;
 use toml::Table;
 
 /// The configuration of a connector. It is valid: what each layer relies on stands in `IsValid`,
-/// which `is_valid` tells.
+/// which `journal`, `assets`, `peers` and `route` tell.
 #[derive(Drop)]
 pub struct Config {
-    settings: Settings,
+    settings: Settings<String>,
     assets: AssetTable,
     peers: Peers,
     routes: RouteIndex,
 }
 
 impl Model for Config {
+    ghost use Rattle.std.specs.Prelude.{string_bytes};
     ghost use Rattle.ilp_accounts.specs.Configuration.{Configuration};
     ghost use Rattle.ilp_accounts.specs.Views.{plain_settings};
     ghost use Rattle.ilp_accounts.specs.Valid.{IsValid};
@@ -42,14 +44,14 @@ impl Model for Config {
     ghost Value = { Configuration };
 
     ghost view = { λ c. record {
-      settings = plain_settings c.settings;
+      settings = plain_settings string_bytes c.settings;
       table = c.assets;
       peers = c.peers;
       routes = c.routes;
     } };
 
     ghost invariant = { λ c. IsValid (record {
-      settings = plain_settings c.settings;
+      settings = plain_settings string_bytes c.settings;
       table = c.assets;
       peers = c.peers;
       routes = c.routes;
@@ -67,8 +69,8 @@ impl Config {
     /// come the fields of all assets, those of all prices, and what is wrong among assets and
     /// prices. Then peer by peer its fields, `NoSuchAsset`, `DoublePeer`, `DoubleToken`, the fields
     /// that a threshold needs and `BadLevels`; and last route by route its fields, with an unknown
-    /// peer as `BadValue`, and `DoubleRoute`. `Memory` may come in place of any answer, where
-    /// memory was refused.
+    /// peer as `BadValue`, and `DoubleRoute`. `Memory` may come in place of any answer, where a
+    /// growth of memory was denied.
     pub fn read(alloc: Global, octets: &[u8]) -> Result<Config, ConfigFault>
         ensures toml { (t : Members) → IsToml octets.now t
             → Reads (λ c. c) result (first_fault t) (configuration t) }
@@ -84,14 +86,6 @@ impl Config {
                 Err(ConfigFault::NotToml)
             }
         }
-    }
-
-    /// Tells what every configuration has that was read. It does nothing: who relies on it in a
-    /// proof calls it.
-    pub fn is_valid(&self)
-        ensures { IsValid self.now }
-    {
-        let _peers = &self.peers;
     }
 
     // The configuration that a table stands for.
@@ -176,7 +170,8 @@ impl Config {
 
     /// How many entries the journal may have: 2 to 16777216.
     pub fn journal(&self) -> u32
-        ensures { result ≡ self.now.settings.journal }
+        ensures value { result ≡ self.now.settings.journal }
+        ensures valid { IsValid self.now }
     {
         self.settings.journal
     }
@@ -212,7 +207,8 @@ impl Config {
 
     /// The assets and their prices.
     pub fn assets(&self) -> &AssetTable
-        ensures { result.now ≡ self.now.table }
+        ensures value { result.now ≡ self.now.table }
+        ensures valid { IsValid self.now }
     {
         &self.assets
     }
@@ -224,7 +220,8 @@ impl Config {
     pub fn peers(&self) -> u32
         ensures count { result ≡ length self.now.peers }
         ensures some { 1 ≤ result }
-        ensures few { result ≤ 256 }
+        ensures few { result ≤ most_peers }
+        ensures valid { IsValid self.now }
     {
         self.peers.len() as u32
     }
@@ -367,6 +364,7 @@ impl Config {
     pub fn route(&self, octets: &[u8]) -> Option<u32>
         ensures route { IsRoute self.now.routes octets.now result }
         ensures known { IfSome result (λ peer. peer < length self.now.peers) }
+        ensures valid { IsValid self.now }
     {
         self.routes.find(octets)
     }

@@ -4,7 +4,7 @@ use crate::place::Array;
 use ilp_fields::{ConfigFault, Field};
 use std::fmt;
 
-// A fault of a table that lies in this array, or of the top, as a person is told.
+/// A fault of a table that lies in this array, or of the top, as a person is told.
 #[derive(Clone, Copy)]
 pub(crate) struct Complaint {
     pub(crate) array: Option<Array>,

@@ -28,6 +28,7 @@ pub fn explain(alloc: Global, octets: &[u8], fault: ConfigFault) -> Result<Strin
     }
 }
 
+// Says where in a table the fault lies, and what was expected there.
 fn explain_table(alloc: Global, table: &Table, fault: ConfigFault) -> Result<String, AllocError> {
     let place = place_of(alloc, table, fault)?;
     let array = place.array();

@@ -14,6 +14,9 @@ use ilp_fields::{
 use std::alloc::{AllocError, Global};
 use toml::Table;
 
+// The greatest amount that TOML can write.
+const MAX_WRITTEN: u64 = i64::MAX as u64;
+
 /// The levels between which the connector settles with a peer, in units of the peer's asset.
 #[derive(Clone, Copy, Debug, PartialEq, Eq)]
 pub struct Levels {
@@ -23,7 +26,7 @@ pub struct Levels {
     pub settle_to: i64,
 }
 
-// A peer. Its asset is a place in the table of assets.
+/// A peer. Its asset is a place in the table of assets.
 #[derive(Debug, Drop)]
 pub(crate) struct Peer {
     pub(crate) name: String,
@@ -39,7 +42,7 @@ pub(crate) struct Peer {
     pub(crate) levels: Option<Levels>,
 }
 
-// What stands in the fields of a peer's table.
+/// What stands in the fields of a peer's table.
 #[derive(Clone, Copy)]
 pub(crate) struct PeerFields<'a> {
     pub(crate) name: &'a str,
@@ -56,7 +59,7 @@ pub(crate) struct PeerFields<'a> {
     pub(crate) settle_to: Option<i64>,
 }
 
-// Reads the fields of a peer's table.
+/// Reads the fields of a peer's table.
 #[tactic(auto, unfolding(crate::specs::Faults::fields_fault, crate::specs::Configuration::fields_of))]
 pub(crate) fn fields_of(table: &Table) -> Result<PeerFields<'_>, ConfigFault>
     ensures { Reads plain_fields result
@@ -70,7 +73,7 @@ pub(crate) fn fields_of(table: &Table) -> Result<PeerFields<'_>, ConfigFault>
     let out_path = defaulted_text(table, Field::OutPath, Form::Path, "/ilp")?;
     let least = required_integer(table, Field::Least)?;
     let fee_ppm = defaulted_number(table, Field::FeePpm, 0, 1_000_000, 0)?;
-    let max_packet = defaulted_amount(table, Field::MaxPacket, 9223372036854775807, u64::MAX)?;
+    let max_packet = defaulted_amount(table, Field::MaxPacket, MAX_WRITTEN, u64::MAX)?;
     let engine = optional_text(table, Field::Engine, Form::Place)?;
     let threshold = optional_integer(table, Field::Threshold)?;
     let settle_to = optional_integer(table, Field::SettleTo)?;
@@ -104,7 +107,7 @@ impl PeerFields<'_> {
         }
     }
 
-    // The peer of these fields, whose asset has this place.
+    /// The peer of these fields, whose asset has this place, with texts of its own.
     pub(crate) fn owned(&self, alloc: Global, asset: u32) -> Result<Peer, AllocError>
         ensures { IfOk result (λ peer. plain_peer peer ≡ peer_with asset (plain_fields self.now)) }
     {
@@ -125,7 +128,7 @@ impl PeerFields<'_> {
 }
 
 impl Peer {
-    // The same peer once more.
+    /// An equal peer, with texts of its own.
     pub(crate) fn copy(&self, alloc: Global) -> Result<Peer, AllocError>
         ensures { IfOk result (λ peer. plain_peer peer ≡ plain_peer self.now) }
     {
@@ -144,7 +147,7 @@ impl Peer {
         })
     }
 
-    // The place of the peer's settlement engine.
+    /// The place of the peer's settlement engine.
     pub(crate) fn engine(&self) -> Option<&str>
         ensures { option_map (λ text. text.now) result ≡ option_map string_bytes self.now.engine }
     {
@@ -155,6 +158,7 @@ impl Peer {
     }
 }
 
+// A text of its own, where there is one.
 fn owned_text(alloc: Global, text: Option<&str>) -> Result<Option<String>, AllocError>
     ensures { IfOk result
         (λ owned. option_map string_bytes owned ≡ option_map (λ t. t.now) text.entry) }
@@ -165,7 +169,7 @@ fn owned_text(alloc: Global, text: Option<&str>) -> Result<Option<String>, Alloc
     }
 }
 
-// The same peers once more.
+/// Equal peers in the same order.
 pub(crate) fn copies_of_peers(alloc: Global, peers: &[Peer]) -> Result<Vec<Peer>, AllocError>
     ensures { IfOk result (λ copies. map plain_peer copies.items ≡ map plain_peer peers.now) }
 {

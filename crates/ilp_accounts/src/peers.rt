@@ -3,9 +3,10 @@ ghost use Rattle.std.specs.Prelude.{◌≡◌, ◌≢◌, ◌≤◌, ◌<◌, �
 ghost use Rattle.toml.specs.View.{view, table_view};
 ghost use Rattle.ilp_fields.specs.Checks.{Reads, first_beside};
 ghost use Rattle.ilp_fields.specs.Fields.{tables};
+ghost use Rattle.ilp_accounts.specs.Limits.{most_peers};
 ghost use Rattle.ilp_accounts.specs.Views.{plain_peer, plain_fields};
 ghost use Rattle.ilp_accounts.specs.Configuration.{peer_of, peer_from, peer_names, peer_tokens};
-ghost use Rattle.ilp_accounts.specs.Faults.{is_among, peer_fault, peer_fault_among, peer_rules_fault, levels_fault, are_ordered};
+ghost use Rattle.ilp_accounts.specs.Faults.{is_among, peer_fault, peer_rules_fault, levels_fault, are_ordered};
 
 use crate::peer::{Peer, PeerFields, copies_of_peers, fields_of};
 use ilp_assets::AssetTable;
@@ -15,7 +16,7 @@ use std::alloc::{AllocError, Global};
 use std::marker::Model;
 use toml::{Table, Value};
 
-// Peers, with their names and tokens for look-ups.
+/// Peers, with their names and tokens for look-ups.
 #[derive(Drop)]
 pub(crate) struct Peers {
     list: Vec<Peer>,
@@ -47,24 +48,26 @@ impl Peers {
         }
     }
 
+    /// How many peers there are.
     pub(crate) fn len(&self) -> usize
         ensures { result ≡ length self.now }
     {
         self.list.len()
     }
 
+    /// What the peers' memory comes from.
     pub(crate) fn allocator(&self) -> Global {
         *self.list.allocator()
     }
 
-    // The peers in order.
+    /// The peers in order.
     pub(crate) fn as_slice(&self) -> &[Peer]
         ensures { map plain_peer result.now ≡ self.now }
     {
         self.list.as_slice()
     }
 
-    // The names, each at its peer's place.
+    /// The names, each at its peer's place.
     pub(crate) fn names(&self) -> &TextIndex
         ensures { result.now ≡ peer_names self.now }
     {
@@ -72,7 +75,7 @@ impl Peers {
         &self.names
     }
 
-    // The tokens, each at its peer's place.
+    /// The tokens, each at its peer's place.
     pub(crate) fn tokens(&self) -> &TextIndex
         ensures { result.now ≡ peer_tokens self.now }
     {
@@ -80,6 +83,7 @@ impl Peers {
         &self.tokens
     }
 
+    /// Equal peers, with memory of their own.
     pub(crate) fn copy(&self) -> Result<Peers, AllocError>
         ensures { IfOk result (λ copy. copy ≡ self.now) }
     {
@@ -92,13 +96,13 @@ impl Peers {
     }
 }
 
-// Reads all peers.
+/// Reads all peers, each beside those before it.
 pub(crate) fn peers_of(
     alloc: Global,
     assets: &AssetTable,
     values: &[Value],
 ) -> Result<Peers, ConfigFault>
-    requires { length values.now ≤ 256 }
+    requires { length values.now ≤ most_peers }
     ensures { let known = assets.now.assets in
         let ts = tables (map view values.now) in
         Reads (λ peers. peers) result
@@ -134,7 +138,8 @@ fn with_peer(
         mut names,
         mut tokens,
     } = peers;
-    let peer = peer_of(alloc, assets, &mut names, &mut tokens, table)?;
+    let fields = fields_of(table)?;
+    let peer = peer_from(alloc, assets, &mut names, &mut tokens, &fields)?;
     list.push(peer)?;
     Ok(Peers {
         list,
@@ -143,29 +148,7 @@ fn with_peer(
     })
 }
 
-// Reads one peer, and adds its name and its token to those of the peers before it.
-#[tactic(auto, unfolding(crate::specs::Faults::peer_fault_among))]
-fn peer_of(
-    alloc: Global,
-    assets: &AssetTable,
-    names: &mut TextIndex,
-    tokens: &mut TextIndex,
-    table: &Table,
-) -> Result<Peer, ConfigFault>
-    requires names { length names.old + 1 < 2 ^ 32 }
-    requires tokens { length tokens.old + 1 < 2 ^ 32 }
-    ensures reads { let known = assets.now.assets in
-        Reads plain_peer result
-        (peer_fault_among known names.old tokens.old (table_view table.now))
-        (peer_of known (table_view table.now)) }
-    ensures kept { IfOk result (λ peer.
-        (names.new ≡ names.old ++ (plain_peer peer).name ∷ [])
-        × (tokens.new ≡ tokens.old ++ (plain_peer peer).token ∷ [])) }
-{
-    let fields = fields_of(table)?;
-    peer_from(alloc, assets, names, tokens, &fields)
-}
-
+// The peer of these fields, by the rules. Its name and its token join those of the peers before it.
 #[tactic(auto, unfolding(crate::specs::Faults::peer_rules_fault, crate::specs::Configuration::peer_from))]
 fn peer_from(
     alloc: Global,
@@ -209,6 +192,7 @@ fn add_text(texts: &mut TextIndex, text: &str, double: ConfigFault) -> Result<()
     }
 }
 
+// Looks at the levels of a peer, and at what a threshold needs.
 #[tactic(auto, unfolding(crate::specs::Faults::levels_fault))]
 fn check_levels(fields: &PeerFields<'_>) -> Result<(), ConfigFault>
     ensures ok { OnOk result (levels_fault (plain_fields fields.now) ≡ None) }

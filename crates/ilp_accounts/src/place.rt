@@ -1,5 +1,6 @@
 //! Where in a configuration a fault lies.
 ghost use Rattle.std.specs.Prelude.{◌≤◌, length};
+ghost use Rattle.ilp_accounts.specs.Limits.{most_peers};
 
 use crate::arrays::{Arrays, arrays_of};
 use crate::assets::{asset_from, table_of};
@@ -10,7 +11,7 @@ use std::alloc::{AllocError, Global};
 use std::fmt;
 use toml::{Table, Value};
 
-// The arrays of a configuration, in the order in which they are read.
+/// The arrays of a configuration, in the order in which they are read.
 #[derive(Clone, Copy, Debug, PartialEq, Eq)]
 pub(crate) enum Array {
     Asset,
@@ -19,12 +20,12 @@ pub(crate) enum Array {
     Route,
 }
 
-// A place in a configuration.
+/// A place in a configuration.
 #[derive(Clone, Copy)]
 pub(crate) enum Place<'a> {
-    // Outside of the tables of all arrays.
+    /// Outside of the tables of all arrays.
     Top,
-    // The table of this number, counted from 1.
+    /// The table of this number, counted from 1.
     Table {
         array: Array,
         number: usize,
@@ -33,7 +34,7 @@ pub(crate) enum Place<'a> {
 }
 
 impl Place<'_> {
-    // The array that it lies in, unless it is at the top.
+    /// The array that it lies in, unless it is at the top.
     pub(crate) fn array(self) -> Option<Array> {
         match self {
             Place::Top => None,
@@ -89,10 +90,10 @@ fn write_name<W: fmt::Write>(
     }
 }
 
-// The place of the first fault of a configuration.
-//
-// The tables are read in one order, array after array. Their fault is this one from the first table
-// on that has it, and with fewer tables it is none or another one: so a bisection finds the table.
+/// The place of the first fault of a configuration.
+///
+/// The tables are read in one order, array after array. Their fault is this one from the first table
+/// on that has it, and with fewer tables it is none or another one: so a bisection finds the table.
 pub(crate) fn place_of(
     alloc: Global,
     table: &Table,
@@ -108,9 +109,9 @@ pub(crate) fn place_of(
     Ok(last_of(front_of(arrays, count)))
 }
 
-// How many of the first tables it takes at least for this fault, which all of them have.
+// How many tables, from the first one on, have this fault at least, which all of them have.
 fn least_count(alloc: Global, arrays: Arrays<'_>, fault: ConfigFault) -> Result<usize, AllocError>
-    requires { length arrays.peers.now ≤ 256 }
+    requires { length arrays.peers.now ≤ most_peers }
 {
     let mut too_few = 0;
     let mut enough = count_of(arrays);
@@ -127,7 +128,7 @@ fn least_count(alloc: Global, arrays: Arrays<'_>, fault: ConfigFault) -> Result<
 
 // The first fault of the tables.
 fn fault_of(alloc: Global, arrays: Arrays<'_>) -> Result<Option<ConfigFault>, AllocError>
-    requires { length arrays.peers.now ≤ 256 }
+    requires { length arrays.peers.now ≤ most_peers }
 {
     match read(alloc, arrays) {
         Ok(()) => Ok(None),
@@ -136,8 +137,9 @@ fn fault_of(alloc: Global, arrays: Arrays<'_>) -> Result<Option<ConfigFault>, Al
     }
 }
 
+// Reads the tables of the arrays, and gives up what they make.
 fn read(alloc: Global, arrays: Arrays<'_>) -> Result<(), ConfigFault>
-    requires { length arrays.peers.now ≤ 256 }
+    requires { length arrays.peers.now ≤ most_peers }
 {
     let assets = table_of(alloc, arrays)?;
     let peers = peers_of(alloc, &assets, arrays.peers)?;
@@ -145,6 +147,7 @@ fn read(alloc: Global, arrays: Arrays<'_>) -> Result<(), ConfigFault>
     Ok(())
 }
 
+// How many tables the arrays have.
 fn count_of(arrays: Arrays<'_>) -> usize {
     arrays
         .assets
@@ -189,6 +192,7 @@ fn last_of(arrays: Arrays<'_>) -> Place<'_> {
         .unwrap_or(Place::Top)
 }
 
+// The place of an array's last table.
 fn last_in(array: Array, values: &[Value]) -> Option<Place<'_>> {
     let table = values.last()?.as_table()?;
     Some(Place::Table {

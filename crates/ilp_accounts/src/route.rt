@@ -13,7 +13,7 @@ use ilp_lookup::{LookupFault, RouteIndex, TextIndex};
 use std::alloc::Global;
 use toml::{Table, Value};
 
-// Reads all routes, to these peers.
+/// Reads all routes, to these peers.
 pub(crate) fn routes_of(
     alloc: Global,
     peers: &Peers,

@@ -1,8 +1,8 @@
 //! What stands at the top of a configuration.
-ghost use Rattle.std.specs.Prelude.{◌≡◌, IfOk};
+ghost use Rattle.std.specs.Prelude.{◌≡◌, string_bytes, IfOk};
 ghost use Rattle.toml.specs.View.{table_view};
 ghost use Rattle.ilp_fields.specs.Checks.{Reads};
-ghost use Rattle.ilp_accounts.specs.Views.{plain_settings, read_settings};
+ghost use Rattle.ilp_accounts.specs.Views.{plain_settings};
 ghost use Rattle.ilp_accounts.specs.Configuration.{settings_of};
 ghost use Rattle.ilp_accounts.specs.Faults.{settings_fault};
 
@@ -10,30 +10,19 @@ use ilp_fields::{ConfigFault, Field, Form, defaulted_number, defaulted_text, req
 use std::alloc::{AllocError, Global};
 use toml::Table;
 
-// The settings, with their texts in the table.
-#[derive(Clone, Copy)]
-pub(crate) struct SettingsFields<'a> {
-    address: &'a str,
-    run: &'a str,
-    listen: &'a str,
-    engine_listen: &'a str,
-    path: &'a str,
-    workers: u32,
-    journal: u32,
-    window_ms: u32,
-    max_hold_ms: u32,
-    sweep_ms: u32,
-    settle_ms: u32,
-}
+const HOUR_MS: u32 = 3_600_000;
 
-// What holds for the connector as a whole.
+const MINUTE_MS: u32 = 60_000;
+
+/// What holds for the connector as a whole: times in milliseconds, the journal in entries. Its texts
+/// lie in a table of TOML, or are its own.
 #[derive(Debug, Drop)]
-pub(crate) struct Settings {
-    pub(crate) address: String,
-    pub(crate) run: String,
-    pub(crate) listen: String,
-    pub(crate) engine_listen: String,
-    pub(crate) path: String,
+pub(crate) struct Settings<T> {
+    pub(crate) address: T,
+    pub(crate) run: T,
+    pub(crate) listen: T,
+    pub(crate) engine_listen: T,
+    pub(crate) path: T,
     pub(crate) workers: u32,
     pub(crate) journal: u32,
     pub(crate) window_ms: u32,
@@ -42,10 +31,10 @@ pub(crate) struct Settings {
     pub(crate) settle_ms: u32,
 }
 
-// Reads the top fields.
+/// Reads the top fields.
 #[tactic(auto, unfolding(crate::specs::Faults::settings_fault, crate::specs::Configuration::settings_of))]
-pub(crate) fn settings_of(table: &Table) -> Result<SettingsFields<'_>, ConfigFault>
-    ensures { Reads read_settings result
+pub(crate) fn settings_of(table: &Table) -> Result<Settings<&str>, ConfigFault>
+    ensures { Reads (plain_settings (λ text. text.now)) result
         (settings_fault (table_view table.now)) (settings_of (table_view table.now)) }
 {
     let address = required_text(table, Field::Address, Form::Address)?;
@@ -55,11 +44,11 @@ pub(crate) fn settings_of(table: &Table) -> Result<SettingsFields<'_>, ConfigFau
     let path = defaulted_text(table, Field::Path, Form::Path, "/ilp")?;
     let workers = defaulted_number(table, Field::Workers, 1, 64, 4)?;
     let journal = defaulted_number(table, Field::Journal, 2, 16_777_216, 65_536)?;
-    let window_ms = defaulted_number(table, Field::WindowMs, 0, 3_600_000, 1_000)?;
-    let max_hold_ms = defaulted_number(table, Field::MaxHoldMs, 1, 3_600_000, 30_000)?;
-    let sweep_ms = defaulted_number(table, Field::SweepMs, 1, 60_000, 100)?;
-    let settle_ms = defaulted_number(table, Field::SettleMs, 1, 60_000, 1_000)?;
-    Ok(SettingsFields {
+    let window_ms = defaulted_number(table, Field::WindowMs, 0, HOUR_MS, 1_000)?;
+    let max_hold_ms = defaulted_number(table, Field::MaxHoldMs, 1, HOUR_MS, 30_000)?;
+    let sweep_ms = defaulted_number(table, Field::SweepMs, 1, MINUTE_MS, 100)?;
+    let settle_ms = defaulted_number(table, Field::SettleMs, 1, MINUTE_MS, 1_000)?;
+    Ok(Settings {
         address,
         run,
         listen,
@@ -74,10 +63,11 @@ pub(crate) fn settings_of(table: &Table) -> Result<SettingsFields<'_>, ConfigFau
     })
 }
 
-impl SettingsFields<'_> {
-    // The same with texts of their own.
-    pub(crate) fn owned(self, alloc: Global) -> Result<Settings, AllocError>
-        ensures { IfOk result (λ settings. plain_settings settings ≡ read_settings self.entry) }
+impl Settings<&str> {
+    /// The settings, with texts of their own in place of those in the table.
+    pub(crate) fn owned(&self, alloc: Global) -> Result<Settings<String>, AllocError>
+        ensures { IfOk result (λ settings.
+            plain_settings string_bytes settings ≡ plain_settings (λ text. text.now) self.now) }
     {
         Ok(Settings {
             address: String::from_str(alloc, self.address)?,
@@ -95,12 +85,12 @@ impl SettingsFields<'_> {
     }
 }
 
-impl Settings {
-    // The settings as they stand in a table.
-    pub(crate) fn fields(&self) -> SettingsFields<'_>
-        ensures { read_settings result ≡ plain_settings self.now }
+impl Settings<String> {
+    /// The settings, with their texts where they lie.
+    pub(crate) fn fields(&self) -> Settings<&str>
+        ensures { plain_settings (λ text. text.now) result ≡ plain_settings string_bytes self.now }
     {
-        SettingsFields {
+        Settings {
             address: self.address.as_str(),
             run: self.run.as_str(),
             listen: self.listen.as_str(),

@@ -20,6 +20,7 @@ use Rattle.ilp_book.proofs.LawfulGrowth.{Admits, lawful_push, lawful_empty, limi
 -- the parts of a book of no entries
 pub parts_new : (C : Configuration) (journal : Booked) → IsValid C → journal.entries ≡ [] → journal.limit ≡ C.settings.journal → AreParts C 0 journal 0
 parts_new C journal valid empty limited = record {
+  valid = valid;
   lawful = rw empty (lawful_empty (book_of C 0 journal) valid);
   opened = base_zero journal.entries;
   limited = limited;
@@ -82,6 +83,7 @@ pub parts_closed : (C : Configuration) (base : ℕ) (before after : Booked) (ope
 parts_closed C base before after open_now e parts lawful some grown used limit =
     let frees = answer_frees (book_of C base before) e parts.lawful lawful some in
     record {
+      valid = parts.valid;
       lawful = rw grown lawful;
       opened = rw grown (base-push before.entries e base parts.opened);
       limited = limit ∙ parts.limited;
@@ -98,6 +100,7 @@ parts_held C base before after open_now e h is parts admits grown room limit =
     let opens = open_count-push before.entries e parts.lawful.answers parts.lawful.closings admits.answers admits.closings in
     let opened : (opening e.what ≡ 1) × (closing e.what ≡ 0) = rw is (refl, refl) in
     record {
+      valid = parts.valid;
       lawful = rw grown (lawful_push (book_of C base before) e parts.lawful admits);
       opened = rw grown (base-push before.entries e base parts.opened);
       limited = limit ∙ parts.limited;

@@ -59,7 +59,6 @@ impl<A: Allocator> Book<A> {
     pub fn new(alloc: A, config: &Config) -> Result<Book<A>, AllocError>
         ensures { IfOk result (λ b. b ≡ new_book config.now) }
     {
-        config.is_valid();
         let journal = Journal::new(alloc, config.journal())?;
         Ok(Book {
             config: config.copy()?,
@@ -74,7 +73,6 @@ impl<A: Allocator> Book<A> {
         ensures value { result.now ≡ self.now.config }
         ensures valid { IsValid self.now.config }
     {
-        self.config.is_valid();
         &self.config
     }
 
@@ -154,7 +152,6 @@ impl<A: Allocator> Book<A> {
         ensures lawful { IsLawful self.new }
         ensures err { OnErr result (self.new ≡ self.old) }
     {
-        self.config.is_valid();
         let destination = prepare.destination;
         let route = self.config.route(destination);
         self.hold_routed(actor, from, prepare, route, now)
@@ -177,7 +174,6 @@ impl<A: Allocator> Book<A> {
         ensures lawful { IsLawful self.new }
         ensures err { OnErr result (self.new ≡ self.old) }
     {
-        self.config.is_valid();
         let moment = self.moment_at(now);
         let hold = hold_terms(&self.config, moment, from, prepare, route)?;
         self.book_hold(actor, now, hold)
@@ -339,7 +335,6 @@ impl<A: Allocator> Book<A> {
         ensures lawful { IsLawful self.new }
         ensures err { OnErr result (self.new ≡ self.old) }
     {
-        self.config.is_valid();
         if !self.has_room(2) {
             return Err(HoldFault::Full);
         }

@@ -18,7 +18,6 @@ fn quote_between(config: &Config, from: u32, to: u32, amount: u64) -> Result<Quo
     requires to { IsKnown config.now to }
     ensures { result ≡ quote_between config.now from to amount }
 {
-    config.is_valid();
     let assets = config.assets();
     assets.quote(
         config.asset(from),

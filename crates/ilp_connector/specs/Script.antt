@@ -6,6 +6,10 @@ use Rattle.std.specs.Str.{bytes_eq}
 use Rattle.std.specs.Str.Parse.{digits_value}
 use Rattle.ilp_accounts.specs.Configuration.{place_named}
 
+-- the most octets of a script
+abbrev pub most_script : ℕ
+most_script = 1048576
+
 -- the lines of a text: each is ended by LF, and the last may lack it
 abbrev pub lines_of : List ℕ → List (List ℕ)
 lines_of [] = []
@@ -36,12 +40,18 @@ is_printable octet = nat_le 32 octet && nat_le octet 126
 abbrev pub number_in : ℕ → List ℕ → Option ℕ
 number_in most text = if nat_le 1 (length text) && nat_le (length text) most && list_all is_ascii_digit text then Some (digits_value 10 text) else None
 
--- a moment is told by 1 to 15 digits, an entry by 1 to 9
+-- the most digits of a moment, and those of an entry's number
+abbrev pub moment_digits : ℕ
+moment_digits = 15
+
+abbrev pub entry_digits : ℕ
+entry_digits = 9
+
 abbrev pub moment_in : List ℕ → Option ℕ
-moment_in text = number_in 15 text
+moment_in text = number_in moment_digits text
 
 abbrev pub entry_in : List ℕ → Option ℕ
-entry_in text = number_in 9 text
+entry_in text = number_in entry_digits text
 
 -- some hexadecimal text; that it is one is seen where it is decoded
 abbrev pub hold_form : Option ℕ → Option ℕ → List ℕ → Form

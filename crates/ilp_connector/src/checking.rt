@@ -12,7 +12,7 @@ use std::alloc::{AllocError, Global};
 /// How many peers, assets and routes a configuration in TOML has, as one line without its end.
 ///
 /// It is refused by its first fault, as `Config::read` tells it. `Memory` may come in place of any
-/// answer, where memory was refused.
+/// answer, where a growth of memory was denied.
 pub fn check(alloc: Global, octets: &[u8]) -> Result<String, ConfigFault>
     ensures toml { (t : Members) → IsToml octets.now t
         → Reads string_bytes result (first_fault t) (check_line (configuration t)) }

@@ -31,6 +31,7 @@ fn push_left<A: Allocator>(out: &mut String<A>, text: &str, width: usize) -> Res
     push_spaces(out, width.saturating_sub(text.len()))
 }
 
+// So many spaces.
 fn push_spaces<A: Allocator>(out: &mut String<A>, count: usize) -> Result<(), AllocError>
     ensures { OnOk result (string_bytes out.new ≡ string_bytes out.old ++ replicate count 32) }
 {

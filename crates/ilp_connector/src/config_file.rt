@@ -1,8 +1,8 @@
 //! The octets of a configuration, from any reader.
-ghost use Rattle.std.specs.Prelude.{◌≡◌, ◌≢◌, ◌⊎◌, ◌≤◌, length, vec_len, Err, IfOk, OnOk, IfErr, OnErr, IfSome, IsErrOf};
+ghost use Rattle.std.specs.Prelude.{◌≡◌, ◌≢◌, ◌⊎◌, ◌≤◌, ◌+◌, length, vec_len, Err, IfOk, OnOk, IfErr, OnErr, IfSome, IsErrOf};
 ghost use Rattle.ilp_io.specs.Counts.{TalliesUpTo};
 ghost use Rattle.ilp_io.specs.Reading.{IsReadWhole, ConsumesUpTo};
-ghost use Rattle.ilp_connector.specs.ConfigReading.{IsBeyond};
+ghost use Rattle.ilp_connector.specs.ConfigReading.{most_config, IsBeyond};
 
 use crate::refusal::Refusal;
 use ilp_io::{ReadFault, Source, read_to_limit};
@@ -15,26 +15,26 @@ pub const CONFIG_LIMIT: usize = 1_048_576;
 /// reads.
 ///
 /// Refusals: `ConfigUnread` where a read failed or there are more octets, `Memory` where the list
-/// that is answered was refused its growth. The octets that were read by then are lost.
+/// that is answered was denied its growth. The octets that were read by then are lost.
 pub fn read_config<S: Source, A: Allocator + Copy>(
     alloc: A,
     reader: &mut S,
 ) -> Result<Vec<u8, A>, Refusal>
     ensures whole { IfOk result (λ octets.
         IsReadWhole (S.remaining reader.old) (S.remaining reader.new) octets.items) }
-    ensures within { IfOk result (λ octets. vec_len octets ≤ 1048576) }
+    ensures within { IfOk result (λ octets. vec_len octets ≤ most_config) }
     ensures part { OnErr result
-        (ConsumesUpTo (S.remaining reader.old) (S.remaining reader.new) 1048577) }
+        (ConsumesUpTo (S.remaining reader.old) (S.remaining reader.new) (most_config + 1)) }
 
-    // It is unread just where a read failed, or there were more octets.
+    // A configuration is unread just where a read failed, or there were more octets.
     ensures unread { IsErrOf result Refusal.ConfigUnread
-        → TalliesUpTo (S.tally reader.old) (S.tally reader.new) 1048577 1
-        ⊎ IsBeyond 1048576 (S.tally reader.old) (S.tally reader.new)
+        → TalliesUpTo (S.tally reader.old) (S.tally reader.new) (most_config + 1) 1
+        ⊎ IsBeyond most_config (S.tally reader.old) (S.tally reader.new)
         (S.remaining reader.old) (S.remaining reader.new) }
     ensures unfailed { result ≢ Err Refusal.ConfigUnread
-        → TalliesUpTo (S.tally reader.old) (S.tally reader.new) 1048577 0 }
+        → TalliesUpTo (S.tally reader.old) (S.tally reader.new) (most_config + 1) 0 }
     ensures short { OnOk result
-        (IfSome (S.remaining reader.old) (λ octets. length octets ≤ 1048576)) }
+        (IfSome (S.remaining reader.old) (λ octets. length octets ≤ most_config)) }
     ensures refused { IfErr result (λ refusal.
         (refusal ≡ Refusal.ConfigUnread) ⊎ (refusal ≡ Refusal.Memory)) }
 {

@@ -15,7 +15,7 @@ use std::str;
 ///
 /// The text is refused as `BadHex` where it is no even number of hexadecimal digits, and else by
 /// the first fault of its octets where they are no packet (RFC 0027). `Memory` comes only where a
-/// growth was refused.
+/// growth of memory was denied.
 #[tactic(auto, unfolding(crate::specs::PacketText::description))]
 pub fn describe_packet<A: Allocator + Copy>(alloc: A, text: &str) -> Result<String<A>, Refusal>
     ensures line { IfOk result (λ line. description text.now ≡ Ok (string_bytes line)) }
@@ -58,6 +58,7 @@ fn packet_line<A: Allocator + Copy>(alloc: A, packet: &Packet<'_>) -> Result<Str
     }
 }
 
+// The fields of a Prepare.
 fn prepare_line<A: Allocator + Copy>(
     alloc: A,
     packet: &Prepare<'_>,
@@ -88,6 +89,7 @@ fn address_text(address: &[u8]) -> &str
     }
 }
 
+// The fields of a Fulfill.
 fn fulfill_line<A: Allocator + Copy>(
     alloc: A,
     packet: &Fulfill<'_>,
@@ -101,6 +103,7 @@ fn fulfill_line<A: Allocator + Copy>(
     format!(in alloc; "fulfill preimage {preimage} data {data}")
 }
 
+// The fields of a Reject.
 fn reject_line<A: Allocator + Copy>(alloc: A, packet: &Reject<'_>) -> Result<String<A>, AllocError>
     ensures { IfOk result (λ line.
         string_bytes line ≡ packet_text (reject (plain_reject packet.now))) }

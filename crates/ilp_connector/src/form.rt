@@ -4,17 +4,17 @@ ghost use Rattle.std.specs.Char.{is_ascii_digit};
 ghost use Rattle.std.specs.List.{list_all, slice_split};
 ghost use Rattle.ilp_accounts.specs.Configuration.{peer_names, place_named};
 ghost use Rattle.ilp_connector.specs.Script as script;
-ghost use Rattle.ilp_connector.specs.Script.{form_of, form_of_fields, is_space, is_printable, number_in};
+ghost use Rattle.ilp_connector.specs.Script.{moment_digits, form_of, form_of_fields, is_space, is_printable, number_in};
 ghost use Rattle.ilp_connector.specs.Seen.{form_seen, IsOfPeers, fields_after, field_list};
 
 use crate::lines::first_place;
 use ilp_accounts::Config;
 use std::str;
 
-/// The most digits of a moment.
+// The most digits of a moment.
 const MOMENT_DIGITS: usize = 15;
 
-/// The most digits of an entry's number.
+// The most digits of an entry's number.
 const ENTRY_DIGITS: usize = 9;
 
 /// What a line asks for. Packets are hexadecimal text, which is decoded later.
@@ -190,7 +190,7 @@ fn is_printable(text: &[u8]) -> bool
 
 // The number that a text of at most so many decimal digits writes.
 fn number_in(text: &[u8], most: usize) -> Option<u64>
-    requires { most ≤ 15 }
+    requires { most ≤ moment_digits }
     ensures value { result ≡ number_in most text.now }
     ensures bound { IfSome result (λ number. number < 10 ^ most) }
 {

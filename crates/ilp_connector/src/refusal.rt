@@ -81,7 +81,7 @@ pub enum Refusal {
     TotalFull,
     /// The sender's balance, which is this, would fall below its least.
     BelowLeast { balance: i128 },
-    /// Memory was refused.
+    /// A growth of memory was denied.
     Memory,
     /// A read failed.
     ReadFault,

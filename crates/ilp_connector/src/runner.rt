@@ -1,9 +1,10 @@
 //! A script of lines: read whole, run line by line, and what each line prints written.
-ghost use Rattle.std.specs.Prelude.{◌≡◌, ◌≢◌, ◌<◌, OnOk, OnErr, IfSome, IsErrOf, [], length};
+ghost use Rattle.std.specs.Prelude.{◌≡◌, ◌≢◌, ◌≤◌, ◌+◌, OnOk, OnErr, IfSome, IsErrOf, [], length};
 ghost use Rattle.std.specs.Io.KnownBytes.{Appends};
 ghost use Rattle.ilp_io.specs.Counts.{TalliesUpTo, CountsUp};
 ghost use Rattle.ilp_io.specs.Writing.{AppendsPrefix};
 ghost use Rattle.ilp_io.specs.Reading.{ConsumesFirst};
+ghost use Rattle.ilp_connector.specs.Script.{most_script};
 ghost use Rattle.ilp_connector.specs.Replay.{text_of, Replays, Stops, failed_reads, failed_writes, fault_refusal};
 
 use crate::line::run_line;
@@ -17,13 +18,13 @@ use std::alloc::Allocator;
 use std::error::Error;
 use std::fmt;
 
-/// The most octets of a script.
+// The most octets of a script.
 const MAX_SCRIPT: usize = 1_048_576;
 
 /// Why a replay stopped before its end.
 #[derive(Clone, Copy, Debug, PartialEq, Eq)]
 pub enum ReplayFault {
-    /// Memory was refused.
+    /// A growth of memory was denied.
     Memory,
     /// A read failed.
     ReadFault,
@@ -71,7 +72,7 @@ impl Error for ReplayFault {}
 ///
 /// Refusals: `ReadFault` where a read failed, `ScriptTooLong` where there are more than 1,048,576
 /// octets; nothing is written then. `WriteFault` where a write failed or took no octet, `Memory`
-/// where a growth was refused; what was written is then a front of what the script prints.
+/// where a growth of memory was denied; what was written is then a front of what the script prints.
 pub fn replay<S: Source, W: Sink, A: Allocator + Copy>(
     alloc: A,
     config: &Config,
@@ -87,13 +88,13 @@ pub fn replay<S: Source, W: Sink, A: Allocator + Copy>(
 
     // A read fault comes just where a read failed, a write fault where a write failed or took nothing.
     ensures reads { TalliesUpTo (S.tally reader.old) (S.tally reader.new)
-        1048577 (failed_reads result) }
+        (most_script + 1) (failed_reads result) }
     ensures writes { CountsUp (W.failures writer.old) (W.failures writer.new) (failed_writes result) }
 
     // Whether a script is too long depends on nothing but its length.
-    ensures short { OnOk result (IfSome (S.remaining reader.old) (λ script. length script < 1048577)) }
+    ensures short { OnOk result (IfSome (S.remaining reader.old) (λ script. length script ≤ most_script)) }
     ensures long { IsErrOf result ReplayFault.ScriptTooLong
-        → ConsumesFirst (S.remaining reader.old) (S.remaining reader.new) 1048577 }
+        → ConsumesFirst (S.remaining reader.old) (S.remaining reader.new) (most_script + 1) }
     ensures unread { IsErrOf result ReplayFault.ReadFault
         → Appends (W.contents writer.old) (W.contents writer.new) [] }
     ensures unrun { IsErrOf result ReplayFault.ScriptTooLong

@@ -66,7 +66,6 @@ fn print_peer(rt: &impl Print, config: &Config, peer: u32) -> io::Result<()>
 fn print_limits(rt: &impl Print, config: &Config, peer: u32) -> io::Result<()>
     requires { peer < length config.now.peers }
 {
-    config.is_valid();
     let name = config.name(peer);
     println!(rt; "asset of {name} {}", config.asset(peer))?;
     println!(rt; "scale of {name} {}", config.scale(peer))?;

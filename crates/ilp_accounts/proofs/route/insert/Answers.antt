@@ -5,12 +5,12 @@ use Rattle.ilp_accounts.proofs.route.insert.Goals as goal
 
 pub returns-in-Ok-clause-ok : goal.returns-in-Ok-clause-ok
 returns-in-Ok-clause-ok c = (
-  fresh (prefixes c.args.routes.now) c.args.prefix.now c.in-Ok.field-0 (rw (← c.as_bytes.ensures.value, ← c.in-Ok.is) c.insert.ensures.double),
+  fresh (prefixes c.args.routes.now) c.args.prefix.now _ c.as_bytes.ensures.value c.insert.result c.insert.ensures.double c.in-Ok.field-0 c.in-Ok.is,
   rw (← c.as_bytes.ensures.value) c.in-Ok.ensures.ok,
 )
 
 pub returns-in-Err-Double-clause-err : goal.returns-in-Err-Double-clause-err
 returns-in-Err-Double-clause-err c = λ other. (
-  among c.args.prefix.now (prefixes c.args.routes.now) (rw (← c.as_bytes.ensures.value) (c.insert.ensures.double.0 (c.in-Err-Double.is ∙ ap Err c.in-Err-Double.field-0-is))),
+  among (prefixes c.args.routes.now) c.args.prefix.now _ c.as_bytes.ensures.value c.insert.result c.insert.ensures.double (c.in-Err-Double.is ∙ ap Err c.in-Err-Double.field-0-is),
   refl,
 )
