@@ -2,13 +2,14 @@
 use Rattle.std.proofs.Common.{◌≡◌, ℕ, ◌+◌, ◌<◌, ◌≤◌, ℤ, List, [], ◌++◌, length, Result, Ok, refl, ap, subst, ◌∙◌, length-append, arith}
 use Rattle.std.specs.Int.{w64, to_be_bytes}
 use Rattle.std.proofs.lemmas.Bool.Decides.{nat_tests}
+use Rattle.ilp_order.specs.Refusals.{◌>>=◌}
+use Rattle.ilp_order.proofs.RefusalLemmas.{bound, ok_same}
 use Rattle.ilp_oer.specs.OctetString as oer
 use Rattle.ilp_terms.specs.Expiry.{IsExpiry, IsMoment, moment_of}
 use Rattle.ilp_packet.specs.declared.fault.PacketFault.{PacketFault}
 use Rattle.ilp_packet.specs.Packet.{PlainPrepare, PlainFulfill, PlainReject, PlainPacket, prepare, fulfill, reject, IsPrepare, IsFulfill, IsReject, IsWithin, NamesExpiry, content}
-use Rattle.ilp_packet.specs.Reading.{◌>>=◌, AreOctets, chunk_at, amount_at, expiry_at, string_within, address_at, payload_in, prepare_in, fulfill_in, reject_in}
+use Rattle.ilp_packet.specs.Reading.{AreOctets, chunk_at, amount_at, expiry_at, string_within, address_at, payload_in, prepare_in, fulfill_in, reject_in}
 use Rattle.ilp_packet.proofs.MomentLemmas.{moment_of-in}
-use Rattle.ilp_packet.proofs.TakingLemmas.{bind_ok, ok_is}
 use Rattle.ilp_packet.proofs.FieldLemmas.{chunk_takes, chunk_again, amount_takes, amount_again, expiry_takes, expiry_again, string_within-takes, string_within-again, address_takes, address_again, payload_takes, payload_again}
 
 -- ---- a Prepare
@@ -40,11 +41,11 @@ pub record SpellsPrepare (octets : List ℕ) (p : PlainPrepare) : Type 0 where
 pub prepare_takes : (octets : List ℕ) (p : PlainPrepare) → AreOctets octets → prepare_in octets ≡ Ok p → SpellsPrepare octets p
 unfolding prepare_in
 prepare_takes octets p fits e =
-    let amount = bind_ok (amount_at octets) after_amount p e in
-    let expires = bind_ok (expiry_at amount.0.1) (after_expiry amount.0.0) p amount.2 in
-    let condition = bind_ok (chunk_at 32 expires.0.1) (after_condition amount.0.0 expires.0.0) p expires.2 in
-    let destination = bind_ok (address_at condition.0.1) (after_destination amount.0.0 expires.0.0 condition.0.0) p condition.2 in
-    let payload = bind_ok (payload_in destination.0.1) (after_payload amount.0.0 expires.0.0 condition.0.0 destination.0.0) p destination.2 in
+    let amount = bound (amount_at octets) after_amount p e in
+    let expires = bound (expiry_at amount.0.1) (after_expiry amount.0.0) p amount.2 in
+    let condition = bound (chunk_at 32 expires.0.1) (after_condition amount.0.0 expires.0.0) p expires.2 in
+    let destination = bound (address_at condition.0.1) (after_destination amount.0.0 expires.0.0 condition.0.0) p condition.2 in
+    let payload = bound (payload_in destination.0.1) (after_payload amount.0.0 expires.0.0 condition.0.0 destination.0.0) p destination.2 in
     let t0 = amount_takes octets amount.0 fits amount.1 in
     let t1 = expiry_takes amount.0.1 expires.0 t0.0.rest_fits expires.1 in
     let t2 = chunk_takes 32 expires.0.1 condition.0 t1.1.rest_fits condition.1 in
@@ -62,7 +63,7 @@ prepare_takes octets p fits e =
           (t2.0.parts ∙ ap (λ (xs : List ℕ). condition.0.0 ++ xs)
           (t3.0.parts ∙ ap (λ (xs : List ℕ). oer.spelling destination.0.0 ++ xs) t4.0)));
     } in
-    subst (SpellsPrepare octets) (ok_is read p payload.2) spelled
+    subst (SpellsPrepare octets) (ok_same read p payload.2) spelled
 
 pub prepare_again : (expiry : List ℕ) (p : PlainPrepare) → IsPrepare p → IsExpiry expiry → moment_of expiry ≡ p.expires → prepare_in (content expiry (prepare p)) ≡ Ok p
 unfolding prepare_in
@@ -85,12 +86,12 @@ after_preimage preimage = payload_in preimage.1 >>= λ payload. Ok (record { pre
 pub fulfill_takes : (octets : List ℕ) (f : PlainFulfill) → AreOctets octets → fulfill_in octets ≡ Ok f → IsFulfill f × (octets ≡ content [] (fulfill f))
 unfolding fulfill_in
 fulfill_takes octets f fits e =
-    let preimage = bind_ok (chunk_at 32 octets) after_preimage f e in
-    let payload = bind_ok (payload_in preimage.0.1) (λ payload. Ok (record { preimage = preimage.0.0; payload = payload })) f preimage.2 in
+    let preimage = bound (chunk_at 32 octets) after_preimage f e in
+    let payload = bound (payload_in preimage.0.1) (λ payload. Ok (record { preimage = preimage.0.0; payload = payload })) f preimage.2 in
     let t0 = chunk_takes 32 octets preimage.0 fits preimage.1 in
     let t1 = payload_takes preimage.0.1 payload.0 t0.0.rest_fits payload.1 in
     let read : PlainFulfill = record { preimage = preimage.0.0; payload = payload.0 } in
-    subst (λ (g : PlainFulfill). IsFulfill g × (octets ≡ content [] (fulfill g))) (ok_is read f payload.2)
+    subst (λ (g : PlainFulfill). IsFulfill g × (octets ≡ content [] (fulfill g))) (ok_same read f payload.2)
     (record { preimage = t0.1; payload = t1.1 }, t0.0.parts ∙ ap (λ (xs : List ℕ). preimage.0.0 ++ xs) t1.0)
 
 pub fulfill_again : (f : PlainFulfill) → IsFulfill f → fulfill_in (content [] (fulfill f)) ≡ Ok f
@@ -116,10 +117,10 @@ after_code code = string_within 1023 code.1 >>= after_triggered_by code.0
 pub reject_takes : (octets : List ℕ) (r : PlainReject) → AreOctets octets → reject_in octets ≡ Ok r → IsReject r × (octets ≡ content [] (reject r))
 unfolding reject_in
 reject_takes octets r fits e =
-    let code = bind_ok (chunk_at 3 octets) after_code r e in
-    let by = bind_ok (string_within 1023 code.0.1) (after_triggered_by code.0.0) r code.2 in
-    let message = bind_ok (string_within 8191 by.0.1) (after_message code.0.0 by.0.0) r by.2 in
-    let payload = bind_ok (payload_in message.0.1) (after_data code.0.0 by.0.0 message.0.0) r message.2 in
+    let code = bound (chunk_at 3 octets) after_code r e in
+    let by = bound (string_within 1023 code.0.1) (after_triggered_by code.0.0) r code.2 in
+    let message = bound (string_within 8191 by.0.1) (after_message code.0.0 by.0.0) r by.2 in
+    let payload = bound (payload_in message.0.1) (after_data code.0.0 by.0.0 message.0.0) r message.2 in
     let t0 = chunk_takes 3 octets code.0 fits code.1 in
     let t1 = string_within-takes 1023 code.0.1 by.0 t0.0.rest_fits by.1 in
     let t2 = string_within-takes 8191 by.0.1 message.0 t1.0.rest_fits message.1 in
@@ -129,7 +130,7 @@ reject_takes octets r fits e =
     t0.0.parts ∙ ap (λ (xs : List ℕ). code.0.0 ++ xs)
     (t1.0.parts ∙ ap (λ (xs : List ℕ). oer.spelling by.0.0 ++ xs)
     (t2.0.parts ∙ ap (λ (xs : List ℕ). oer.spelling message.0.0 ++ xs) t3.0)) in
-    subst (λ (s : PlainReject). IsReject s × (octets ≡ content [] (reject s))) (ok_is read r payload.2)
+    subst (λ (s : PlainReject). IsReject s × (octets ≡ content [] (reject s))) (ok_same read r payload.2)
     (record { code = t0.1; triggered_by = t1.1; message = t2.1; payload = t3.1 }, whole)
 
 pub reject_again : (r : PlainReject) → IsReject r → reject_in (content [] (reject r)) ≡ Ok r

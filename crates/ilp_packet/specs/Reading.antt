@@ -1,7 +1,8 @@
 -- Reading a packet (RFC 0027, RFC 0030) from left to right, with the first fault that is met.
-use Rattle.std.specs.Prelude.{◌≡◌, ℕ, ℤ, Bool, true, false, not, List, [], ◌∷◌, length, take, drop, slice_index, Option, Some, None, Result, Ok, Err, nat_lt, ◌==◌, if◌then◌else◌}
+use Rattle.std.specs.Prelude.{◌≡◌, ℕ, ℤ, not, List, [], ◌∷◌, length, take, drop, slice_index, Option, Some, None, Result, Ok, Err, nat_lt, ◌==◌, if◌then◌else◌}
 use Rattle.std.specs.Result.{result_err}
 use Rattle.std.specs.Int.{w64, from_be_bytes}
+use Rattle.ilp_order.specs.Refusals.{◌>>=◌, refuse_if}
 pub use Rattle.ilp_oer.specs.Octets.{AreOctets}
 use Rattle.ilp_oer.specs.OctetString as oer
 use Rattle.ilp_oer.specs.declared.fault.OerFault.{OerFault}
@@ -12,17 +13,6 @@ use Rattle.ilp_packet.specs.declared.fault.PacketFault.TheVariants.{Truncated, B
 use Rattle.ilp_packet.specs.Address.{is_address}
 use Rattle.ilp_packet.specs.ExpiryTest.{is_expiry}
 use Rattle.ilp_packet.specs.Packet.{PlainPrepare, PlainFulfill, PlainReject, PlainPacket, prepare, fulfill, reject}
-
-infixl 10 ◌>>=◌
--- what follows is read only where nothing was refused
-abbrev pub ◌>>=◌ : {A B : Type 0} → Result A PacketFault → (A → Result B PacketFault) → Result B PacketFault
-(Ok x) >>= f = f x
-(Err e) >>= f = Err e
-
--- a refusal where the test passes
-abbrev pub refuse_if : Bool → PacketFault → Result (Unit {0}) PacketFault
-refuse_if true fault = Err fault
-refuse_if false fault = Ok tt
 
 -- What a function returned, seen by a view, is what reading gives.
 abbrev pub Gives : {X Y : Type 0} → (X → Y) → Result X PacketFault → Result Y PacketFault → Type 0
