@@ -11,7 +11,7 @@ use Rattle.ilp_assets.specs.declared.table.Placed.{Placed}
 use Rattle.ilp_assets.specs.Assets.{PlainAsset, PlainPrice, PlainTable, asset_at, is_price_of}
 use Rattle.ilp_assets.specs.Faults.{fault_of, fault_of_assets, fault_of_prices, price_fault}
 use Rattle.ilp_assets.specs.Table.{IsIndexed, IsNext, place_of_price, plain_listed, plain_placed, plain_table}
-use Rattle.ilp_assets.proofs.Checking.{first_of-rest, first_of-lone, first_along-snoc}
+use Rattle.ilp_order.proofs.CheckLemmas.{first_of-rest, first_of-lone, first_along-snoc}
 use Rattle.ilp_assets.proofs.Sameness.{is_price_of-Decides}
 use Rattle.ilp_assets.proofs.Finding.{position_from-added, position_from-kept}
 use Rattle.ilp_assets.proofs.Places.{one_place, same_pair}

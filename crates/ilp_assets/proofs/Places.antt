@@ -9,7 +9,7 @@ use Rattle.std.proofs.lemmas.Nat.{div-mul-add}
 use Rattle.ilp_assets.specs.declared.fault.AssetFault.TheVariants.{DoubleAsset}
 use Rattle.ilp_assets.specs.Assets.{PlainAsset, is_asset, asset_at, no_asset, place_of}
 use Rattle.ilp_assets.specs.Faults.{is_among, asset_fault, fault_of_assets}
-use Rattle.ilp_assets.proofs.Checking.{when-None, first_along-at}
+use Rattle.ilp_order.proofs.CheckLemmas.{when-None, first_along-at}
 use Rattle.ilp_assets.proofs.Sameness.{is_asset-Decides}
 use Rattle.ilp_assets.proofs.Finding.{position_from-Some, position_from-any}
 

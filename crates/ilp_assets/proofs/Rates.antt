@@ -11,7 +11,7 @@ use Rattle.ilp_assets.specs.Assets.{PlainAsset, PlainPrice, PlainTable, is_asset
 use Rattle.ilp_assets.specs.Faults.{is_among, fault_of, fault_of_assets, fault_of_prices, price_fault}
 use Rattle.ilp_assets.specs.Quote.{price_of, scale_of}
 use Rattle.ilp_assets.specs.Table.{IsIndexed, IsPrice, place_of_price, plain_listed, plain_placed, plain_table}
-use Rattle.ilp_assets.proofs.Checking.{first_of-None, when-None, first_along-at}
+use Rattle.ilp_order.proofs.CheckLemmas.{first_of-None, when-None, first_along-at}
 use Rattle.ilp_assets.proofs.Sameness.{is_price_of-Decides}
 use Rattle.ilp_assets.proofs.Finding.{position_from-Some, position_from-None, seen_at, seen_within}
 

@@ -12,7 +12,7 @@ use Rattle.ilp_order.specs.Checks.{first_of, when, first_along}
 use Rattle.ilp_assets.specs.Assets.{PlainAsset, PlainPrice, PlainTable, is_price_of, asset_at, plain_price}
 use Rattle.ilp_assets.specs.Faults.{price_fault}
 use Rattle.ilp_assets.specs.Table.{IsNamed, IsNext, place_of_price}
-use Rattle.ilp_assets.proofs.Checking.{first_along-turn}
+use Rattle.ilp_order.proofs.CheckLemmas.{first_along-turn}
 use Rattle.ilp_assets.proofs.Finding.{position_from-any}
 
 -- the checks that are left then
