@@ -78,12 +78,12 @@ are_segments-dotted (segment ∷ segments) each =
 
 -- ---- the scheme
 
-scheme_from_test : (text : List ℕ) → is_scheme text ≡ true → Contains schemes text
+pub scheme_from_test : (text : List ℕ) → is_scheme text ≡ true → Contains schemes text
 unfolding is_scheme
 scheme_from_test text h =
     Contains-from_any {eq = λ a b. bytes_eq b a} (λ x y same. sym ((bytes_eq-Decides y x).0 same)) text schemes h
 
-scheme_passes : (text : List ℕ) → Contains schemes text → is_scheme text ≡ true
+pub scheme_passes : (text : List ℕ) → Contains schemes text → is_scheme text ≡ true
 unfolding is_scheme
 scheme_passes text found =
     let each = AllPass-from_list_all is_scheme schemes refl in
