@@ -11,6 +11,7 @@ use Rattle.ilp_oer.specs.OctetString as oer
 use Rattle.ilp_terms.specs.Expiry.{IsExpiry, moment_of}
 use Rattle.ilp_packet.specs.declared.fault.PacketFault.{PacketFault}
 use Rattle.ilp_packet.specs.declared.fault.PacketFault.TheVariants.{Truncated, Trailing, BadExpiry, BadAddress, FieldTooLong}
+use Rattle.ilp_packet.specs.Packet.{most_payload}
 use Rattle.ilp_packet.specs.Address.{IsAddress, is_address}
 use Rattle.ilp_packet.specs.ExpiryTest.{is_expiry}
 use Rattle.ilp_packet.specs.Reading.{AreOctets, chunk_at, amount_at, expiry_at, string_at, string_within, address_at, last_of, payload_in, content_at}
@@ -136,19 +137,19 @@ unfolding last_of
 last_again value = refl
 
 -- the data, which is all that is left
-pub payload_takes : (octets payload : List ℕ) → AreOctets octets → payload_in octets ≡ Ok payload → (octets ≡ oer.spelling payload) × (length payload ≤ 32767)
+pub payload_takes : (octets payload : List ℕ) → AreOctets octets → payload_in octets ≡ Ok payload → (octets ≡ oer.spelling payload) × (length payload ≤ most_payload)
 unfolding payload_in
 payload_takes octets payload fits e =
-    let b = bound (string_within 32767 octets) last_of payload e in
-    let t = string_within-takes 32767 octets b.0 fits b.1 in
+    let b = bound (string_within most_payload octets) last_of payload e in
+    let t = string_within-takes most_payload octets b.0 fits b.1 in
     let l = last_takes b.0 payload b.2 in
-    (all_taken octets b.0 payload t.0 l, subst (λ (text : List ℕ). length text ≤ 32767) l.0 t.1)
+    (all_taken octets b.0 payload t.0 l, subst (λ (text : List ℕ). length text ≤ most_payload) l.0 t.1)
 
-pub payload_again : (payload : List ℕ) → length payload ≤ 32767 → payload_in (oer.spelling payload) ≡ Ok payload
+pub payload_again : (payload : List ℕ) → length payload ≤ most_payload → payload_in (oer.spelling payload) ≡ Ok payload
 unfolding payload_in
 payload_again payload short =
-    ap (λ (octets : List ℕ). string_within 32767 octets >>= last_of) (sym (append-nil (oer.spelling payload)))
-    ∙ ap (λ (r : Result (List ℕ × List ℕ) PacketFault). r >>= last_of) (string_within-again 32767 payload [] short (omega arith))
+    ap (λ (octets : List ℕ). string_within most_payload octets >>= last_of) (sym (append-nil (oer.spelling payload)))
+    ∙ ap (λ (r : Result (List ℕ × List ℕ) PacketFault). r >>= last_of) (string_within-again most_payload payload [] short (omega arith))
     ∙ last_again payload
 
 -- ---- the content after a type octet

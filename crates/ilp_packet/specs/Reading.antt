@@ -12,7 +12,7 @@ use Rattle.ilp_packet.specs.declared.fault.PacketFault.{PacketFault}
 use Rattle.ilp_packet.specs.declared.fault.PacketFault.TheVariants.{Truncated, BadPrefix, TooLong, UnknownType, Trailing, BadExpiry, BadAddress, FieldTooLong}
 use Rattle.ilp_packet.specs.Address.{is_address}
 use Rattle.ilp_packet.specs.ExpiryTest.{is_expiry}
-use Rattle.ilp_packet.specs.Packet.{PlainPrepare, PlainFulfill, PlainReject, PlainPacket, prepare, fulfill, reject}
+use Rattle.ilp_packet.specs.Packet.{most_payload, most_message, most_triggered_by, PlainPrepare, PlainFulfill, PlainReject, PlainPacket, prepare, fulfill, reject}
 
 -- What a function returned, seen by a view, is what reading gives.
 abbrev pub Gives : {X Y : Type 0} → (X → Y) → Result X PacketFault → Result Y PacketFault → Type 0
@@ -77,7 +77,7 @@ last_of (value, rest) = if length rest == 0 then Ok value else Err Trailing
 -- the data, the last field of each content
 unfoldable pub payload_in : List ℕ → Result (List ℕ) PacketFault
 payload_in octets = do
-  field ← string_within 32767 octets
+  field ← string_within most_payload octets
   last_of field
 
 -- ---- contents
@@ -100,8 +100,8 @@ fulfill_in content = do
 unfoldable pub reject_in : List ℕ → Result PlainReject PacketFault
 reject_in content = do
   code ← chunk_at 3 content
-  triggered_by ← string_within 1023 code.1
-  message ← string_within 8191 triggered_by.1
+  triggered_by ← string_within most_triggered_by code.1
+  message ← string_within most_message triggered_by.1
   payload ← payload_in message.1
   Ok (record { code = code.0; triggered_by = triggered_by.0; message = message.0; payload = payload })
 

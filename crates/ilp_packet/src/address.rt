@@ -4,7 +4,7 @@ ghost use Rattle.std.specs.List.{before_first, after_first};
 ghost use Rattle.ilp_packet.specs.Address as address;
 ghost use Rattle.ilp_packet.specs.Address.{IsAddress, is_dot, is_scheme, are_segments, is_segment_octet};
 
-/// The greatest number of octets of an address.
+// The greatest number of octets of an address.
 const MAX_ADDRESS: usize = 1023;
 
 /// Whether octets are an address: a scheme, and then one or more segments, each a dot and one or

@@ -5,9 +5,16 @@ ghost use Rattle.ilp_packet.specs.Packet.{plain_prepare, plain_fulfill, plain_re
 ghost use Rattle.ilp_packet.specs.Writing.{size, Appends};
 
 use crate::packet::{FULFILL, Fulfill, PREPARE, Prepare, REJECT, Reject};
-use ilp_oer::{Octets, octets_len, write_octets, write_prefix};
+use ilp_oer::{MAX_CONTENT, Octets, octets_len, write_octets, write_prefix};
 use ilp_terms::expiry_write;
 use std::alloc::{AllocError, Allocator};
+
+// How many octets a Prepare's amount, expiry and condition have.
+const PREPARE_FIXED: usize = 8 + 17 + 32;
+// How many octets a Fulfill's fulfillment has.
+const FULFILL_FIXED: usize = 32;
+// How many octets a Reject's code has.
+const REJECT_FIXED: usize = 3;
 
 /// Appends the octets of a Prepare (RFC 0027), whose fields are within their limits: it expires in
 /// the years 0 to 9999, its destination is an address (RFC 0015), and its data has at most 32,767
@@ -23,7 +30,7 @@ pub fn write_prepare<A: Allocator>(
     ensures ok { OnOk result
         (Appends out.old.octets (prepare (plain_prepare packet.now)) out.new.octets) }
 
-    // As `append` of the packet's octets.
+    // Enough room is used up octet by octet; a refusal leaves all as it was.
     ensures enough { size (prepare (plain_prepare packet.now)) ≤ out.old.spare → IsOk result }
     ensures used { size (prepare (plain_prepare packet.now)) ≤ out.old.spare
         → out.new.spare + size (prepare (plain_prepare packet.now)) ≡ out.old.spare }
@@ -38,13 +45,13 @@ pub fn write_prepare<A: Allocator>(
 // How many octets the content of a Prepare has.
 fn prepare_len(packet: &Prepare<'_>) -> usize
     requires { IsPrepare (plain_prepare packet.now) }
-    ensures within { result ≤ 65535 }
+    ensures within { result ≤ MAX_CONTENT }
     ensures len { (expiry : List ℕ) → length expiry ≡ 17
         → result ≡ length (content expiry (prepare (plain_prepare packet.now))) }
     ensures size { size (prepare (plain_prepare packet.now))
         ≡ 1 + (length (oer.prefix result) + result) }
 {
-    57 + octets_len(packet.destination.len()) + octets_len(packet.payload.len())
+    PREPARE_FIXED + octets_len(packet.destination.len()) + octets_len(packet.payload.len())
 }
 
 // Appends the content of a Prepare into room that is there.
@@ -81,7 +88,7 @@ pub fn write_fulfill<A: Allocator>(
     ensures ok { OnOk result
         (Appends out.old.octets (fulfill (plain_fulfill packet.now)) out.new.octets) }
 
-    // As `append` of the packet's octets.
+    // Enough room is used up octet by octet; a refusal leaves all as it was.
     ensures enough { size (fulfill (plain_fulfill packet.now)) ≤ out.old.spare → IsOk result }
     ensures used { size (fulfill (plain_fulfill packet.now)) ≤ out.old.spare
         → out.new.spare + size (fulfill (plain_fulfill packet.now)) ≡ out.old.spare }
@@ -95,12 +102,12 @@ pub fn write_fulfill<A: Allocator>(
 // How many octets the content of a Fulfill has.
 fn fulfill_len(packet: &Fulfill<'_>) -> usize
     requires { IsFulfill (plain_fulfill packet.now) }
-    ensures within { result ≤ 65535 }
+    ensures within { result ≤ MAX_CONTENT }
     ensures len { result ≡ length (content [] (fulfill (plain_fulfill packet.now))) }
     ensures size { size (fulfill (plain_fulfill packet.now))
         ≡ 1 + (length (oer.prefix result) + result) }
 {
-    32 + octets_len(packet.payload.len())
+    FULFILL_FIXED + octets_len(packet.payload.len())
 }
 
 // Appends the content of a Fulfill into room that is there.
@@ -131,7 +138,7 @@ pub fn write_reject<A: Allocator>(
     ensures ok { OnOk result
         (Appends out.old.octets (reject (plain_reject packet.now)) out.new.octets) }
 
-    // As `append` of the packet's octets.
+    // Enough room is used up octet by octet; a refusal leaves all as it was.
     ensures enough { size (reject (plain_reject packet.now)) ≤ out.old.spare → IsOk result }
     ensures used { size (reject (plain_reject packet.now)) ≤ out.old.spare
         → out.new.spare + size (reject (plain_reject packet.now)) ≡ out.old.spare }
@@ -145,13 +152,13 @@ pub fn write_reject<A: Allocator>(
 // How many octets the content of a Reject has.
 fn reject_len(packet: &Reject<'_>) -> usize
     requires { IsReject (plain_reject packet.now) }
-    ensures within { result ≤ 65535 }
+    ensures within { result ≤ MAX_CONTENT }
     ensures len { result ≡ length (content [] (reject (plain_reject packet.now))) }
     ensures size { size (reject (plain_reject packet.now))
         ≡ 1 + (length (oer.prefix result) + result) }
 {
     let texts = octets_len(packet.triggered_by.len()) + octets_len(packet.message.len());
-    3 + texts + octets_len(packet.payload.len())
+    REJECT_FIXED + texts + octets_len(packet.payload.len())
 }
 
 // Appends the content of a Reject into room that is there.
@@ -174,7 +181,7 @@ fn put_reject<A: Allocator>(out: &mut Octets<A>, packet: &Reject<'_>) -> Result<
 // Makes room for a whole packet, and appends the type octet and the prefix of the content.
 #[inline]
 fn begin<A: Allocator>(out: &mut Octets<A>, number: u8, content: usize) -> Result<(), AllocError>
-    requires { content ≤ 65535 }
+    requires { content ≤ MAX_CONTENT }
     ensures ok { OnOk result (out.new.octets ≡ out.old.octets ++ (number ∷ oer.prefix content)) }
     ensures room { OnOk result (content ≤ out.new.spare) }
     ensures enough { 1 + (length (oer.prefix content) + content) ≤ out.old.spare → IsOk result }
