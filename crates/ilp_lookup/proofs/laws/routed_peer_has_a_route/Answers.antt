@@ -1,5 +1,5 @@
-use Rattle.ilp_lookup.proofs.RouteOf.{IsRoute-route_of}
-use Rattle.ilp_lookup.proofs.laws.route_of_is_a_route.Goals as goal
+use Rattle.ilp_lookup.proofs.RoutedPeer.{IsRoute-routed_peer}
+use Rattle.ilp_lookup.proofs.laws.routed_peer_has_a_route.Goals as goal
 
 pub returns : goal.returns
-returns c = IsRoute-route_of
+returns c = IsRoute-routed_peer
