@@ -58,7 +58,7 @@ place_of-at assets a k found =
 pub place_of-among : (assets : List PlainAsset) (a : PlainAsset) → is_some (place_of assets a) ≡ is_among assets a
 place_of-among assets a = position_from-any (is_asset a) 0 assets
 
--- so a place that was looked for has the asset
+-- a place that was found for an asset has it
 pub if_placed : (assets : List PlainAsset) (a : PlainAsset) (r : Option ℕ) → r ≡ place_of assets a → IfSome r (λ k. asset_at assets k ≡ a)
 if_placed assets a None e = tt
 if_placed assets a (Some k) e = place_of-at assets a k (sym e)
