@@ -47,7 +47,8 @@ impl<'a> Pieces<'a> {
         }
     }
 
-    /// As `new`, and the read that would begin after `fails_after` octets fails.
+    /// Gives the octets in pieces of this size, at least 1, and fails once: at the read that would
+    /// begin after `fails_after` octets.
     pub fn failing(octets: &'a [u8], piece: usize, fails_after: usize) -> Self
         requires { 0 < piece }
         ensures rest { result.rest.now ≡ octets.now }

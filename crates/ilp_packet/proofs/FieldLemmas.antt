@@ -72,7 +72,7 @@ pub expiry_at-chunk : (octets text rest : List ℕ) → chunk_at 17 octets ≡ O
 unfolding expiry_at
 expiry_at-chunk octets text rest e h = rw (e, is_expiry-passes text h) refl
 
--- other octets are refused
+-- octets that begin with no expiry are refused
 pub expiry_at-refused : (octets text rest : List ℕ) → chunk_at 17 octets ≡ Ok (text, rest) → (IsExpiry text → ⊥) → expiry_at octets ≡ Err BadExpiry
 unfolding expiry_at
 expiry_at-refused octets text rest e h = rw (e, false_from_ne_true (is_expiry text) (λ passes. h (expiry_from_test text passes))) refl

@@ -1,9 +1,9 @@
 -- What is written behind other octets is a packet's spelling, and has its size.
-use Rattle.std.proofs.Common.{drop, Ok, sym, subst, ◌≡◌, ℕ, ◌+◌, List, [], ◌∷◌, ◌++◌, length, replicate, refl, ap, ◌∙◌, append_assoc, length-append, arith}
+use Rattle.std.proofs.Common.{drop, Ok, sym, subst, ◌≡◌, ℕ, ◌+◌, List, ◌∷◌, ◌++◌, length, refl, ap, ◌∙◌, append_assoc, length-append, arith}
 use Rattle.std.proofs.lemmas.List.{drop_at, append_cancel_left}
 use Rattle.ilp_oer.specs.OctetString as oer
 use Rattle.ilp_oer.proofs.Spellings.{Splits-unique}
-use Rattle.ilp_packet.specs.Packet.{Spells, PlainPrepare, PlainFulfill, PlainReject, PlainPacket, prepare, fulfill, reject, IsWithin, NamesExpiry, type_octet, content, spelling}
+use Rattle.ilp_packet.specs.Packet.{Spells, PlainPacket, prepare, fulfill, reject, IsWithin, NamesExpiry, type_octet, content, spelling}
 use Rattle.ilp_packet.specs.Reading.{reading}
 use Rattle.ilp_packet.specs.Writing.{seventeen_zeros, size, Appends}
 use Rattle.ilp_packet.proofs.ContentLemmas.{length-octets, length-prepare, content_fits}

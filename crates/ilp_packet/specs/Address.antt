@@ -14,7 +14,7 @@ is_segment_octet octet =
     (nat_le 65 octet && nat_le octet 90) || (nat_le 97 octet && nat_le octet 122)
     || (nat_le 48 octet && nat_le octet 57) || (octet == 95) || (octet == 126) || (octet == 45)
 
--- one or more of these octets
+-- one or more octets that a segment may have
 pub record IsSegment (segment : List ℕ) : Type 0 where
   pub filled : 0 < length segment
   pub allowed : IsTrue (list_all is_segment_octet segment)

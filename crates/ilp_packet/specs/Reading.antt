@@ -25,9 +25,9 @@ of_octet_string oer_faults.Truncated = Truncated
 of_octet_string oer_faults.BadPrefix = BadPrefix
 of_octet_string oer_faults.TooLong = TooLong
 
--- ---- A field is its value and the octets after it.
+-- ---- Fields: each is read as its value, with the octets after it.
 
--- so many octets
+-- a field of so many octets
 unfoldable pub chunk_at : ℕ → List ℕ → Result (List ℕ × List ℕ) PacketFault
 chunk_at size octets =
     if nat_lt (length octets) size then Err Truncated else Ok (take size octets, drop size octets)

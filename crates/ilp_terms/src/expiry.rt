@@ -6,7 +6,7 @@ ghost use Rattle.ilp_terms.specs.Expiry.{AreDigits, IsExpiry, IsMoment, moment_o
 
 use crate::calendar;
 
-/// The milliseconds of a day.
+// The milliseconds of a day.
 const DAY: i64 = 86_400_000;
 
 /// The moment that an expiry's digits name, in milliseconds since 1970-01-01T00:00:00Z.
