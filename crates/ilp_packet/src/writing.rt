@@ -2,7 +2,7 @@
 ghost use Rattle.std.specs.Prelude.{◌≡◌, ℕ, ◌+◌, ◌<◌, ◌≤◌, List, [], ◌∷◌, ◌++◌, length, IsOk, OnOk, OnErr};
 ghost use Rattle.ilp_oer.specs.OctetString as oer;
 ghost use Rattle.ilp_packet.specs.Packet.{plain_prepare, plain_fulfill, plain_reject, prepare, fulfill, reject, content, IsPrepare, IsFulfill, IsReject};
-ghost use Rattle.ilp_packet.specs.Writing.{size, Appends};
+ghost use Rattle.ilp_packet.specs.Writing.{size, Writes};
 
 use crate::packet::{FULFILL, Fulfill, PREPARE, Prepare, REJECT, Reject};
 use ilp_oer::{MAX_CONTENT, Octets, octets_len, write_octets, write_prefix};
@@ -27,15 +27,7 @@ pub fn write_prepare<A: Allocator>(
     packet: &Prepare<'_>,
 ) -> Result<(), AllocError>
     requires { IsPrepare (plain_prepare packet.now) }
-    ensures ok { OnOk result
-        (Appends out.old.octets (prepare (plain_prepare packet.now)) out.new.octets) }
-
-    // Enough room is used up octet by octet; a refusal leaves all as it was.
-    ensures enough { size (prepare (plain_prepare packet.now)) ≤ out.old.spare → IsOk result }
-    ensures used { size (prepare (plain_prepare packet.now)) ≤ out.old.spare
-        → out.new.spare + size (prepare (plain_prepare packet.now)) ≡ out.old.spare }
-    ensures refused { OnErr result (out.old.spare < size (prepare (plain_prepare packet.now))) }
-    ensures err { OnErr result (out.new ≡ out.old) }
+    ensures { Writes (prepare (plain_prepare packet.now)) out.old out.new result }
 {
     let expiry = expiry_write(packet.expires);
     begin(out, PREPARE, prepare_len(packet))?;
@@ -85,15 +77,7 @@ pub fn write_fulfill<A: Allocator>(
     packet: &Fulfill<'_>,
 ) -> Result<(), AllocError>
     requires { IsFulfill (plain_fulfill packet.now) }
-    ensures ok { OnOk result
-        (Appends out.old.octets (fulfill (plain_fulfill packet.now)) out.new.octets) }
-
-    // Enough room is used up octet by octet; a refusal leaves all as it was.
-    ensures enough { size (fulfill (plain_fulfill packet.now)) ≤ out.old.spare → IsOk result }
-    ensures used { size (fulfill (plain_fulfill packet.now)) ≤ out.old.spare
-        → out.new.spare + size (fulfill (plain_fulfill packet.now)) ≡ out.old.spare }
-    ensures refused { OnErr result (out.old.spare < size (fulfill (plain_fulfill packet.now))) }
-    ensures err { OnErr result (out.new ≡ out.old) }
+    ensures { Writes (fulfill (plain_fulfill packet.now)) out.old out.new result }
 {
     begin(out, FULFILL, fulfill_len(packet))?;
     put_fulfill(out, packet)
@@ -135,15 +119,7 @@ pub fn write_reject<A: Allocator>(
     packet: &Reject<'_>,
 ) -> Result<(), AllocError>
     requires { IsReject (plain_reject packet.now) }
-    ensures ok { OnOk result
-        (Appends out.old.octets (reject (plain_reject packet.now)) out.new.octets) }
-
-    // Enough room is used up octet by octet; a refusal leaves all as it was.
-    ensures enough { size (reject (plain_reject packet.now)) ≤ out.old.spare → IsOk result }
-    ensures used { size (reject (plain_reject packet.now)) ≤ out.old.spare
-        → out.new.spare + size (reject (plain_reject packet.now)) ≡ out.old.spare }
-    ensures refused { OnErr result (out.old.spare < size (reject (plain_reject packet.now))) }
-    ensures err { OnErr result (out.new ≡ out.old) }
+    ensures { Writes (reject (plain_reject packet.now)) out.old out.new result }
 {
     begin(out, REJECT, reject_len(packet))?;
     put_reject(out, packet)
