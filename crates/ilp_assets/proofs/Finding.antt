@@ -53,14 +53,14 @@ added_either test i x xs new false none later =
     let e : i + 1 + length xs ≡ i + suc (length xs) = omega arith in
     later none ∙ ap Some e
 
--- where no place passes, one that is added and passes is the first
+-- where no element passes, one that is added and passes is the first
 pub position_from-added : {X : Type 0} (test : X → Bool) (i : ℕ) (xs : List X) (new : X) → position_from test i xs ≡ None → test new ≡ true → position_from test i (xs ++ new ∷ []) ≡ Some (i + length xs)
 position_from-added test i [] new none passes =
     let e : i ≡ i + 0 = omega arith in
     rw passes (ap Some e)
 position_from-added test i (x ∷ xs) new none passes = added_either test i x xs new (test x) none (λ h. position_from-added test (i + 1) xs new h passes)
 
--- one that is added and does not pass changes nothing
+-- an element that is added and does not pass changes no first place
 pub position_from-kept : {X : Type 0} (test : X → Bool) (i : ℕ) (xs : List X) (new : X) → test new ≡ false → position_from test i (xs ++ new ∷ []) ≡ position_from test i xs
 position_from-kept test i [] new fails = rw fails refl
 position_from-kept test i (x ∷ xs) new fails = ap (λ r. cond (test x) (Some i) r) (position_from-kept test (i + 1) xs new fails)

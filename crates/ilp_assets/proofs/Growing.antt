@@ -11,7 +11,7 @@ use Rattle.ilp_assets.specs.declared.table.Placed.{Placed}
 use Rattle.ilp_assets.specs.Assets.{PlainAsset, PlainPrice, PlainTable, asset_at, is_price_of}
 use Rattle.ilp_assets.specs.Faults.{fault_of, fault_of_assets, fault_of_prices, price_fault}
 use Rattle.ilp_assets.specs.Table.{IsIndexed, IsNext, place_of_price, plain_listed, plain_placed, plain_table}
-use Rattle.ilp_assets.proofs.Checking.{first_of-rest, first_of-lone, first_along-snoc}
+use Rattle.ilp_order.proofs.CheckLemmas.{first_of-rest, first_of-lone, first_along-snoc}
 use Rattle.ilp_assets.proofs.Sameness.{is_price_of-Decides}
 use Rattle.ilp_assets.proofs.Finding.{position_from-added, position_from-kept}
 use Rattle.ilp_assets.proofs.Places.{one_place, same_pair}
@@ -66,7 +66,7 @@ module _ (T : PlainTable) (index : List (Option ℕ)) (known : IsIndexed T index
   pair-within : pair < length index
   pair-within = slice_get_within index pair (place_of_price T price.from price.to) (known.places price.from price.to next.from next.to)
 
-  -- another pair keeps its place
+  -- the price of any other pair keeps its place
   other_pair : (x y : ℕ) → x < length T.assets → y < length T.assets → x * length T.assets + y ≢ pair → place_of_price (grown T price) x y ≡ place_of_price T x y
   other_pair x y from to other =
       let test : PlainPrice → Bool = is_price_of (asset_at T.assets x) (asset_at T.assets y) in
@@ -102,14 +102,14 @@ module _ (T : PlainTable) (index : List (Option ℕ)) (known : IsIndexed T index
   new-within : (k : ℕ) → k < length index → k < length new
   new-within k h = omega (arith, length-set index pair (Some (length T.prices)))
 
-  -- the index tells the new price's place
+  -- the index with the new price tells that price's place
   here : (x y : ℕ) → x < length T.assets → y < length T.assets → x * length T.assets + y ≡ pair → places_of x y
   here x y from to same =
       let at_pair : slice_get new pair ≡ Some (Some (length T.prices)) = slice_get-get_or new pair None (new-within pair pair-within) ∙ ap Some (get_or-set_same index pair (Some (length T.prices)) None pair-within) in
       let ends = same_pair (length T.assets) x y price.from price.to to next.to same in
       ap (slice_get new) same ∙ at_pair ∙ ap Some (sym this_pair ∙ ap (λ n. place_of_price (grown T price) n price.to) (sym ends.0) ∙ ap (λ n. place_of_price (grown T price) x n) (sym ends.1))
 
-  -- and each other pair's place as before
+  -- the index with the new price tells the place of each other pair's price as before
   there : (x y : ℕ) → x < length T.assets → y < length T.assets → x * length T.assets + y ≢ pair → places_of x y
   there x y from to other =
       let k : ℕ = x * length T.assets + y in
@@ -136,7 +136,7 @@ module _ (T : PlainTable) (index : List (Option ℕ)) (known : IsIndexed T index
     places = grown_places;
   }
 
--- so it is where the price is appended to those in memory
+-- a table in memory to which a price is appended stays indexed
 pub appended_indexed : {Y : Type 0} (assets : List (Listed Y)) (prices : List Placed) (index : List (Option ℕ)) → IsIndexed (plain_table assets prices) index → (seen : PlainTable) → plain_table assets prices ≡ seen → (price : Placed) → IsNext seen price → (count place : ℕ) → count ≡ length (map plain_listed assets) → place ≡ length prices → (after : List Placed) → after ≡ prices ++ price ∷ [] → IsIndexed (plain_table assets after) (slice_set index (price.from * count + price.to) (Some place))
 appended_indexed assets prices index known seen view price next count place counted last after appended =
     let T : PlainTable = plain_table assets prices in
@@ -152,7 +152,7 @@ pub same_table : {Y : Type 0} (assets assets' : List (Listed Y)) (prices prices'
 same_table assets assets' prices prices' listed placed =
     ap (λ ps. plain_table assets' ps) placed ∙ ap (λ (xs : List PlainAsset). record { assets = xs; prices = map (plain_placed xs) prices }) listed
 
--- and what indexes the one indexes the other
+-- what indexes a table indexes its copy
 pub copied_indexed : (T copy : PlainTable) (index after : List (Option ℕ)) → copy ≡ T → after ≡ index → IsIndexed T index → IsIndexed copy after
 copied_indexed T copy index after same indexes known =
     subst (λ (t : PlainTable). IsIndexed t after) (sym same) (subst (λ (xs : List (Option ℕ)). IsIndexed T xs) (sym indexes) known)

@@ -1,6 +1,5 @@
 pub mod Fractions
 pub mod Sameness
-pub mod Checking
 pub mod Finding
 pub mod Rates
 pub mod Places

@@ -9,7 +9,7 @@ use Rattle.std.proofs.lemmas.Nat.{div-mul-add}
 use Rattle.ilp_assets.specs.declared.fault.AssetFault.TheVariants.{DoubleAsset}
 use Rattle.ilp_assets.specs.Assets.{PlainAsset, is_asset, asset_at, no_asset, place_of}
 use Rattle.ilp_assets.specs.Faults.{is_among, asset_fault, fault_of_assets}
-use Rattle.ilp_assets.proofs.Checking.{when-None, first_along-at}
+use Rattle.ilp_order.proofs.CheckLemmas.{when-None, first_along-at}
 use Rattle.ilp_assets.proofs.Sameness.{is_asset-Decides}
 use Rattle.ilp_assets.proofs.Finding.{position_from-Some, position_from-any}
 
@@ -58,7 +58,7 @@ place_of-at assets a k found =
 pub place_of-among : (assets : List PlainAsset) (a : PlainAsset) → is_some (place_of assets a) ≡ is_among assets a
 place_of-among assets a = position_from-any (is_asset a) 0 assets
 
--- so a place that was looked for has the asset
+-- a place that was found for an asset has it
 pub if_placed : (assets : List PlainAsset) (a : PlainAsset) (r : Option ℕ) → r ≡ place_of assets a → IfSome r (λ k. asset_at assets k ≡ a)
 if_placed assets a None e = tt
 if_placed assets a (Some k) e = place_of-at assets a k (sym e)

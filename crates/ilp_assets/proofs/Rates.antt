@@ -8,10 +8,10 @@ use Rattle.std.proofs.lemmas.Option.{get_or_from_slice_get}
 use Rattle.ilp_assets.specs.declared.listed.Listed.{Listed}
 use Rattle.ilp_assets.specs.declared.table.Placed.{Placed}
 use Rattle.ilp_assets.specs.Assets.{PlainAsset, PlainPrice, PlainTable, is_asset, is_price_of, asset_at}
-use Rattle.ilp_assets.specs.Faults.{is_among, fault_of, fault_of_assets, fault_of_prices, price_fault}
+use Rattle.ilp_assets.specs.Faults.{most_scale_gap, is_among, fault_of, fault_of_assets, fault_of_prices, price_fault}
 use Rattle.ilp_assets.specs.Quote.{price_of, scale_of}
 use Rattle.ilp_assets.specs.Table.{IsIndexed, IsPrice, place_of_price, plain_listed, plain_placed, plain_table}
-use Rattle.ilp_assets.proofs.Checking.{first_of-None, when-None, first_along-at}
+use Rattle.ilp_order.proofs.CheckLemmas.{first_of-None, when-None, first_along-at}
 use Rattle.ilp_assets.proofs.Sameness.{is_price_of-Decides}
 use Rattle.ilp_assets.proofs.Finding.{position_from-Some, position_from-None, seen_at, seen_within}
 
@@ -22,7 +22,7 @@ pub record IsSound (assets : List PlainAsset) (before : List PlainPrice) (price 
   pub whole : ((price.p == 0) || (price.q == 0)) ≡ false
   pub two : is_asset price.from price.to ≡ false
   pub fresh : list_any (is_price_of price.from price.to) before ≡ false
-  pub near : nat_lt 9 (abs_diff price.from.scale price.to.scale) ≡ false
+  pub near : nat_lt most_scale_gap (abs_diff price.from.scale price.to.scale) ≡ false
 
 -- each check of such a price has passed
 pub price_fault-None : (assets : List PlainAsset) (before : List PlainPrice) (price : PlainPrice) → price_fault assets before price ≡ None → IsSound assets before price
@@ -50,7 +50,7 @@ pub record IsPricedAt (T : PlainTable) (x y k : ℕ) : Type 0 where
   pub priced : price_of T x y ≡ Some price
   pub at : slice_get T.prices k ≡ Some price
   pub whole : 0 < price.q
-  pub near : abs_diff (scale_of T x) (scale_of T y) ≤ 9
+  pub near : abs_diff (scale_of T x) (scale_of T y) ≤ most_scale_gap
 
 -- two equal numbers pass the test
 is_same : (x y : ℕ) → x ≡ y → (x == y) ≡ true
@@ -65,7 +65,7 @@ not_zero : (p q : ℕ) → ((p == 0) || (q == 0)) ≡ false → 0 < q
 not_zero p q h = grind (arith, nat_tests)
 
 -- scales that are not too far apart
-is_near : (s t : ℕ) → nat_lt 9 (abs_diff s t) ≡ false → abs_diff s t ≤ 9
+is_near : (s t : ℕ) → nat_lt most_scale_gap (abs_diff s t) ≡ false → abs_diff s t ≤ most_scale_gap
 is_near s t h = grind (arith, nat_tests)
 
 -- the place that is known has the price

@@ -10,16 +10,16 @@ use Rattle.ilp_assets.specs.declared.asset.Price.{Price}
 use Rattle.ilp_assets.specs.declared.table.Placed.{Placed}
 use Rattle.ilp_order.specs.Checks.{first_of, when, first_along}
 use Rattle.ilp_assets.specs.Assets.{PlainAsset, PlainPrice, PlainTable, is_price_of, asset_at, plain_price}
-use Rattle.ilp_assets.specs.Faults.{price_fault}
+use Rattle.ilp_assets.specs.Faults.{most_scale_gap, price_fault}
 use Rattle.ilp_assets.specs.Table.{IsNamed, IsNext, place_of_price}
-use Rattle.ilp_assets.proofs.Checking.{first_along-turn}
+use Rattle.ilp_order.proofs.CheckLemmas.{first_along-turn}
 use Rattle.ilp_assets.proofs.Finding.{position_from-any}
 
--- the checks that are left then
+-- the checks that are left of a price of two known assets without a 0
 abbrev pub rest : PlainTable → PlainPrice → Option AssetFault
 rest T price = first_of (
     when (list_any (is_price_of price.from price.to) T.prices) DoublePrice
-    ∷ when (nat_lt 9 (abs_diff price.from.scale price.to.scale)) ScaleGap
+    ∷ when (nat_lt most_scale_gap (abs_diff price.from.scale price.to.scale)) ScaleGap
     ∷ [])
 
 is_some-false : {X : Type 0} (o : Option X) → is_some o ≡ false → o ≡ None
@@ -27,7 +27,7 @@ is_some-false None h = refl
 is_some-false (Some x) h = cc
 
 module _ (T : PlainTable) (price : PlainPrice) (placed : Placed) (named : IsNamed T price placed) where
-  -- they decide
+  -- where the first checks pass, those that are left decide
   pub left_over : price_fault T.assets T.prices price ≡ rest T price
   unfolding price_fault
   left_over = rw (named.from_known, named.to_known, named.whole, named.two) refl
@@ -45,22 +45,22 @@ module _ (T : PlainTable) (price : PlainPrice) (placed : Placed) (named : IsName
       let found : list_any (is_price_of price.from price.to) T.prices ≡ true = sym taken ∙ h in
       left_over ∙ rw found refl
 
-  -- one that has none and whose scales are too far apart is refused for that
-  pub far_pair : is_some (place_of_price T placed.from placed.to) ≡ false → 9 < abs_diff price.from.scale price.to.scale → price_fault T.assets T.prices price ≡ Some ScaleGap
+  -- a pair that has no price, and whose scales are too far apart, is refused for that
+  pub far_pair : is_some (place_of_price T placed.from placed.to) ≡ false → most_scale_gap < abs_diff price.from.scale price.to.scale → price_fault T.assets T.prices price ≡ Some ScaleGap
   far_pair h far =
       let found : list_any (is_price_of price.from price.to) T.prices ≡ false = sym taken ∙ h in
-      let gap : nat_lt 9 (abs_diff price.from.scale price.to.scale) ≡ true = grind (arith, nat_tests) in
+      let gap : nat_lt most_scale_gap (abs_diff price.from.scale price.to.scale) ≡ true = grind (arith, nat_tests) in
       left_over ∙ rw (found, gap) refl
 
-  -- any other has no fault
-  pub sound_pair : is_some (place_of_price T placed.from placed.to) ≡ false → abs_diff price.from.scale price.to.scale ≤ 9 → price_fault T.assets T.prices price ≡ None
+  -- a pair that has no price, and whose scales are near, has no fault
+  pub sound_pair : is_some (place_of_price T placed.from placed.to) ≡ false → abs_diff price.from.scale price.to.scale ≤ most_scale_gap → price_fault T.assets T.prices price ≡ None
   sound_pair h near =
       let found : list_any (is_price_of price.from price.to) T.prices ≡ false = sym taken ∙ h in
-      let gap : nat_lt 9 (abs_diff price.from.scale price.to.scale) ≡ false = grind (arith, nat_tests) in
+      let gap : nat_lt most_scale_gap (abs_diff price.from.scale price.to.scale) ≡ false = grind (arith, nat_tests) in
       left_over ∙ rw (found, gap) refl
 
-  -- so it can be the next
-  pub next_pair : is_some (place_of_price T placed.from placed.to) ≡ false → abs_diff price.from.scale price.to.scale ≤ 9 → IsNext T placed
+  -- a price of such a pair can be the next of the table
+  pub next_pair : is_some (place_of_price T placed.from placed.to) ≡ false → abs_diff price.from.scale price.to.scale ≤ most_scale_gap → IsNext T placed
   next_pair h near = record {
     from = named.from;
     to = named.to;

@@ -1,5 +1,5 @@
 -- The first fault of assets and their prices.
-use Rattle.std.specs.Prelude.{Bool, not, ◌||◌, ◌==◌, nat_lt, List, [], ◌∷◌, Option}
+use Rattle.std.specs.Prelude.{ℕ, Bool, not, ◌||◌, ◌==◌, nat_lt, List, [], ◌∷◌, Option}
 use Rattle.std.specs.Int.{abs_diff}
 use Rattle.std.specs.List.{list_any}
 use Rattle.ilp_order.specs.Checks.{first_of, when, first_along}
@@ -10,6 +10,10 @@ use Rattle.ilp_assets.specs.Assets.{PlainAsset, PlainPrice, is_asset, is_price_o
 -- whether an asset is among these
 abbrev pub is_among : List PlainAsset → PlainAsset → Bool
 is_among assets a = list_any (is_asset a) assets
+
+-- by how much the scales of a price's assets may differ at most
+abbrev pub most_scale_gap : ℕ
+most_scale_gap = 9
 
 -- an asset is given once
 abbrev pub asset_fault : List PlainAsset → PlainAsset → Option AssetFault
@@ -23,7 +27,7 @@ price_fault assets before price = first_of (
     ∷ when ((price.p == 0) || (price.q == 0)) ZeroPrice
     ∷ when (is_asset price.from price.to) DoublePrice
     ∷ when (list_any (is_price_of price.from price.to) before) DoublePrice
-    ∷ when (nat_lt 9 (abs_diff price.from.scale price.to.scale)) ScaleGap
+    ∷ when (nat_lt most_scale_gap (abs_diff price.from.scale price.to.scale)) ScaleGap
     ∷ [])
 
 -- the first fault of the assets alone

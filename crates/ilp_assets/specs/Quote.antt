@@ -10,10 +10,11 @@ use Rattle.ilp_assets.specs.Assets.{PlainPrice, PlainTable, asset_at, is_price_o
 abbrev pub most : ℕ
 most = 18446744073709551615
 
--- the greatest whole number at or below n / d, and the least at or above it
+-- the greatest whole number at or below n / d
 abbrev pub floor : ℕ → ℕ → ℕ
 floor n d = n / d
 
+-- the least whole number at or above n / d
 abbrev pub ceiling : ℕ → ℕ → ℕ
 ceiling n d = (n + (d - 1)) / d
 
@@ -28,9 +29,13 @@ price_of T x y =
 abbrev pub scale_of : PlainTable → ℕ → ℕ
 scale_of T x = (asset_at T.assets x).scale
 
--- so many millionths of an amount, rounded up
+-- a fee is told in millionths of an amount
+abbrev pub million : ℕ
+million = 1000000
+
+-- the fee of an amount at so many millionths, rounded up
 abbrev pub fee_of : ℕ → ℕ → ℕ
-fee_of ppm amount = ceiling (amount * ppm) 1000000
+fee_of ppm amount = ceiling (amount * ppm) million
 
 -- an amount at scale s, at a price of p / q, as an amount at scale t, rounded down
 abbrev pub converted : ℕ → ℕ → ℕ → ℕ → ℕ → ℕ

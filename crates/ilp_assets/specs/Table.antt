@@ -5,7 +5,7 @@ use Rattle.std.specs.Int.{abs_diff}
 use Rattle.ilp_assets.specs.declared.listed.Listed.{Listed}
 use Rattle.ilp_assets.specs.declared.table.Placed.{Placed}
 use Rattle.ilp_assets.specs.Assets.{PlainAsset, PlainPrice, PlainTable, asset_at, is_asset, is_price_of}
-use Rattle.ilp_assets.specs.Faults.{is_among, fault_of, price_fault}
+use Rattle.ilp_assets.specs.Faults.{most_scale_gap, is_among, fault_of, price_fault}
 use Rattle.ilp_assets.specs.Quote.{price_of, scale_of}
 
 abbrev pub plain_listed : {Y : Type 0} → Listed Y → PlainAsset
@@ -39,7 +39,7 @@ pub record IsPrice (T : PlainTable) (x y p q : ℕ) : Type 0 where
   pub numerator : p ≡ price.p
   pub denominator : q ≡ price.q
   pub whole : 0 < q
-  pub near : abs_diff (scale_of T x) (scale_of T y) ≤ 9
+  pub near : abs_diff (scale_of T x) (scale_of T y) ≤ most_scale_gap
 
 -- a price of two different assets of a table, by their places, without a 0
 pub record IsNamed (T : PlainTable) (price : PlainPrice) (placed : Placed) : Type 0 where

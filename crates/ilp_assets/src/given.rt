@@ -6,7 +6,7 @@ ghost use Rattle.ilp_assets.specs.Faults.{is_among, fault_of_assets};
 use crate::asset::Asset;
 use crate::fault::AssetFault;
 
-// The first fault of assets alone.
+/// The first fault of assets alone.
 pub(crate) fn fault_of_assets(assets: &[Asset<'_>]) -> Option<AssetFault>
     ensures { result ≡ fault_of_assets (map plain_asset assets.now) }
 {

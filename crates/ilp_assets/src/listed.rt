@@ -6,7 +6,7 @@ ghost use Rattle.ilp_assets.specs.Table.{plain_listed};
 use crate::asset::Asset;
 use std::alloc::{AllocError, Allocator};
 
-// An asset of a table.
+/// An asset of a table.
 #[derive(Drop)]
 pub(crate) struct Listed<A: Allocator> {
     code: String<A>,
@@ -33,7 +33,7 @@ impl<A: Allocator> Listed<A> {
     }
 }
 
-// The place of an asset in a list.
+/// The place of an asset in a list.
 pub(crate) fn place_of<A: Allocator>(assets: &[Listed<A>], wanted: Asset<'_>) -> Option<usize>
     ensures place { result ≡ place_of (map plain_listed assets.now) (plain_asset wanted.entry) }
     ensures within { IfSome result (λ place. place < length assets.now) }
@@ -46,7 +46,7 @@ pub(crate) fn place_of<A: Allocator>(assets: &[Listed<A>], wanted: Asset<'_>) ->
     None
 }
 
-// Copies of assets, each with its code.
+/// Copies of assets, each with its code.
 pub(crate) fn copies_of<A: Allocator + Copy>(
     alloc: A,
     assets: &[Asset<'_>],
@@ -60,7 +60,7 @@ pub(crate) fn copies_of<A: Allocator + Copy>(
     Ok(copies)
 }
 
-// The same assets once more.
+/// A list of equal assets, in memory of its own.
 pub(crate) fn clones_of<A: Allocator + Copy>(
     alloc: A,
     assets: &[Listed<A>],

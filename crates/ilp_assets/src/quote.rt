@@ -1,10 +1,14 @@
 //! What an amount becomes on its way from one asset to another.
 ghost use Rattle.std.specs.Prelude.{◌≡◌, ◌<◌, ◌≤◌};
 ghost use Rattle.std.specs.Int.{abs_diff};
-ghost use Rattle.ilp_assets.specs.Quote.{fee_of, converted};
+ghost use Rattle.ilp_assets.specs.Faults.{most_scale_gap};
+ghost use Rattle.ilp_assets.specs.Quote.{million, fee_of, converted};
 
 use std::error::Error;
 use std::fmt;
+
+// A fee is told in millionths.
+const MILLION: u128 = 1_000_000;
 
 /// What an amount becomes.
 #[derive(Clone, Copy, Debug, PartialEq, Eq)]
@@ -40,16 +44,16 @@ impl fmt::Display for QuoteFault {
 
 impl Error for QuoteFault {}
 
-// The fee of an amount: so many millionths of it, rounded up.
+/// The fee of an amount: so many millionths of it, rounded up.
 pub(crate) fn fee_of(ppm: u32, amount: u64) -> u64
-    requires { ppm ≤ 1000000 }
+    requires { ppm ≤ million }
     ensures value { result ≡ fee_of ppm amount }
     ensures within { result ≤ amount }
 {
-    ((u128::from(amount) * u128::from(ppm) + 999_999) / 1_000_000) as u64
+    ((u128::from(amount) * u128::from(ppm) + (MILLION - 1)) / MILLION) as u64
 }
 
-// A price, and the scales of its two assets.
+/// A price, and the scales of its two assets.
 #[derive(Clone, Copy)]
 pub(crate) struct Rate {
     pub(crate) p: u32,
@@ -58,11 +62,11 @@ pub(crate) struct Rate {
     pub(crate) to_scale: u8,
 }
 
-// What so many units of the one asset come to in the other, rounded down. The power of ten that
-// both scales have in common is left out, so the numbers stay below 2^126.
+/// What so many units of the one asset come to in the other, rounded down. The power of ten that
+/// both scales have in common is left out, so the numbers stay below 2^126.
 pub(crate) fn converted(rate: Rate, net: u64) -> u128
     requires whole { 0 < rate.q }
-    requires near { abs_diff rate.from_scale rate.to_scale ≤ 9 }
+    requires near { abs_diff rate.from_scale rate.to_scale ≤ most_scale_gap }
     ensures { result ≡ converted rate.p rate.q rate.from_scale rate.to_scale net }
 {
     let priced = u128::from(net) * u128::from(rate.p);

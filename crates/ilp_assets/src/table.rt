@@ -3,7 +3,7 @@ ghost use Rattle.std.specs.Prelude.{◌≡◌, ◌≢◌, ℕ, ◌+◌, ◌*◌,
 ghost use Rattle.std.specs.List.{position_from};
 ghost use Rattle.ilp_assets.specs.Assets.{plain_asset, plain_price, asset_at, place_of};
 ghost use Rattle.ilp_assets.specs.Faults.{is_among, fault_of, fault_of_assets, price_fault};
-ghost use Rattle.ilp_assets.specs.Quote.{price_of, scale_of, quote};
+ghost use Rattle.ilp_assets.specs.Quote.{million, price_of, scale_of, quote};
 ghost use Rattle.ilp_assets.specs.Table.{plain_listed, plain_placed, place_of_price, IsPrice, IsNamed, IsNext};
 
 use crate::asset::{Asset, Price};
@@ -13,6 +13,9 @@ use crate::listed::{Listed, clones_of, copies_of, place_of};
 use crate::quote::{Quote, QuoteFault, Rate, converted, fee_of};
 use std::alloc::{AllocError, Allocator, Global};
 use std::marker::Model;
+
+// By how much the scales of a price's assets may differ at most.
+const MAX_SCALE_GAP: u8 = 9;
 
 // A price of a table, whose assets are told by their places.
 #[derive(Clone, Copy)]
@@ -144,7 +147,7 @@ impl<A: Allocator + Copy> AssetTable<A> {
         if self.place_of_price(named.from, named.to).is_some() {
             return Err(AssetFault::DoublePrice);
         }
-        if price.from.scale.abs_diff(price.to.scale) > 9 {
+        if price.from.scale.abs_diff(price.to.scale) > MAX_SCALE_GAP {
             return Err(AssetFault::ScaleGap);
         }
         Ok(named)
@@ -223,7 +226,7 @@ impl<A: Allocator> AssetTable<A> {
     pub fn quote(&self, from: u32, to: u32, ppm: u32, amount: u64) -> Result<Quote, QuoteFault>
         requires from { from < length self.now.assets }
         requires to { to < length self.now.assets }
-        requires ppm { ppm ≤ 1000000 }
+        requires ppm { ppm ≤ million }
         ensures { result ≡ quote self.now from to ppm amount }
     {
         let Some(rate) = self.rate(from, to) else {

@@ -1,7 +1,7 @@
 -- The checks of fields, and what a reader answers.
-use Rattle.std.specs.Prelude.{◌≡◌, ◌≢◌, Bool, if◌then◌else◌, List, [], ◌∷◌, ◌++◌, Option, Some, None, Result, Ok, Err}
+use Rattle.std.specs.Prelude.{◌≡◌, ◌≢◌, Bool, if◌then◌else◌, Option, Some, None, Result, Ok, Err}
 use Rattle.toml.specs.Data.{Data, Members}
-use Rattle.ilp_order.specs.Checks.{first_of}
+pub use Rattle.ilp_order.specs.Checks.{first_beside}
 use Rattle.ilp_fields.specs.declared.fault.Field.{Field}
 use Rattle.ilp_fields.specs.declared.fault.ConfigFault.{ConfigFault}
 use Rattle.ilp_fields.specs.declared.fault.ConfigFault.TheVariants.{Memory, Missing, BadValue}
@@ -24,11 +24,6 @@ required fits field t = required_in fits field (at field t)
 
 abbrev pub optional : (Data → Bool) → Field → Members → Option ConfigFault
 optional fits field t = optional_in fits field (at field t)
-
--- The first fault of some tables, where each is looked at beside what those before it gave.
-abbrev pub first_beside : {R : Type 0} → (List R → Members → Option ConfigFault) → (Members → R) → List R → List Members → Option ConfigFault
-first_beside fault give before [] = None
-first_beside fault give before (t ∷ ts) = first_of (fault before t ∷ first_beside fault give (before ++ give t ∷ []) ts ∷ [])
 
 -- What the reader of a field answers: the value where there is no fault, else the fault.
 abbrev pub Gives : {X V : Type 0} → (X → V) → Result X ConfigFault → Option ConfigFault → V → Type 0

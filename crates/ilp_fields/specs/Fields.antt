@@ -76,7 +76,7 @@ natural_in field t = option_and_then natural (at field t)
 abbrev pub asset_in : Field → Members → Option PlainAsset
 asset_in field t = option_and_then asset (at field t)
 
--- the same of a field that is there
+-- what a field holds that is there, and is of the type
 abbrev pub text_of : Field → Members → List ℕ
 text_of field t = unwrap_or (text_in field t) []
 
@@ -93,6 +93,6 @@ asset_of field t = unwrap_or (asset_in field t) no_asset
 abbrev pub elements_of : Field → Members → List Data
 elements_of field t = elements_in (option_and_then as_array (at field t))
 
--- those that are tables
+-- those of some values that are tables
 abbrev pub tables : List Data → List Members
 tables values = filter_map as_table values

@@ -1,10 +1,9 @@
 //! The forms that the texts of a configuration have.
 ghost use Rattle.std.specs.Prelude.{◌≡◌, ◌≤◌, ◌&&◌, ◌==◌, length, slice_index, codes, bytes_eq};
 ghost use Rattle.std.specs.List.{list_all};
-ghost use Rattle.ilp_packet.specs.Address.{is_scheme};
 ghost use Rattle.ilp_fields.specs.Forms.{admits, is_within, is_code_octet, is_name_octet, is_run_octet, is_visible_octet, is_prefix, scheme_of};
 
-use ilp_packet::is_address;
+use ilp_packet::{is_address, is_scheme};
 
 /// A form of text.
 #[derive(Clone, Copy, Debug, PartialEq, Eq)]
@@ -128,23 +127,4 @@ fn scheme_of(text: &str) -> &str
         None => text,
         Some((scheme, _)) => scheme,
     }
-}
-
-// Whether octets are one of the schemes of addresses.
-#[tactic(auto, unfolding(ilp_packet::specs::Address::is_scheme))]
-fn is_scheme(octets: &[u8]) -> bool
-    ensures { result ≡ is_scheme octets.now }
-{
-    matches!(
-        octets,
-        b"g" | b"private"
-            | b"example"
-            | b"peer"
-            | b"self"
-            | b"test"
-            | b"test1"
-            | b"test2"
-            | b"test3"
-            | b"local"
-    )
 }

@@ -8,7 +8,7 @@ ghost use Rattle.ilp_fields.specs.Named.{asset_named, asset_from, scale_named, i
 use crate::form::Form;
 use ilp_assets::Asset;
 
-// The asset that a text names.
+/// The asset that a text names.
 pub(crate) fn asset_named(text: &str) -> Option<Asset<'_>>
     ensures { option_map plain_asset result ≡ asset_named text.now }
 {

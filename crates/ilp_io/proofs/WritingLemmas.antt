@@ -5,15 +5,15 @@ use Rattle.std.proofs.KnownBytes.{Appends-nil, Appends-trans}
 use Rattle.std.proofs.lemmas.List.{append-nil}
 use Rattle.ilp_io.specs.Writing.{AppendsPrefix, AppendsProperPrefix}
 
--- a proper prefix is a prefix
+-- a proper prefix of octets is a prefix of them
 pub AppendsPrefix-of_proper : (u v : Option (List ℕ)) (octets : List ℕ) → AppendsProperPrefix u v octets → AppendsPrefix u v octets
 AppendsPrefix-of_proper u v octets x = record { written = x.written; rest = x.rest; whole = x.whole; taken = x.taken }
 
--- all of it is a prefix
+-- all of some octets are a prefix of them
 pub AppendsPrefix-of_all : (u v : Option (List ℕ)) (octets : List ℕ) → Appends u v octets → AppendsPrefix u v octets
 AppendsPrefix-of_all u v octets wrote = record { written = octets; rest = []; whole = sym (append-nil octets); taken = wrote }
 
--- none of it is a prefix
+-- no octets are a prefix of any
 pub AppendsPrefix-none : (u : Option (List ℕ)) (octets : List ℕ) → AppendsPrefix u u octets
 AppendsPrefix-none u octets = record { written = []; rest = octets; whole = refl; taken = Appends-nil u }
 

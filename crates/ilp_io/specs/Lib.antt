@@ -1,3 +1,4 @@
 pub mod Counts
 pub mod Reading
+pub mod Pieces
 pub mod Writing

@@ -1,5 +1,5 @@
 //! A sink with little room.
-ghost use Rattle.std.specs.Prelude.{◌≡◌, ◌↔◌, ◌+◌, ◌<◌, [], Some, min, length, IsOk, IfOk};
+ghost use Rattle.std.specs.Prelude.{◌≡◌, ◌↔◌, ◌+◌, ◌<◌, ◌≤◌, [], Some, min, length, IsOk, IfOk, OnErr, vec_len, vec_capacity};
 ghost use Rattle.std.specs.Io.{WritesAtMost};
 ghost use Rattle.std.specs.Io.KnownBytes.{WriteAppends};
 ghost use Rattle.ilp_io.specs.Counts.{CountsUp, count_told, failure_count};
@@ -68,6 +68,13 @@ impl<A: Allocator> Sink for Narrow<A> {
         ensures takes { IfOk result (λ count. count ≡
             min (min (length octets.now) self.old.piece) self.old.room) }
         ensures room { IfOk result (λ count. self.new.room + count ≡ self.old.room) }
+        ensures room_kept { OnErr result (self.new.room ≡ self.old.room) }
+        ensures piece { self.new.piece ≡ self.old.piece }
+        ensures when_full { self.new.when_full ≡ self.old.when_full }
+
+        // Where there is room, it fails only where memory for the piece is refused.
+        ensures enough { 0 < self.old.room → vec_len self.old.recording.octets + length octets.now
+            ≤ vec_capacity self.old.recording.octets → IsOk result }
         ensures full { self.old.room ≡ 0
             → (IsOk result ↔ (self.old.when_full ≡ WhenFull.TakesNone)) }
     {

@@ -3,6 +3,7 @@ ghost use Rattle.std.specs.Prelude.{◌≡◌, ◌↔◌, ℕ, ◌<◌, Some, No
 ghost use Rattle.std.specs.Io.{ReadsAtMost};
 ghost use Rattle.std.specs.Io.KnownBytes.{ReadConsumes};
 ghost use Rattle.ilp_io.specs.Counts.{Tallies, tally_told};
+ghost use Rattle.ilp_io.specs.Pieces.{left_before_failure};
 
 use crate::source::Source;
 use std::io;
@@ -46,7 +47,8 @@ impl<'a> Pieces<'a> {
         }
     }
 
-    /// As `new`, and the read that would begin after `fails_after` octets fails.
+    /// Gives the octets in pieces of this size, at least 1, and fails once: at the read that would
+    /// begin after `fails_after` octets.
     pub fn failing(octets: &'a [u8], piece: usize, fails_after: usize) -> Self
         requires { 0 < piece }
         ensures rest { result.rest.now ≡ octets.now }
@@ -82,6 +84,9 @@ impl Source for Pieces<'_> {
             min (min (length room.old) self.old.piece)
             (min (length self.old.rest.now)
             (unwrap_or self.old.fails_after (length self.old.rest.now)))) }
+        ensures piece { self.new.piece ≡ self.old.piece }
+        ensures fails_after { self.new.fails_after
+            ≡ left_before_failure self.old.fails_after result }
     {
         self.reads = self.reads.saturating_add(1);
         if self.fails_after == Some(0) {

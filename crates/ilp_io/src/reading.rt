@@ -31,7 +31,7 @@ impl fmt::Display for ReadFault {
 
 impl Error for ReadFault {}
 
-/// The most octets that one read asks for.
+// The most octets that one read asks for.
 const PIECE: usize = 4096;
 
 /// Reads all that a source has, which is at most `limit` octets.

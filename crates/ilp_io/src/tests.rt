@@ -59,7 +59,7 @@ fn stops_where_a_read_fails(rt: HostRuntime) -> Result<(), Fail> {
     Ok(())
 }
 
-/// Fails with each read.
+// Fails with each read.
 #[derive(Drop)]
 struct Broken;
 

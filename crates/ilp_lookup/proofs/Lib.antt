@@ -3,4 +3,4 @@ mod Places
 mod Found
 mod Longest
 pub mod OneRoute
-pub mod RouteOf
+pub mod RoutedPeer

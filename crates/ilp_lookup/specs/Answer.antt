@@ -23,6 +23,6 @@ longest_of [] octets = None
 longest_of (route ∷ routes) octets =
     if matches route.prefix octets then Some (longer route (longest_of routes octets)) else longest_of routes octets
 
--- its peer, save that octets of the scheme `peer` have none
-unfoldable pub route_of : List Route → List ℕ → Option ℕ
-route_of routes octets = if begins octets (codes "peer.") then None else option_map (λ route. route.peer) (longest_of routes octets)
+-- the peer of the longest route that matches, save that octets of the scheme `peer` have none
+unfoldable pub routed_peer : List Route → List ℕ → Option ℕ
+routed_peer routes octets = if begins octets (codes "peer.") then None else option_map (λ route. route.peer) (longest_of routes octets)

@@ -2,7 +2,7 @@
 //! is the contract of a function that does nothing.
 ghost use Rattle.std.specs.Prelude.{◌≡◌, ℕ, List, Option, length};
 ghost use Rattle.ilp_lookup.specs.Route.{Route, AreDistinct, Matches, IsRoute};
-ghost use Rattle.ilp_lookup.specs.Answer.{route_of};
+ghost use Rattle.ilp_lookup.specs.Answer.{routed_peer};
 ghost use Rattle.ilp_lookup.specs.Texts.{IsPlaceOf};
 
 /// Two prefixes that match the same octets and are equally long are the same: the longest prefix
@@ -19,9 +19,9 @@ pub fn one_route()
         → IsRoute routes octets answer → IsRoute routes octets other → answer ≡ other }
 {}
 
-/// `route_of` names a route of the octets, or that there is none.
-pub fn route_of_is_a_route()
-    ensures { (routes : List Route) (octets : List ℕ) → IsRoute routes octets (route_of routes octets) }
+/// `routed_peer` names a route of the octets, or that there is none.
+pub fn routed_peer_has_a_route()
+    ensures { (routes : List Route) (octets : List ℕ) → IsRoute routes octets (routed_peer routes octets) }
 {}
 
 /// A text has one place among texts, or none.

@@ -8,7 +8,7 @@ mod routes;
 mod texts;
 
 pub use fault::LookupFault;
-pub use laws::{one_match_of_a_length, one_place, one_route, route_of_is_a_route};
+pub use laws::{one_match_of_a_length, one_place, one_route, routed_peer_has_a_route};
 pub use routes::RouteIndex;
 pub use texts::TextIndex;
 

@@ -6,6 +6,6 @@ abbrev pub AreOctets : List ℕ → Type 0
 AreOctets = All (λ octet. octet < 256)
 
 -- the octets, and how many more fit without memory
-pub record Held : Type 0 where
+pub record OctetsWithRoom : Type 0 where
   pub octets : List ℕ
   pub spare : ℕ

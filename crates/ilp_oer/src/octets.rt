@@ -1,6 +1,6 @@
 //! Octets in memory.
 ghost use Rattle.std.specs.Prelude.{◌≡◌, ◌+◌, ◌<◌, ◌≤◌, [], ◌++◌, length, IsOk, OnOk, OnErr, vec_len, vec_capacity};
-ghost use Rattle.ilp_oer.specs.Octets.{Held};
+ghost use Rattle.ilp_oer.specs.Octets.{OctetsWithRoom};
 
 use std::alloc::{AllocError, Allocator, Global};
 use std::marker::Model;
@@ -16,9 +16,9 @@ pub struct Octets<A: Allocator = Global> {
 }
 
 impl<A: Allocator> Model for Octets<A> {
-    ghost use Rattle.ilp_oer.specs.Octets.{Held};
+    ghost use Rattle.ilp_oer.specs.Octets.{OctetsWithRoom};
 
-    ghost Value = { Held };
+    ghost Value = { OctetsWithRoom };
 
     ghost view = { λ o. record { octets = o.row.items; spare = o.room } };
 }

@@ -65,7 +65,7 @@ pub fn write_octets<A: Allocator>(out: &mut Octets<A>, content: &[u8]) -> Result
     requires { length content.now ≤ MAX_CONTENT }
     ensures ok { OnOk result (out.new.octets ≡ out.old.octets ++ spelling content.now) }
 
-    // As `append` of the spelling.
+    // Enough room is used up octet by octet; a refusal leaves all as it was.
     ensures enough { length (spelling content.now) ≤ out.old.spare → IsOk result }
     ensures used { length (spelling content.now) ≤ out.old.spare
         → out.new.spare + length (spelling content.now) ≡ out.old.spare }
@@ -87,7 +87,7 @@ pub fn write_prefix<A: Allocator>(out: &mut Octets<A>, len: usize) -> Result<(),
     requires { len ≤ MAX_CONTENT }
     ensures ok { OnOk result (out.new.octets ≡ out.old.octets ++ prefix len) }
 
-    // As `append` of the prefix.
+    // Enough room is used up octet by octet; a refusal leaves all as it was.
     ensures enough { length (prefix len) ≤ out.old.spare → IsOk result }
     ensures used { length (prefix len) ≤ out.old.spare
         → out.new.spare + length (prefix len) ≡ out.old.spare }

@@ -9,7 +9,7 @@ use Rattle.std.proofs.lemmas.List.{take_at, drop_at}
 use Rattle.std.proofs.lemmas.List.Sums.{AllPass-from_list_all, split_at_first, passes_at_first}
 use Rattle.std.proofs.lemmas.Map.Views.{Contains-from_any}
 use Rattle.std.proofs.lemmas.Slice.Eq.{bytes_eq-Decides}
-use Rattle.ilp_packet.specs.Address.{schemes, is_scheme, is_dot, is_segment_octet, IsSegment, dotted, IsAddress, are_segments, is_address}
+use Rattle.ilp_packet.specs.Address.{schemes, most_address, is_scheme, is_dot, is_segment_octet, IsSegment, dotted, IsAddress, are_segments, is_address}
 
 -- a dot stands in no segment
 dot_apart : (octet : ℕ) → is_segment_octet octet ≡ true → is_dot octet ≡ false
@@ -78,12 +78,12 @@ are_segments-dotted (segment ∷ segments) each =
 
 -- ---- the scheme
 
-scheme_from_test : (text : List ℕ) → is_scheme text ≡ true → Contains schemes text
+pub scheme_from_test : (text : List ℕ) → is_scheme text ≡ true → Contains schemes text
 unfolding is_scheme
 scheme_from_test text h =
     Contains-from_any {eq = λ a b. bytes_eq b a} (λ x y same. sym ((bytes_eq-Decides y x).0 same)) text schemes h
 
-scheme_passes : (text : List ℕ) → Contains schemes text → is_scheme text ≡ true
+pub scheme_passes : (text : List ℕ) → Contains schemes text → is_scheme text ≡ true
 unfolding is_scheme
 scheme_passes text found =
     let each = AllPass-from_list_all is_scheme schemes refl in
@@ -106,10 +106,10 @@ position-dotted (octet ∷ text) more allowed =
 pub address_from_test : (octets : List ℕ) → is_address octets ≡ true → IsAddress octets
 unfolding is_address
 address_from_test octets h =
-    let len_and = and_parts (nat_le (length octets) 1023) _ h in
+    let len_and = and_parts (nat_le (length octets) most_address) _ h in
     let parts = and_parts (is_scheme (before_first is_dot octets)) _ len_and.1 in
     let after = goes_on false (after_first is_dot octets) parts.1 in
-    let short : length octets ≤ 1023 = let l = len_and.0 in grind (arith, nat_tests) in
+    let short : length octets ≤ most_address = let l = len_and.0 in grind (arith, nat_tests) in
     let long : 0 < length (after_first is_dot octets) = rw after.whole (omega (arith, after.filled refl, length-append after.rest (flat_map dotted after.segments))) in
     let in_octets : position_or_len is_dot octets < length octets = omega (arith, length-drop (position_or_len is_dot octets + 1) octets) in
     let dot : get_or octets (position_or_len is_dot octets) 0 ≡ 46 = eqb-true _ _ (passes_at_first is_dot octets 0 in_octets) in

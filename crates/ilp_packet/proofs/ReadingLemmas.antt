@@ -3,14 +3,15 @@ use Rattle.std.proofs.Common.{◌≡◌, ℕ, suc, Bool, true, false, cond, eqb,
 use Rattle.std.specs.Prelude.{IfOk, IsOkAnd}
 use Rattle.std.proofs.lemmas.Bool.{eqb-true}
 use Rattle.std.specs.Result.{result_err}
+use Rattle.ilp_order.specs.Refusals.{◌>>=◌}
+use Rattle.ilp_order.proofs.RefusalLemmas.{bound, ok_same}
 use Rattle.ilp_oer.specs.OctetString as oer
 use Rattle.ilp_packet.specs.declared.fault.PacketFault.{PacketFault}
 use Rattle.ilp_packet.specs.declared.packet.Packet.{Packet}
-use Rattle.ilp_packet.specs.Packet.{PlainPacket, prepare, fulfill, reject, plain, content, spelling, NamesExpiry, IsWithin, Spells}
-use Rattle.ilp_packet.specs.Reading.{◌>>=◌, Gives, AreOctets, prepare_in, fulfill_in, reject_in, content_at, as_packet, reading, fault_of}
-use Rattle.ilp_packet.proofs.TakingLemmas.{bind_ok, ok_is}
+use Rattle.ilp_packet.specs.Packet.{PlainPacket, prepare, fulfill, reject, plain, content, spelling, type_octet, NamesExpiry, IsWithin, Spells}
+use Rattle.ilp_packet.specs.Reading.{Gives, AreOctets, prepare_in, fulfill_in, reject_in, content_at, as_packet, reading, fault_of}
 use Rattle.ilp_packet.proofs.FieldLemmas.{content_takes, content_again}
-use Rattle.ilp_packet.proofs.ContentLemmas.{prepare_takes, prepare_again, fulfill_takes, fulfill_again, reject_takes, reject_again, content_fits}
+use Rattle.ilp_packet.proofs.ContentLemmas.{SpellsContent, prepare_takes, prepare_again, fulfill_takes, fulfill_again, reject_takes, reject_again, content_fits}
 
 -- ---- what is read is spelled so
 
@@ -24,52 +25,40 @@ record ReadBy {X : Type 0} (make : X → PlainPacket) (within : List ℕ → Res
 
 read_by : {X : Type 0} (make : X → PlainPacket) (within : List ℕ → Result X PacketFault) (octets : List ℕ) (packet : PlainPacket) → as_packet make (content_at octets >>= within) ≡ Ok packet → ReadBy make within octets packet
 read_by make within octets packet e =
-    let outer = bind_ok (content_at octets >>= within) (λ x. Ok (make x)) packet e in
-    let inner = bind_ok (content_at octets) within outer.0 outer.1 in
-    record { found = inner.0; value = outer.0; taken = inner.1; read = inner.2; made = ok_is _ _ outer.2 }
+    let outer = bound (content_at octets >>= within) (λ x. Ok (make x)) packet e in
+    let inner = bound (content_at octets) within outer.0 outer.1 in
+    record { found = inner.0; value = outer.0; taken = inner.1; read = inner.2; made = ok_same _ _ outer.2 }
 
-prepare_spelled : (octets : List ℕ) (packet : PlainPacket) → AreOctets octets → ReadBy prepare prepare_in octets packet → Spells (12 ∷ octets) packet
-prepare_spelled octets packet fits h =
+-- where what is read of a content spells it, the octets behind the type octet spell the packet
+spelled_from : {X : Type 0} (make : X → PlainPacket) (within : List ℕ → Result X PacketFault)
+    → ((found : List ℕ) (value : X) → AreOctets found → within found ≡ Ok value → SpellsContent found (make value))
+    → (octets : List ℕ) (packet : PlainPacket) → AreOctets octets → (h : ReadBy make within octets packet) → Spells (type_octet (make h.value) ∷ octets) packet
+spelled_from make within takes octets packet fits h =
     let taken = content_takes octets h.found fits h.taken in
-    let t = prepare_takes h.found h.value taken.1 h.read in
-    let spells : Spells (12 ∷ octets) (prepare h.value) =
-    record { within = t.within; expiry = t.expiry; names = (t.is_expiry, t.names); whole = ap (λ (xs : List ℕ). 12 ∷ xs) (taken.0 ∙ ap oer.spelling t.whole) } in
-    subst (Spells (12 ∷ octets)) h.made spells
-
-fulfill_spelled : (octets : List ℕ) (packet : PlainPacket) → AreOctets octets → ReadBy fulfill fulfill_in octets packet → Spells (13 ∷ octets) packet
-fulfill_spelled octets packet fits h =
-    let taken = content_takes octets h.found fits h.taken in
-    let t = fulfill_takes h.found h.value taken.1 h.read in
-    let spells : Spells (13 ∷ octets) (fulfill h.value) =
-    record { within = t.0; expiry = []; names = refl; whole = ap (λ (xs : List ℕ). 13 ∷ xs) (taken.0 ∙ ap oer.spelling t.1) } in
-    subst (Spells (13 ∷ octets)) h.made spells
-
-reject_spelled : (octets : List ℕ) (packet : PlainPacket) → AreOctets octets → ReadBy reject reject_in octets packet → Spells (14 ∷ octets) packet
-reject_spelled octets packet fits h =
-    let taken = content_takes octets h.found fits h.taken in
-    let t = reject_takes h.found h.value taken.1 h.read in
-    let spells : Spells (14 ∷ octets) (reject h.value) =
-    record { within = t.0; expiry = []; names = refl; whole = ap (λ (xs : List ℕ). 14 ∷ xs) (taken.0 ∙ ap oer.spelling t.1) } in
-    subst (Spells (14 ∷ octets)) h.made spells
+    let t = takes h.found h.value taken.1 h.read in
+    let number = type_octet (make h.value) in
+    let spells : Spells (number ∷ octets) (make h.value) =
+    record { within = t.within; expiry = t.expiry; names = t.names; whole = ap (λ (xs : List ℕ). number ∷ xs) (taken.0 ∙ ap oer.spelling t.whole) } in
+    subst (Spells (number ∷ octets)) h.made spells
 
 -- which way a test went
-chosen : {A : Type 0} (b : Bool) (x y z : A) → cond b x y ≡ z → ((b ≡ true) × (x ≡ z)) ⊎ ((b ≡ false) × (y ≡ z))
-chosen true x y z e = inl (refl, e)
-chosen false x y z e = inr (refl, e)
+either_way : {A : Type 0} (b : Bool) (x y z : A) → cond b x y ≡ z → ((b ≡ true) × (x ≡ z)) ⊎ ((b ≡ false) × (y ≡ z))
+either_way true x y z e = inl (refl, e)
+either_way false x y z e = inr (refl, e)
 
 pub reading_spelled : (octets : List ℕ) (packet : PlainPacket) → AreOctets octets → reading octets ≡ Ok packet → Spells octets packet
 unfolding reading
 reading_spelled [] packet fits e = absurd cc
 reading_spelled (number ∷ octets) packet fits e =
     let more : AreOctets octets = λ place d in_more. fits (suc place) d (omega arith) in
-    elim (chosen (eqb number 12) _ _ (Ok packet) e) [
-      | inl p ↦ rw (eqb-true number 12 p.0) (prepare_spelled octets packet more (read_by prepare prepare_in octets packet p.1))
+    elim (either_way (eqb number 12) _ _ (Ok packet) e) [
+      | inl p ↦ rw (eqb-true number 12 p.0) (spelled_from prepare prepare_in prepare_takes octets packet more (read_by prepare prepare_in octets packet p.1))
       | inr p ↦
-          elim (chosen (eqb number 13) _ _ (Ok packet) p.1) [
-            | inl q ↦ rw (eqb-true number 13 q.0) (fulfill_spelled octets packet more (read_by fulfill fulfill_in octets packet q.1))
+          elim (either_way (eqb number 13) _ _ (Ok packet) p.1) [
+            | inl q ↦ rw (eqb-true number 13 q.0) (spelled_from fulfill fulfill_in fulfill_takes octets packet more (read_by fulfill fulfill_in octets packet q.1))
             | inr q ↦
-                elim (chosen (eqb number 14) _ _ (Ok packet) q.1) [
-                  | inl r ↦ rw (eqb-true number 14 r.0) (reject_spelled octets packet more (read_by reject reject_in octets packet r.1))
+                elim (either_way (eqb number 14) _ _ (Ok packet) q.1) [
+                  | inl r ↦ rw (eqb-true number 14 r.0) (spelled_from reject reject_in reject_takes octets packet more (read_by reject reject_in octets packet r.1))
                   | inr r ↦ let never = r.1 in absurd cc
                 ]
           ]
@@ -110,7 +99,7 @@ spelled_without_fault octets fits none =
 -- octets stand for at most one packet
 pub one_packet : (octets : List ℕ) (packet other : PlainPacket) → Spells octets packet → Spells octets other → packet ≡ other
 one_packet octets packet other a b =
-    ok_is packet other (sym (reading_again octets packet a) ∙ reading_again octets other b)
+    ok_same packet other (sym (reading_again octets packet a) ∙ reading_again octets other b)
 
 -- ---- what a reader returned
 
@@ -119,5 +108,5 @@ read_spells octets (Ok packet) fits given = reading_spelled octets (plain packet
 read_spells octets (Err fault) fits given = tt
 
 pub spelled_is_read : (octets : List ℕ) (r : Result Packet PacketFault) (packet : PlainPacket) → Gives plain r (reading octets) → Spells octets packet → IsOkAnd r (λ found. plain found ≡ packet)
-spelled_is_read octets (Ok found) packet given h = ok_is (plain found) packet (sym given ∙ reading_again octets packet h)
+spelled_is_read octets (Ok found) packet given h = ok_same (plain found) packet (sym given ∙ reading_again octets packet h)
 spelled_is_read octets (Err fault) packet given h = let same = sym given ∙ reading_again octets packet h in absurd (cc same)

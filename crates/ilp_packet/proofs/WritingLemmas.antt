@@ -1,56 +1,19 @@
 -- What is written behind other octets is a packet's spelling, and has its size.
-use Rattle.std.proofs.Common.{drop, Ok, sym, subst, ◌≡◌, ℕ, ◌+◌, List, [], ◌∷◌, ◌++◌, length, replicate, refl, ap, ◌∙◌, append_assoc, length-append, arith}
+use Rattle.std.proofs.Common.{drop, Ok, sym, subst, ◌≡◌, ℕ, ◌+◌, List, ◌∷◌, ◌++◌, length, refl, ap, ◌∙◌, append_assoc, length-append, arith}
 use Rattle.std.proofs.lemmas.List.{drop_at, append_cancel_left}
 use Rattle.ilp_oer.specs.OctetString as oer
 use Rattle.ilp_oer.proofs.Spellings.{Splits-unique}
-use Rattle.ilp_packet.specs.Packet.{Spells, PlainPrepare, PlainFulfill, PlainReject, PlainPacket, prepare, fulfill, reject, IsWithin, NamesExpiry, type_octet, content, spelling}
+use Rattle.ilp_packet.specs.Packet.{Spells, PlainPacket, prepare, fulfill, reject, IsWithin, NamesExpiry, type_octet, content, spelling}
 use Rattle.ilp_packet.specs.Reading.{reading}
-use Rattle.ilp_packet.specs.Writing.{size, Appends}
-use Rattle.ilp_packet.proofs.ContentLemmas.{content_fits}
+use Rattle.ilp_packet.specs.Writing.{seventeen_zeros, size, Appends}
+use Rattle.ilp_packet.proofs.ContentLemmas.{length-octets, length-prepare, content_fits}
 use Rattle.ilp_packet.proofs.ReadingLemmas.{reading_again, one_packet}
 
 -- a packet's size by the length of its content
-pub size_by_content : (packet : PlainPacket) (n : ℕ) → n ≡ length (content (replicate 17 48) packet) → size packet ≡ 1 + (length (oer.prefix n) + n)
+pub size_by_content : (packet : PlainPacket) (n : ℕ) → n ≡ length (content seventeen_zeros packet) → size packet ≡ 1 + (length (oer.prefix n) + n)
 unfolding size
 size_by_content packet n e =
-    rw e (omega (arith, length-append (oer.prefix (length (content (replicate 17 48) packet))) (content (replicate 17 48) packet)))
-
--- the length of an octet string, and of each content
-length-octets : (text : List ℕ) → length (oer.spelling text) ≡ length (oer.prefix (length text)) + length text
-length-octets text = length-append (oer.prefix (length text)) text
-
-pub length-prepare : (expiry : List ℕ) (p : PlainPrepare) → length expiry ≡ 17 → length p.condition ≡ 32
-    → length (content expiry (prepare p)) ≡ 57 + (length (oer.prefix (length p.destination)) + length p.destination) + (length (oer.prefix (length p.payload)) + length p.payload)
-length-prepare expiry p seventeen condition =
-    omega (
-      arith,
-      seventeen,
-      condition,
-      length-octets p.destination,
-      length-octets p.payload,
-      length-append expiry (p.condition ++ (oer.spelling p.destination ++ oer.spelling p.payload)),
-      length-append p.condition (oer.spelling p.destination ++ oer.spelling p.payload),
-      length-append (oer.spelling p.destination) (oer.spelling p.payload),
-    )
-
-pub length-fulfill : (f : PlainFulfill) → length f.preimage ≡ 32
-    → length (content [] (fulfill f)) ≡ 32 + (length (oer.prefix (length f.payload)) + length f.payload)
-length-fulfill f preimage =
-    omega (arith, preimage, length-octets f.payload, length-append f.preimage (oer.spelling f.payload))
-
-pub length-reject : (r : PlainReject) → length r.code ≡ 3
-    → length (content [] (reject r)) ≡ 3 + ((length (oer.prefix (length r.triggered_by)) + length r.triggered_by) + (length (oer.prefix (length r.message)) + length r.message)) + (length (oer.prefix (length r.payload)) + length r.payload)
-length-reject r code =
-    omega (
-      arith,
-      code,
-      length-octets r.triggered_by,
-      length-octets r.message,
-      length-octets r.payload,
-      length-append r.code (oer.spelling r.triggered_by ++ (oer.spelling r.message ++ oer.spelling r.payload)),
-      length-append (oer.spelling r.triggered_by) (oer.spelling r.message ++ oer.spelling r.payload),
-      length-append (oer.spelling r.message) (oer.spelling r.payload),
-    )
+    rw e (omega (arith, length-append (oer.prefix (length (content seventeen_zeros packet))) (content seventeen_zeros packet)))
 
 -- type octet and prefix behind other octets, and then the content
 pub appended : (before begun after expiry : List ℕ) (packet : PlainPacket) (n : ℕ) → IsWithin packet → NamesExpiry expiry packet → n ≡ length (content expiry packet)
@@ -67,9 +30,9 @@ appended before begun after expiry packet n within names len begin end =
     }
 
 -- a packet's content is as long whichever text its expiry has
-one_length : (expiry : List ℕ) (packet : PlainPacket) → NamesExpiry expiry packet → IsWithin packet → length (content (replicate 17 48) packet) ≡ length (content expiry packet)
+one_length : (expiry : List ℕ) (packet : PlainPacket) → NamesExpiry expiry packet → IsWithin packet → length (content seventeen_zeros packet) ≡ length (content expiry packet)
 one_length expiry (prepare p) names within =
-    length-prepare (replicate 17 48) p refl within.condition ∙ sym (length-prepare expiry p names.0.seventeen within.condition)
+    length-prepare seventeen_zeros p refl within.condition ∙ sym (length-prepare expiry p names.0.seventeen within.condition)
 one_length expiry (fulfill f) names within = refl
 one_length expiry (reject r) names within = refl
 

@@ -14,7 +14,7 @@ is_segment_octet octet =
     (nat_le 65 octet && nat_le octet 90) || (nat_le 97 octet && nat_le octet 122)
     || (nat_le 48 octet && nat_le octet 57) || (octet == 95) || (octet == 126) || (octet == 45)
 
--- one or more of these octets
+-- one or more octets that a segment may have
 pub record IsSegment (segment : List ℕ) : Type 0 where
   pub filled : 0 < length segment
   pub allowed : IsTrue (list_all is_segment_octet segment)
@@ -22,6 +22,10 @@ pub record IsSegment (segment : List ℕ) : Type 0 where
 -- a segment behind its dot
 abbrev pub dotted : List ℕ → List ℕ
 dotted segment = 46 ∷ segment
+
+-- the most octets of an address
+abbrev pub most_address : ℕ
+most_address = 1023
 
 -- a scheme and then one or more segments, each behind a dot, in at most 1,023 octets
 pub record IsAddress (octets : List ℕ) : Type 0 where
@@ -31,9 +35,9 @@ pub record IsAddress (octets : List ℕ) : Type 0 where
   pub some : 0 < length segments
   pub each : AllByRecursion IsSegment segments
   pub whole : octets ≡ scheme ++ flat_map dotted segments
-  pub within : length octets ≤ 1023
+  pub within : length octets ≤ most_address
 
--- ---- the same as a test
+-- ---- whether octets are an address, as a test from left to right
 
 -- whether a text is one of the schemes
 unfoldable pub is_scheme : List ℕ → Bool
@@ -53,5 +57,5 @@ are_segments begun (octet ∷ octets) =
 -- whether octets are an address
 unfoldable pub is_address : List ℕ → Bool
 is_address octets =
-    nat_le (length octets) 1023
+    nat_le (length octets) most_address
     && (is_scheme (before_first is_dot octets) && are_segments false (after_first is_dot octets))

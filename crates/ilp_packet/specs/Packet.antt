@@ -56,25 +56,37 @@ plain (packets.Reject r) = reject (plain_reject r)
 
 -- ---- limits
 
+-- the most octets of a packet's data
+abbrev pub most_payload : ℕ
+most_payload = 32767
+
+-- the most octets of a Reject's message
+abbrev pub most_message : ℕ
+most_message = 8191
+
+-- the most octets of the address that triggered a Reject
+abbrev pub most_triggered_by : ℕ
+most_triggered_by = 1023
+
 -- 64 bits of amount, a moment of the years 0 to 9999, a digest of SHA-256, an address, and data
 pub record IsPrepare (p : PlainPrepare) : Type 0 where
   pub amount : p.amount < 2 ^ 64
   pub expires : IsMoment p.expires
   pub condition : length p.condition ≡ 32
   pub destination : IsAddress p.destination
-  pub payload : length p.payload ≤ 32767
+  pub payload : length p.payload ≤ most_payload
 
 -- a fulfillment of 32 octets, and data
 pub record IsFulfill (f : PlainFulfill) : Type 0 where
   pub preimage : length f.preimage ≡ 32
-  pub payload : length f.payload ≤ 32767
+  pub payload : length f.payload ≤ most_payload
 
 -- a code of three octets, and three fields of any octets
 pub record IsReject (r : PlainReject) : Type 0 where
   pub code : length r.code ≡ 3
-  pub triggered_by : length r.triggered_by ≤ 1023
-  pub message : length r.message ≤ 8191
-  pub payload : length r.payload ≤ 32767
+  pub triggered_by : length r.triggered_by ≤ most_triggered_by
+  pub message : length r.message ≤ most_message
+  pub payload : length r.payload ≤ most_payload
 
 -- each field of a packet is within its limits
 abbrev pub IsWithin : PlainPacket → Type 0

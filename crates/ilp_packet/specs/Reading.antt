@@ -1,7 +1,8 @@
 -- Reading a packet (RFC 0027, RFC 0030) from left to right, with the first fault that is met.
-use Rattle.std.specs.Prelude.{◌≡◌, ℕ, ℤ, Bool, true, false, not, List, [], ◌∷◌, length, take, drop, slice_index, Option, Some, None, Result, Ok, Err, nat_lt, ◌==◌, if◌then◌else◌}
+use Rattle.std.specs.Prelude.{◌≡◌, ℕ, ℤ, not, List, [], ◌∷◌, length, take, drop, slice_index, Option, Some, None, Result, Ok, Err, nat_lt, ◌==◌, if◌then◌else◌}
 use Rattle.std.specs.Result.{result_err}
 use Rattle.std.specs.Int.{w64, from_be_bytes}
+use Rattle.ilp_order.specs.Refusals.{◌>>=◌, refuse_if}
 pub use Rattle.ilp_oer.specs.Octets.{AreOctets}
 use Rattle.ilp_oer.specs.OctetString as oer
 use Rattle.ilp_oer.specs.declared.fault.OerFault.{OerFault}
@@ -11,18 +12,7 @@ use Rattle.ilp_packet.specs.declared.fault.PacketFault.{PacketFault}
 use Rattle.ilp_packet.specs.declared.fault.PacketFault.TheVariants.{Truncated, BadPrefix, TooLong, UnknownType, Trailing, BadExpiry, BadAddress, FieldTooLong}
 use Rattle.ilp_packet.specs.Address.{is_address}
 use Rattle.ilp_packet.specs.ExpiryTest.{is_expiry}
-use Rattle.ilp_packet.specs.Packet.{PlainPrepare, PlainFulfill, PlainReject, PlainPacket, prepare, fulfill, reject}
-
-infixl 10 ◌>>=◌
--- what follows is read only where nothing was refused
-abbrev pub ◌>>=◌ : {A B : Type 0} → Result A PacketFault → (A → Result B PacketFault) → Result B PacketFault
-(Ok x) >>= f = f x
-(Err e) >>= f = Err e
-
--- a refusal where the test passes
-abbrev pub refuse_if : Bool → PacketFault → Result (Unit {0}) PacketFault
-refuse_if true fault = Err fault
-refuse_if false fault = Ok tt
+use Rattle.ilp_packet.specs.Packet.{most_payload, most_message, most_triggered_by, PlainPrepare, PlainFulfill, PlainReject, PlainPacket, prepare, fulfill, reject}
 
 -- What a function returned, seen by a view, is what reading gives.
 abbrev pub Gives : {X Y : Type 0} → (X → Y) → Result X PacketFault → Result Y PacketFault → Type 0
@@ -35,9 +25,9 @@ of_octet_string oer_faults.Truncated = Truncated
 of_octet_string oer_faults.BadPrefix = BadPrefix
 of_octet_string oer_faults.TooLong = TooLong
 
--- ---- A field is its value and the octets after it.
+-- ---- Fields: each is read as its value, with the octets after it.
 
--- so many octets
+-- a field of so many octets
 unfoldable pub chunk_at : ℕ → List ℕ → Result (List ℕ × List ℕ) PacketFault
 chunk_at size octets =
     if nat_lt (length octets) size then Err Truncated else Ok (take size octets, drop size octets)
@@ -87,7 +77,7 @@ last_of (value, rest) = if length rest == 0 then Ok value else Err Trailing
 -- the data, the last field of each content
 unfoldable pub payload_in : List ℕ → Result (List ℕ) PacketFault
 payload_in octets = do
-  field ← string_within 32767 octets
+  field ← string_within most_payload octets
   last_of field
 
 -- ---- contents
@@ -110,8 +100,8 @@ fulfill_in content = do
 unfoldable pub reject_in : List ℕ → Result PlainReject PacketFault
 reject_in content = do
   code ← chunk_at 3 content
-  triggered_by ← string_within 1023 code.1
-  message ← string_within 8191 triggered_by.1
+  triggered_by ← string_within most_triggered_by code.1
+  message ← string_within most_message triggered_by.1
   payload ← payload_in message.1
   Ok (record { code = code.0; triggered_by = triggered_by.0; message = message.0; payload = payload })
 

@@ -4,7 +4,7 @@ ghost use Rattle.std.specs.List.{before_first, after_first};
 ghost use Rattle.ilp_packet.specs.Address as address;
 ghost use Rattle.ilp_packet.specs.Address.{IsAddress, is_dot, is_scheme, are_segments, is_segment_octet};
 
-/// The greatest number of octets of an address.
+// The greatest number of octets of an address.
 const MAX_ADDRESS: usize = 1023;
 
 /// Whether octets are an address: a scheme, and then one or more segments, each a dot and one or
@@ -24,7 +24,7 @@ fn is_scheme_with_segments(octets: &[u8]) -> bool
 {
     match first_dot(octets) {
         None => false,
-        Some(dot) => begins_address(&octets[..dot]) && are_all_segments(&octets[dot + 1..]),
+        Some(dot) => is_scheme(&octets[..dot]) && are_all_segments(&octets[dot + 1..]),
     }
 }
 
@@ -35,13 +35,14 @@ fn first_dot(octets: &[u8]) -> Option<usize>
     octets.iter().position(|octet| *octet == b'.')
 }
 
-// Whether a text is one of the schemes.
+/// Whether octets are one of the allocation schemes with which addresses begin (RFC 0015,
+/// "Allocation Schemes").
 #[tactic(auto, unfolding(crate::specs::Address::is_scheme))]
-fn begins_address(text: &[u8]) -> bool
-    ensures { result ≡ is_scheme text.now }
+pub fn is_scheme(octets: &[u8]) -> bool
+    ensures { result ≡ is_scheme octets.now }
 {
     matches!(
-        text,
+        octets,
         b"g" | b"private"
             | b"example"
             | b"peer"

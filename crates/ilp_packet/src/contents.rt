@@ -10,14 +10,14 @@ use crate::fields::{
 };
 use crate::packet::{Fulfill, Prepare, Reject};
 
-/// The greatest number of octets of a packet's data.
+// The greatest number of octets of a packet's data.
 const MAX_PAYLOAD: usize = 32_767;
-/// The greatest number of octets of a Reject's message.
+// The greatest number of octets of a Reject's message.
 const MAX_MESSAGE: usize = 8_191;
-/// The greatest number of octets of the address that triggered a Reject.
+// The greatest number of octets of the address that triggered a Reject.
 const MAX_TRIGGERED_BY: usize = 1_023;
 
-// The content after a type octet: one octet string, which nothing follows.
+/// The content after a type octet: one octet string, which nothing follows.
 #[tactic(auto, unfolding(crate::specs::Reading::content_at))]
 pub(crate) fn read_content(input: &[u8]) -> Result<&[u8], PacketFault>
     ensures { Gives (λ content. content.now) result (content_at input.now) }
@@ -26,7 +26,7 @@ pub(crate) fn read_content(input: &[u8]) -> Result<&[u8], PacketFault>
     take_last(content, rest)
 }
 
-// The fields of a Prepare.
+/// The fields of a Prepare.
 #[tactic(auto, unfolding(crate::specs::Reading::prepare_in))]
 pub(crate) fn read_prepare(content: &[u8]) -> Result<Prepare<'_>, PacketFault>
     ensures { Gives plain_prepare result (prepare_in content.now) }
@@ -45,7 +45,7 @@ pub(crate) fn read_prepare(content: &[u8]) -> Result<Prepare<'_>, PacketFault>
     })
 }
 
-// The fields of a Fulfill.
+/// The fields of a Fulfill.
 #[tactic(auto, unfolding(crate::specs::Reading::fulfill_in))]
 pub(crate) fn read_fulfill(content: &[u8]) -> Result<Fulfill<'_>, PacketFault>
     ensures { Gives plain_fulfill result (fulfill_in content.now) }
@@ -55,7 +55,7 @@ pub(crate) fn read_fulfill(content: &[u8]) -> Result<Fulfill<'_>, PacketFault>
     Ok(Fulfill { preimage, payload })
 }
 
-// The fields of a Reject. All but the lengths may be any octets.
+/// The fields of a Reject. All but the lengths may be any octets.
 #[tactic(auto, unfolding(crate::specs::Reading::reject_in))]
 pub(crate) fn read_reject(content: &[u8]) -> Result<Reject<'_>, PacketFault>
     ensures { Gives plain_reject result (reject_in content.now) }

@@ -8,7 +8,7 @@ use crate::fault::PacketFault;
 use ilp_oer::read_octets;
 use ilp_terms::expiry_read;
 
-// A field of a fixed number of octets.
+/// A field of a fixed number of octets.
 #[tactic(auto, unfolding(crate::specs::Reading::chunk_at))]
 pub(crate) fn take_chunk<const N: usize>(input: &[u8]) -> Result<(&[u8; N], &[u8]), PacketFault>
     ensures { Gives (λ field. (field.0.now, field.1.now)) result (chunk_at N input.now) }
@@ -19,7 +19,7 @@ pub(crate) fn take_chunk<const N: usize>(input: &[u8]) -> Result<(&[u8; N], &[u8
     }
 }
 
-// A number of eight octets, greatest first.
+/// A number of eight octets, greatest first.
 #[tactic(auto, unfolding(crate::specs::Reading::amount_at))]
 pub(crate) fn take_amount(input: &[u8]) -> Result<(u64, &[u8]), PacketFault>
     ensures { Gives (λ field. (field.0, field.1.now)) result (amount_at input.now) }
@@ -28,7 +28,7 @@ pub(crate) fn take_amount(input: &[u8]) -> Result<(u64, &[u8]), PacketFault>
     Ok((u64::from_be_bytes(*octets), rest))
 }
 
-// An expiry, as the moment that it names.
+/// An expiry, as the moment that it names.
 #[tactic(auto, unfolding(crate::specs::Reading::expiry_at))]
 pub(crate) fn take_expiry(input: &[u8]) -> Result<(i64, &[u8]), PacketFault>
     ensures { Gives (λ field. (field.0, field.1.now)) result (expiry_at input.now) }
@@ -40,7 +40,7 @@ pub(crate) fn take_expiry(input: &[u8]) -> Result<(i64, &[u8]), PacketFault>
     }
 }
 
-// An octet string, as its content.
+/// An octet string, as its content.
 #[tactic(auto, unfolding(crate::specs::Reading::string_at))]
 pub(crate) fn take_string(input: &[u8]) -> Result<(&[u8], &[u8]), PacketFault>
     ensures { Gives (λ field. (field.0.now, field.1.now)) result (string_at input.now) }
@@ -48,7 +48,7 @@ pub(crate) fn take_string(input: &[u8]) -> Result<(&[u8], &[u8]), PacketFault>
     Ok(read_octets(input)?)
 }
 
-// An octet string whose content has at most so many octets.
+/// An octet string whose content has at most so many octets.
 #[tactic(auto, unfolding(crate::specs::Reading::string_within))]
 pub(crate) fn take_string_within(limit: usize, input: &[u8]) -> Result<(&[u8], &[u8]), PacketFault>
     ensures { Gives (λ field. (field.0.now, field.1.now)) result (string_within limit input.now) }
@@ -60,7 +60,7 @@ pub(crate) fn take_string_within(limit: usize, input: &[u8]) -> Result<(&[u8], &
     Ok((content, rest))
 }
 
-// An address as an octet string.
+/// An address as an octet string.
 #[tactic(auto, unfolding(crate::specs::Reading::address_at))]
 pub(crate) fn take_address(input: &[u8]) -> Result<(&[u8], &[u8]), PacketFault>
     ensures { Gives (λ field. (field.0.now, field.1.now)) result (address_at input.now) }
@@ -72,7 +72,7 @@ pub(crate) fn take_address(input: &[u8]) -> Result<(&[u8], &[u8]), PacketFault>
     Ok((address, rest))
 }
 
-// The value of a last field, which nothing may follow.
+/// The value of a last field, which nothing may follow.
 #[tactic(auto, unfolding(crate::specs::Reading::last_of))]
 pub(crate) fn take_last<'a>(value: &'a [u8], rest: &[u8]) -> Result<&'a [u8], PacketFault>
     ensures { Gives (λ field. field.now) result (last_of (value.now, rest.now)) }

@@ -1,7 +1,7 @@
 //! What holds of all packets. These functions do nothing: their contracts are the laws.
-ghost use Rattle.std.specs.Prelude.{◌≡◌, ◌↔◌, ℕ, List, [], ◌++◌, length, drop, IsTrue, Ok, None};
+ghost use Rattle.std.specs.Prelude.{◌≡◌, ◌↔◌, ℕ, List, [], ◌++◌, length, drop, Contains, IsTrue, Ok, None};
 ghost use Rattle.ilp_terms.specs.Expiry.{IsExpiry};
-ghost use Rattle.ilp_packet.specs.Address.{IsAddress, is_address};
+ghost use Rattle.ilp_packet.specs.Address.{IsAddress, schemes, is_scheme, is_address};
 ghost use Rattle.ilp_packet.specs.ExpiryTest.{is_expiry};
 ghost use Rattle.ilp_packet.specs.Packet.{PlainPacket, Spells};
 ghost use Rattle.ilp_packet.specs.Reading.{AreOctets, reading, fault_of};
@@ -46,9 +46,11 @@ pub fn written_packets_are_read()
         → Spells front other → (other ≡ packet) × (before ++ front ≡ after) × (rest ≡ more) }
 {}
 
-/// The test for addresses, from left to right, passes exactly those of the grammar.
+/// The test for addresses, from left to right, passes exactly those of the grammar, and the test for
+/// schemes exactly those of the list.
 pub fn addresses_are_tested()
-    ensures { (octets : List ℕ) → IsTrue (is_address octets) ↔ IsAddress octets }
+    ensures addresses { (octets : List ℕ) → IsTrue (is_address octets) ↔ IsAddress octets }
+    ensures schemes { (octets : List ℕ) → IsTrue (is_scheme octets) ↔ Contains schemes octets }
 {}
 
 /// The test for expiries passes exactly the texts that name a moment.

@@ -10,7 +10,7 @@ mod laws;
 mod packet;
 mod writing;
 
-pub use address::is_address;
+pub use address::{is_address, is_scheme};
 pub use fault::PacketFault;
 pub use laws::{
     addresses_are_tested, expiries_are_tested, octets_spell_one_packet, packets_have_one_spelling,

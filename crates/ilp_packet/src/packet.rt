@@ -6,7 +6,7 @@ ghost use Rattle.ilp_packet.specs.Reading.{Gives, reading, fault_of};
 use crate::contents::{read_content, read_fulfill, read_prepare, read_reject};
 use crate::fault::PacketFault;
 
-// The type octets of the packets.
+/// The type octets of the packets.
 pub(crate) const PREPARE: u8 = 12;
 
 pub(crate) const FULFILL: u8 = 13;

@@ -322,3 +322,15 @@ fn tells_addresses(rt: HostRuntime) {
         assert_eq!(rt; is_address(octets), expected, "{octets:?}");
     }
 }
+
+#[test]
+fn tells_the_schemes_of_addresses(rt: HostRuntime) {
+    for text in [
+        "g", "private", "example", "peer", "self", "test", "test1", "test2", "test3", "local",
+    ] {
+        assert!(rt; is_scheme(text.as_bytes()), "{text}");
+    }
+    for text in ["", "G", "test4", "test11", "tes", "g.", "peers"] {
+        assert!(rt; !is_scheme(text.as_bytes()), "{text}");
+    }
+}

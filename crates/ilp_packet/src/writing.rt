@@ -2,12 +2,19 @@
 ghost use Rattle.std.specs.Prelude.{◌≡◌, ℕ, ◌+◌, ◌<◌, ◌≤◌, List, [], ◌∷◌, ◌++◌, length, IsOk, OnOk, OnErr};
 ghost use Rattle.ilp_oer.specs.OctetString as oer;
 ghost use Rattle.ilp_packet.specs.Packet.{plain_prepare, plain_fulfill, plain_reject, prepare, fulfill, reject, content, IsPrepare, IsFulfill, IsReject};
-ghost use Rattle.ilp_packet.specs.Writing.{size, Appends};
+ghost use Rattle.ilp_packet.specs.Writing.{size, Writes};
 
 use crate::packet::{FULFILL, Fulfill, PREPARE, Prepare, REJECT, Reject};
-use ilp_oer::{Octets, octets_len, write_octets, write_prefix};
+use ilp_oer::{MAX_CONTENT, Octets, octets_len, write_octets, write_prefix};
 use ilp_terms::expiry_write;
 use std::alloc::{AllocError, Allocator};
+
+// How many octets a Prepare's amount, expiry and condition have.
+const PREPARE_FIXED: usize = 8 + 17 + 32;
+// How many octets a Fulfill's fulfillment has.
+const FULFILL_FIXED: usize = 32;
+// How many octets a Reject's code has.
+const REJECT_FIXED: usize = 3;
 
 /// Appends the octets of a Prepare (RFC 0027), whose fields are within their limits: it expires in
 /// the years 0 to 9999, its destination is an address (RFC 0015), and its data has at most 32,767
@@ -20,15 +27,7 @@ pub fn write_prepare<A: Allocator>(
     packet: &Prepare<'_>,
 ) -> Result<(), AllocError>
     requires { IsPrepare (plain_prepare packet.now) }
-    ensures ok { OnOk result
-        (Appends out.old.octets (prepare (plain_prepare packet.now)) out.new.octets) }
-
-    // As `append` of the packet's octets.
-    ensures enough { size (prepare (plain_prepare packet.now)) ≤ out.old.spare → IsOk result }
-    ensures used { size (prepare (plain_prepare packet.now)) ≤ out.old.spare
-        → out.new.spare + size (prepare (plain_prepare packet.now)) ≡ out.old.spare }
-    ensures refused { OnErr result (out.old.spare < size (prepare (plain_prepare packet.now))) }
-    ensures err { OnErr result (out.new ≡ out.old) }
+    ensures { Writes (prepare (plain_prepare packet.now)) out.old out.new result }
 {
     let expiry = expiry_write(packet.expires);
     begin(out, PREPARE, prepare_len(packet))?;
@@ -38,13 +37,13 @@ pub fn write_prepare<A: Allocator>(
 // How many octets the content of a Prepare has.
 fn prepare_len(packet: &Prepare<'_>) -> usize
     requires { IsPrepare (plain_prepare packet.now) }
-    ensures within { result ≤ 65535 }
+    ensures within { result ≤ MAX_CONTENT }
     ensures len { (expiry : List ℕ) → length expiry ≡ 17
         → result ≡ length (content expiry (prepare (plain_prepare packet.now))) }
     ensures size { size (prepare (plain_prepare packet.now))
         ≡ 1 + (length (oer.prefix result) + result) }
 {
-    57 + octets_len(packet.destination.len()) + octets_len(packet.payload.len())
+    PREPARE_FIXED + octets_len(packet.destination.len()) + octets_len(packet.payload.len())
 }
 
 // Appends the content of a Prepare into room that is there.
@@ -78,15 +77,7 @@ pub fn write_fulfill<A: Allocator>(
     packet: &Fulfill<'_>,
 ) -> Result<(), AllocError>
     requires { IsFulfill (plain_fulfill packet.now) }
-    ensures ok { OnOk result
-        (Appends out.old.octets (fulfill (plain_fulfill packet.now)) out.new.octets) }
-
-    // As `append` of the packet's octets.
-    ensures enough { size (fulfill (plain_fulfill packet.now)) ≤ out.old.spare → IsOk result }
-    ensures used { size (fulfill (plain_fulfill packet.now)) ≤ out.old.spare
-        → out.new.spare + size (fulfill (plain_fulfill packet.now)) ≡ out.old.spare }
-    ensures refused { OnErr result (out.old.spare < size (fulfill (plain_fulfill packet.now))) }
-    ensures err { OnErr result (out.new ≡ out.old) }
+    ensures { Writes (fulfill (plain_fulfill packet.now)) out.old out.new result }
 {
     begin(out, FULFILL, fulfill_len(packet))?;
     put_fulfill(out, packet)
@@ -95,12 +86,12 @@ pub fn write_fulfill<A: Allocator>(
 // How many octets the content of a Fulfill has.
 fn fulfill_len(packet: &Fulfill<'_>) -> usize
     requires { IsFulfill (plain_fulfill packet.now) }
-    ensures within { result ≤ 65535 }
+    ensures within { result ≤ MAX_CONTENT }
     ensures len { result ≡ length (content [] (fulfill (plain_fulfill packet.now))) }
     ensures size { size (fulfill (plain_fulfill packet.now))
         ≡ 1 + (length (oer.prefix result) + result) }
 {
-    32 + octets_len(packet.payload.len())
+    FULFILL_FIXED + octets_len(packet.payload.len())
 }
 
 // Appends the content of a Fulfill into room that is there.
@@ -128,15 +119,7 @@ pub fn write_reject<A: Allocator>(
     packet: &Reject<'_>,
 ) -> Result<(), AllocError>
     requires { IsReject (plain_reject packet.now) }
-    ensures ok { OnOk result
-        (Appends out.old.octets (reject (plain_reject packet.now)) out.new.octets) }
-
-    // As `append` of the packet's octets.
-    ensures enough { size (reject (plain_reject packet.now)) ≤ out.old.spare → IsOk result }
-    ensures used { size (reject (plain_reject packet.now)) ≤ out.old.spare
-        → out.new.spare + size (reject (plain_reject packet.now)) ≡ out.old.spare }
-    ensures refused { OnErr result (out.old.spare < size (reject (plain_reject packet.now))) }
-    ensures err { OnErr result (out.new ≡ out.old) }
+    ensures { Writes (reject (plain_reject packet.now)) out.old out.new result }
 {
     begin(out, REJECT, reject_len(packet))?;
     put_reject(out, packet)
@@ -145,13 +128,13 @@ pub fn write_reject<A: Allocator>(
 // How many octets the content of a Reject has.
 fn reject_len(packet: &Reject<'_>) -> usize
     requires { IsReject (plain_reject packet.now) }
-    ensures within { result ≤ 65535 }
+    ensures within { result ≤ MAX_CONTENT }
     ensures len { result ≡ length (content [] (reject (plain_reject packet.now))) }
     ensures size { size (reject (plain_reject packet.now))
         ≡ 1 + (length (oer.prefix result) + result) }
 {
     let texts = octets_len(packet.triggered_by.len()) + octets_len(packet.message.len());
-    3 + texts + octets_len(packet.payload.len())
+    REJECT_FIXED + texts + octets_len(packet.payload.len())
 }
 
 // Appends the content of a Reject into room that is there.
@@ -174,7 +157,7 @@ fn put_reject<A: Allocator>(out: &mut Octets<A>, packet: &Reject<'_>) -> Result<
 // Makes room for a whole packet, and appends the type octet and the prefix of the content.
 #[inline]
 fn begin<A: Allocator>(out: &mut Octets<A>, number: u8, content: usize) -> Result<(), AllocError>
-    requires { content ≤ 65535 }
+    requires { content ≤ MAX_CONTENT }
     ensures ok { OnOk result (out.new.octets ≡ out.old.octets ++ (number ∷ oer.prefix content)) }
     ensures room { OnOk result (content ≤ out.new.spare) }
     ensures enough { 1 + (length (oer.prefix content) + content) ≤ out.old.spare → IsOk result }

@@ -10,7 +10,7 @@ use crate::calendar;
 /// milliseconds since 1970-01-01T00:00:00Z.
 pub const LAST_OF_ALL: i64 = 253_402_300_799_999;
 
-/// The milliseconds of a day.
+// The milliseconds of a day.
 const DAY: i64 = 86_400_000;
 
 /// The moment that an expiry's digits name, in milliseconds since 1970-01-01T00:00:00Z.

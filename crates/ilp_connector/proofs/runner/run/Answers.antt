@@ -38,3 +38,7 @@ pub returns-clause-whole : goal.returns-clause-whole
 returns-clause-whole g c =
     let none : length c.loop-rest.rest.now ≡ 0 = grind (arith, nat_tests, c.is_empty.ensures, c.loop-rest-test.false) in
     all_written _ _ c.loop-rest.book c.loop-rest.rest.now c.loop-rest.invariant.written _ none c.loop-rest.invariant.whole c.loop-rest.invariant.wrote
+
+pub returns-in_default-put_all-clause-writes : goal.returns-in_default-put_all-clause-writes
+returns-in_default-put_all-clause-writes g c =
+    CountsUp-after _ _ _ 1 c.loop-rest.invariant.writes c.in_default-put_all.ensures.failed

@@ -1,6 +1,7 @@
 use Rattle.std.proofs.Common.{◌+◌, arith}
 use Rattle.ilp_packet.specs.Packet.{plain_fulfill, fulfill}
-use Rattle.ilp_packet.proofs.WritingLemmas.{size_by_content, length-fulfill}
+use Rattle.ilp_packet.proofs.WritingLemmas.{size_by_content}
+use Rattle.ilp_packet.proofs.ContentLemmas.{length-fulfill}
 use Rattle.ilp_packet.proofs.writing.fulfill_len.Goals as goal
 
 pub returns-clause-size : goal.returns-clause-size

@@ -1,6 +1,7 @@
 use Rattle.std.proofs.Common.{◌+◌, arith}
 use Rattle.ilp_packet.specs.Packet.{plain_reject, reject}
-use Rattle.ilp_packet.proofs.WritingLemmas.{size_by_content, length-reject}
+use Rattle.ilp_packet.proofs.WritingLemmas.{size_by_content}
+use Rattle.ilp_packet.proofs.ContentLemmas.{length-reject}
 use Rattle.ilp_packet.proofs.writing.reject_len.Goals as goal
 
 pub returns-clause-size : goal.returns-clause-size

@@ -6,7 +6,7 @@ use Rattle.std.proofs.lemmas.Bool.Decides.{Decides-eqb, nat_tests}
 use Rattle.std.proofs.lemmas.List.Elements.{All-cons, All-nil, All-weaker}
 use Rattle.std.proofs.lemmas.Slice.Eq.{bytes_eq-Decides, starts_is}
 use Rattle.ilp_lookup.specs.Route.{Route, Matches, IsLongest, IsLocal, IsRoute}
-use Rattle.ilp_lookup.specs.Answer.{begins, matches, longer, longest_of, route_of}
+use Rattle.ilp_lookup.specs.Answer.{begins, matches, longer, longest_of, routed_peer}
 
 -- octets that begin with others are these and a rest
 begins-yes : (octets first : List ℕ) → begins octets first ≡ true → octets ≡ first ++ drop (length first) octets
@@ -25,7 +25,7 @@ matches-yes (p ∷ ps) octets is_so = by (bytes_eq octets (p ∷ ps)) refl (begi
     by false is true starts = inr (inr (_, begins-yes octets ((p ∷ ps) ++ 46 ∷ []) starts ∙ append_assoc (p ∷ ps) (46 ∷ []) _))
     by false is false starts = absurd (grind (arith, is_so, is, starts))
 
--- and one that matches is found to
+-- a prefix that is not found to match does not
 matches-no : (prefix octets : List ℕ) → matches prefix octets ≡ false → ¬ Matches prefix octets
 matches-no [] octets is_not matched = false≢true (sym is_not)
 matches-no (p ∷ ps) octets is_not (inl empty) = absurd cc
@@ -53,7 +53,7 @@ skipped route routes octets (Some best) other found = record {
   longest = All-cons (λ r. Matches r.prefix octets → length r.prefix ≤ length best.prefix) route routes (λ matched. absurd (other matched)) found.longest;
 }
 
--- one that matches is the longest, or the longest so far is
+-- of a route that matches and the longest of the others, the longer is the longest of all
 taken : (route : Route) (routes : List Route) (octets : List ℕ) (found : Option Route) → Matches route.prefix octets → IsFound routes octets found → IsLongest (route ∷ routes) octets (longer route found)
 taken route routes octets None matched none = record {
   configured = first_contained route routes;
@@ -95,9 +95,9 @@ answered : (routes : List Route) (octets : List ℕ) (found : Option Route) → 
 answered routes octets None other none = inr none
 answered routes octets (Some route) other found = (other, (route, found, refl))
 
-pub IsRoute-route_of : (routes : List Route) (octets : List ℕ) → IsRoute routes octets (route_of routes octets)
-unfolding route_of
-IsRoute-route_of routes octets = by (begins octets (codes "peer.")) refl
+pub IsRoute-routed_peer : (routes : List Route) (octets : List ℕ) → IsRoute routes octets (routed_peer routes octets)
+unfolding routed_peer
+IsRoute-routed_peer routes octets = by (begins octets (codes "peer.")) refl
   where
     by : (b : Bool) → begins octets (codes "peer.") ≡ b → IsRoute routes octets (if b then None else option_map (λ route. route.peer) (longest_of routes octets))
     by true is = inl (_, begins-yes octets (codes "peer.") is)

@@ -2,13 +2,20 @@
 use Rattle.std.proofs.Common.{◌≡◌, ℕ, zero, suc, Bool, true, false, List, [], ◌∷◌, ◌++◌, take, refl, sym, ◌∙◌, append_assoc, append-nil, Option, Some, None, ◌+◌, ◌<◌, length, get_or, drop, map, ap, add-one}
 use Rattle.std.proofs.Math.Seq.{take-suc, drop-cons}
 use Rattle.std.proofs.lemmas.List.{map-append}
-use Rattle.std.specs.Prelude.{slice_get}
+use Rattle.std.specs.Prelude.{slice_get, slice_index_or}
 use Rattle.ilp_order.specs.Checks.{first_of, when, first_along}
 
--- of checks with no fault, the first has none, and neither have the others
+-- where checks have no fault, the first of them has none, and neither have the others
 pub first_of-None : {E : Type 0} (check : Option E) (checks : List (Option E)) → first_of (check ∷ checks) ≡ None → (check ≡ None) × (first_of checks ≡ None)
 first_of-None None checks h = (refl, h)
 first_of-None (Some fault) checks h = cc
+
+-- where checks have no fault, none of them has one
+pub passed : {E : Type 0} (checks : List (Option E)) → first_of checks ≡ None → (place : ℕ) → slice_index_or checks place None ≡ None
+passed [] none place = refl
+passed (None ∷ checks) none zero = refl
+passed (None ∷ checks) none (suc place) = passed checks none place
+passed (Some fault ∷ checks) none place = cc
 
 -- a check with no fault leaves the others to decide
 pub first_of-rest : {E : Type 0} (check : Option E) (checks : List (Option E)) → check ≡ None → first_of (check ∷ checks) ≡ first_of checks
@@ -49,7 +56,7 @@ module _ {X E : Type 0} (fault : List X → X → Option E) where
       let later : fault ((before ++ y ∷ []) ++ take j ys) x ≡ None = first_along-at (before ++ y ∷ []) ys j x (first_along-None before y ys none).1 at in
       rw append_assoc at later
 
-  -- one element more is looked at beside all others
+  -- an element that is added to a list is looked at beside all those before it
   pub first_along-snoc : (before xs : List X) (x : X) → first_along fault before xs ≡ None → fault (before ++ xs) x ≡ None → first_along fault before (xs ++ x ∷ []) ≡ None
   first_along-snoc before [] x none here =
       first_along-step before x [] (rw append-nil at here)
