@@ -1,4 +1,5 @@
 -- What the field of a table holds where its check has no fault.
+use Rattle.ilp_assets.specs.Quote.{most}
 use Rattle.std.proofs.Common.{◌≡◌, ℕ, suc, ◌≤◌, nat_le, Bool, true, List, [], ◌∷◌, length, Option, Some, None, IfSome, is_some, unwrap_or, option_and_then, refl, ap, arith, inl, inr}
 use Rattle.std.specs.List.{list_all, cons_option}
 use Rattle.std.specs.Option.{IsSomeAnd}
@@ -11,7 +12,7 @@ use Rattle.ilp_fields.specs.declared.form.Form.{Form}
 use Rattle.ilp_fields.specs.Forms.{is_within}
 use Rattle.ilp_fields.specs.Checks.{required, required_in, optional, optional_in}
 use Rattle.ilp_fields.specs.Fields.{at, is_text, is_natural, is_natural_within, natural, text_of, text_in, natural_of, natural_in, elements_in, elements_of, are_tables, are_tables_in, list_of, is_table, tables}
-use Rattle.ilp_accounts.specs.Limits.{most_written, most_carried}
+use Rattle.ilp_accounts.specs.Limits.{most_written}
 use Rattle.ilp_accounts.specs.Valid.{HasForm, IsWithin, IsMaxPacket}
 use Rattle.ilp_accounts.proofs.Passing.{unless-None}
 
@@ -91,8 +92,8 @@ written None fits = cc
 written (Some n) fits = inl (within_parts 0 most_written n fits).1
 
 -- the greatest amount that a peer may send
-pub max_packet_of : (which : Field) (t : Members) → optional (is_natural 0 most_written) which t ≡ None → IsMaxPacket (unwrap_or (natural_in which t) most_carried)
-max_packet_of which t none = defaulted_holds (is_natural 0 most_written) natural IsMaxPacket (λ value. written (natural value)) which t most_carried (inr refl) none
+pub max_packet_of : (which : Field) (t : Members) → optional (is_natural 0 most_written) which t ≡ None → IsMaxPacket (unwrap_or (natural_in which t) most)
+max_packet_of which t none = defaulted_holds (is_natural 0 most_written) natural IsMaxPacket (λ value. written (natural value)) which t most (inr refl) none
 
 -- ---- arrays of tables
 

@@ -1,5 +1,5 @@
 -- What follows of checks where none of them has a fault.
-use Rattle.std.proofs.Common.{◌≡◌, ◌≢◌, ℕ, zero, suc, ◌≤◌, Bool, true, false, not, List, [], ◌∷◌, ◌++◌, length, get_or, map, Option, Some, None, refl, ap, sym, ◌∙◌, arith, append_assoc, append-nil, All, slice_index_or}
+use Rattle.std.proofs.Common.{◌≡◌, ◌≢◌, ℕ, suc, ◌≤◌, Bool, true, false, List, [], ◌∷◌, ◌++◌, length, get_or, map, Option, Some, None, refl, ap, sym, ◌∙◌, arith, append_assoc, append-nil, All}
 use Rattle.std.proofs.lemmas.Bool.{false≢true}
 use Rattle.std.proofs.lemmas.List.{map-append, length-append, length-map}
 use Rattle.std.proofs.lemmas.Slice.Eq.{bytes_eq-Decides}
@@ -11,22 +11,11 @@ use Rattle.std.specs.List.{cons_option}
 use Rattle.toml.specs.Data.{Data, Members, as_table}
 use Rattle.ilp_fields.specs.Fields.{tables}
 use Rattle.ilp_order.specs.Checks.{first_of}
-use Rattle.ilp_assets.proofs.Checking.{first_of-None}
+use Rattle.ilp_order.proofs.CheckLemmas.{first_of-None, passed}
 use Rattle.ilp_fields.specs.declared.fault.ConfigFault.{ConfigFault}
 use Rattle.ilp_fields.specs.Checks.{fault_unless, first_beside}
 use Rattle.ilp_accounts.specs.Faults.{is_among}
 use Rattle.ilp_accounts.specs.Valid.{AreDistinct}
-
--- of checks with no fault, none has one
-pub passed : {E : Type 0} (checks : List (Option E)) → first_of checks ≡ None → (place : ℕ) → slice_index_or checks place None ≡ None
-passed [] none place = refl
-passed (None ∷ checks) none zero = refl
-passed (None ∷ checks) none (suc place) = passed checks none place
-passed (Some fault ∷ checks) none place = cc
-
-pub not_false : (b : Bool) → not b ≡ false → b ≡ true
-not_false true h = refl
-not_false false h = cc
 
 pub unless-None : (fits : Bool) (fault : ConfigFault) → fault_unless fits fault ≡ None → fits ≡ true
 unless-None true fault none = refl

@@ -1,4 +1,5 @@
 -- What a peer and a route have whose table has no fault.
+use Rattle.ilp_assets.specs.Quote.{million}
 use Rattle.std.proofs.Common.{◌≡◌, ℕ, suc, ◌+◌, ◌<◌, pos, ℤ, ◌≤ℤ◌, Bool, true, false, not, ◌&&◌, int_lt, int_le, cond, List, [], ◌∷◌, length, Option, Some, None, is_some, is_none, IsSome, IfSome, unwrap_or, refl, sym, arith, codes}
 use Rattle.std.proofs.lemmas.Bool.{and_parts, false≢true}
 use Rattle.std.proofs.lemmas.Float.{T_from_true}
@@ -9,7 +10,8 @@ use Rattle.std.specs.Int.Signed.{le_z_yes, lt_z_yes, lt_z_no}
 use Rattle.toml.specs.Data.{Members}
 use Rattle.ilp_order.specs.Checks.{first_of}
 use Rattle.ilp_assets.specs.Assets.{PlainAsset, is_asset as same_asset, place_of}
-use Rattle.ilp_assets.proofs.Checking.{when-None}
+use Rattle.ilp_order.proofs.CheckLemmas.{when-None, passed}
+use Rattle.ilp_order.proofs.RefusalLemmas.{not_true}
 use Rattle.ilp_fields.specs.declared.fault.Field.TheVariants as field
 use Rattle.ilp_fields.specs.declared.fault.ConfigFault.{ConfigFault}
 use Rattle.ilp_fields.specs.declared.fault.ConfigFault.TheVariants.{NoSuchAsset, DoublePeer, DoubleToken, BadValue, DoubleRoute, BadLevels, Missing}
@@ -18,9 +20,8 @@ use Rattle.ilp_fields.specs.Fields.{text_of}
 use Rattle.ilp_lookup.specs.Route.{Route, prefixes}
 use Rattle.ilp_accounts.specs.Configuration.{PlainPeer, fields_of, peer_from, peer_of, peer_names, peer_tokens, levels_from, route_of}
 use Rattle.ilp_accounts.specs.Faults.{is_among, fields_checks, fields_fault, levels_checks, levels_fault, are_ordered, peer_rules_checks, peer_rules_fault, peer_checks, peer_fault, route_checks, route_fault}
-use Rattle.ilp_accounts.specs.Limits.{whole_ppm}
+
 use Rattle.ilp_accounts.specs.Valid.{AreOrdered, IsPeer, IsRouteTo}
-use Rattle.ilp_accounts.proofs.Passing.{passed, not_false}
 use Rattle.ilp_accounts.proofs.FieldLaws.{text_formed, text_formed_if, text_formed_or, number_ranged_or, max_packet_of}
 
 -- a place that is found lies in the list
@@ -53,7 +54,7 @@ levels_ordered p None None engine ordered = tt
 levels_ordered p None (Some s) engine ordered = tt
 levels_ordered p (Some t) None engine ordered = tt
 levels_ordered p (Some t) (Some s) engine ordered =
-    let both = and_parts (int_le p.least s) (int_lt s t) (not_false _ ordered) in
+    let both = and_parts (int_le p.least s) (int_lt s t) (not_true _ ordered) in
     record {
       engine = is_there p.engine engine;
       least = le_z_yes (T_from_true _ both.0);
@@ -93,7 +94,7 @@ module _ (assets : List PlainAsset) (before : List PlainPeer) (t : Members) (non
         host = text_formed form.Place field.Host t (passed checks fields_pass 4);
         out_path = text_formed_or form.Path field.OutPath t (codes "/ilp") refl (passed checks fields_pass 5);
         least = not_above (pos 0) (fields_of t).least (when-None _ BadLevels (passed levels levels_pass 2));
-        fee_ppm = (number_ranged_or 0 whole_ppm field.FeePpm t 0 (omega arith, omega arith) (passed checks fields_pass 7)).1;
+        fee_ppm = (number_ranged_or 0 million field.FeePpm t 0 (omega arith, omega arith) (passed checks fields_pass 7)).1;
         max_packet = max_packet_of field.MaxPacket t (passed checks fields_pass 8);
         engine = text_formed_if form.Place field.Engine t (passed checks fields_pass 9);
         levels = levels_ordered (peer_of assets t) (fields_of t).threshold (fields_of t).settle_to with_engine ordered;

@@ -6,7 +6,7 @@ use Rattle.toml.specs.Data.{Members, as_table}
 use Rattle.toml.specs.View.{view}
 use Rattle.toml.specs.declared.value.Value.{Value}
 use Rattle.ilp_order.specs.Checks.{first_of}
-use Rattle.ilp_assets.proofs.Checking.{first_of-lone}
+use Rattle.ilp_order.proofs.CheckLemmas.{first_of-lone}
 use Rattle.ilp_fields.specs.declared.fault.ConfigFault.{ConfigFault}
 use Rattle.ilp_fields.specs.Checks.{first_beside}
 use Rattle.ilp_fields.specs.Fields.{tables}

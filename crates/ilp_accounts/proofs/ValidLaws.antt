@@ -11,7 +11,8 @@ use Rattle.ilp_order.specs.Checks.{first_of}
 use Rattle.ilp_assets.specs.declared.fault.AssetFault.{AssetFault}
 use Rattle.ilp_assets.specs.Assets.{PlainAsset, PlainPrice}
 use Rattle.ilp_assets.specs.Faults.{is_among, fault_of, price_fault as table_price_fault}
-use Rattle.ilp_assets.proofs.Checking.{when-None, first_along-at}
+use Rattle.ilp_order.proofs.CheckLemmas.{when-None, first_along-at, passed}
+use Rattle.ilp_order.proofs.RefusalLemmas.{not_true}
 use Rattle.ilp_assets.proofs.Rates.{price_fault-None, fault_of-None}
 use Rattle.ilp_assets.proofs.Sameness.{is_asset-Decides}
 use Rattle.ilp_fields.specs.declared.fault.Field.TheVariants as field
@@ -23,7 +24,7 @@ use Rattle.ilp_accounts.specs.Configuration.{PlainArrays, settings_of, asset_fro
 use Rattle.ilp_accounts.specs.Limits.{most_assets, most_prices, most_peers, most_routes, most_workers, least_journal, most_journal, longest_ms, longest_rest_ms, most_scale, most_term}
 use Rattle.ilp_accounts.specs.Faults.{settings_checks, settings_fault, arrays_checks, arrays_fault, asset_checks, asset_fault, price_checks, price_fault, assets_checks, assets_fault, peer_fault, route_fault, all_checks, first_fault}
 use Rattle.ilp_accounts.specs.Valid.{IsValid, AreSettings, IsAsset, IsPrice, IsPeer, IsRouteTo, IsWithin}
-use Rattle.ilp_accounts.proofs.Passing.{passed, not_false, All-mapped, All-beside, distinct_beside, distinct_none}
+use Rattle.ilp_accounts.proofs.Passing.{All-mapped, All-beside, distinct_beside, distinct_none}
 use Rattle.ilp_accounts.proofs.FieldLaws.{text_formed, text_formed_or, number_ranged, number_ranged_or, AreTables, tables_counted}
 use Rattle.ilp_accounts.proofs.PeerLaws.{is_peer, name_fresh, token_fresh, is_route, prefix_fresh}
 
@@ -93,7 +94,7 @@ are_terms t none =
     ((number_ranged 0 most_term field.P t (passed checks none 2)).1, (number_ranged 0 most_term field.Q t (passed checks none 3)).1)
 
 contained : (assets : List PlainAsset) (a : PlainAsset) → not (is_among assets a) ≡ false → Contains assets a
-contained assets a h = Contains-from_any (λ x y. (is_asset-Decides x y).0) a assets (not_false _ h)
+contained assets a h = Contains-from_any (λ x y. (is_asset-Decides x y).0) a assets (not_true _ h)
 
 -- a price that the table takes, whose p and q are not too great
 is_price : (assets : List PlainAsset) (before : List PlainPrice) (price : PlainPrice) → table_price_fault assets before price ≡ None → AreTerms price → IsPrice assets price

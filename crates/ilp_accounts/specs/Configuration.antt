@@ -1,4 +1,5 @@
 -- A configuration as plain data, and the one that a table gives. Peers and assets are named by their places.
+use Rattle.ilp_assets.specs.Quote.{most}
 use Rattle.std.specs.Prelude.{ℕ, ℤ, pos, List, [], codes, map, slice_get, bytes_eq, Option, Some, None, unwrap_or}
 use Rattle.std.specs.List.{position}
 use Rattle.toml.specs.Data.{Data, Members}
@@ -7,7 +8,7 @@ use Rattle.ilp_assets.specs.Assets.{PlainAsset, PlainPrice, PlainTable, place_of
 use Rattle.ilp_fields.specs.declared.fault.Field.TheVariants as field
 use Rattle.ilp_accounts.specs.declared.peer.Levels.{Levels}
 use Rattle.ilp_fields.specs.Fields.{text_of, text_in, integer_of, integer_in, natural_of, natural_in, asset_of, elements_of, tables}
-use Rattle.ilp_accounts.specs.Limits.{most_carried}
+
 
 -- what stands at the top; times in milliseconds, the journal in entries
 pub record PlainSettings : Type 0 where
@@ -135,7 +136,7 @@ fields_of t = record {
   out_path = unwrap_or (text_in field.OutPath t) (codes "/ilp");
   least = integer_of field.Least t;
   fee_ppm = unwrap_or (natural_in field.FeePpm t) 0;
-  max_packet = unwrap_or (natural_in field.MaxPacket t) most_carried;
+  max_packet = unwrap_or (natural_in field.MaxPacket t) most;
   engine = text_in field.Engine t;
   threshold = integer_in field.Threshold t;
   settle_to = integer_in field.SettleTo t;

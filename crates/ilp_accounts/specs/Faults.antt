@@ -1,4 +1,5 @@
 -- The faults of a table, each check in its order.
+use Rattle.ilp_assets.specs.Quote.{million}
 use Rattle.std.specs.Prelude.{◌≡◌, ℕ, ℤ, pos, Bool, true, false, not, ◌&&◌, ◌==◌, int_lt, int_le, List, [], ◌∷◌, length, map, bytes_eq, Option, Some, None, is_some, is_none, option_map, IsUtf8}
 use Rattle.std.specs.List.{list_any}
 use Rattle.toml.specs.Data.{Members}
@@ -14,7 +15,7 @@ use Rattle.ilp_fields.specs.declared.fault.ConfigFault.TheVariants.{Missing, Bad
 use Rattle.ilp_fields.specs.FromAssets.{from_assets}
 use Rattle.ilp_fields.specs.Checks.{required, optional, first_beside}
 use Rattle.ilp_fields.specs.Fields.{is_text, is_natural, is_integer, is_asset, are_tables, text_of, elements_of, tables}
-use Rattle.ilp_accounts.specs.Limits.{most_assets, most_prices, most_peers, most_routes, most_workers, least_journal, most_journal, longest_ms, longest_rest_ms, most_scale, most_term, whole_ppm, most_written}
+use Rattle.ilp_accounts.specs.Limits.{most_assets, most_prices, most_peers, most_routes, most_workers, least_journal, most_journal, longest_ms, longest_rest_ms, most_scale, most_term, most_written}
 use Rattle.ilp_accounts.specs.Configuration.{PlainPeer, PlainFields, PlainArrays, peer_names, peer_tokens, place_named, fields_of, peer_of, route_of, arrays_of, assets_of, prices_of, peers_of}
 
 -- the top fields
@@ -90,7 +91,7 @@ fields_checks t =
     ∷ required (is_text form.Place) field.Host t
     ∷ optional (is_text form.Path) field.OutPath t
     ∷ required is_integer field.Least t
-    ∷ optional (is_natural 0 whole_ppm) field.FeePpm t
+    ∷ optional (is_natural 0 million) field.FeePpm t
     ∷ optional (is_natural 0 most_written) field.MaxPacket t
     ∷ optional (is_text form.Place) field.Engine t
     ∷ optional is_integer field.Threshold t

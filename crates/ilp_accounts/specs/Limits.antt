@@ -45,18 +45,6 @@ most_scale = 255
 abbrev pub most_term : ℕ
 most_term = 4294967295
 
--- how far apart the scales of a price's assets are at most
-abbrev pub most_gap : ℕ
-most_gap = 9
-
--- a whole in millionths
-abbrev pub whole_ppm : ℕ
-whole_ppm = 1000000
-
 -- the greatest amount that TOML can write, which is 2 ^ 63 - 1
 abbrev pub most_written : ℕ
 most_written = 9223372036854775807
-
--- the greatest amount that a packet can carry, which is 2 ^ 64 - 1
-abbrev pub most_carried : ℕ
-most_carried = 18446744073709551615

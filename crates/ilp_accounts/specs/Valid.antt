@@ -1,15 +1,16 @@
 -- What every configuration that was read has.
+use Rattle.ilp_assets.specs.Quote.{million, most}
 use Rattle.std.specs.Prelude.{◌≡◌, ◌≢◌, ◌⊎◌, ℕ, ◌<◌, ◌≤◌, pos, ◌≤ℤ◌, ◌<ℤ◌, List, length, All, Contains, IsTrue, IsSome, IfSome, None}
 use Rattle.std.specs.List.{AllPairs}
 use Rattle.std.specs.Int.{abs_diff}
 use Rattle.ilp_lookup.specs.Route.{Route, prefixes}
 use Rattle.ilp_assets.specs.Assets.{PlainAsset, PlainPrice}
-use Rattle.ilp_assets.specs.Faults.{fault_of}
+use Rattle.ilp_assets.specs.Faults.{fault_of, most_scale_gap}
 use Rattle.ilp_fields.specs.declared.form.Form.{Form}
 use Rattle.ilp_fields.specs.declared.form.Form.TheVariants as form
 use Rattle.ilp_accounts.specs.declared.peer.Levels.{Levels}
 use Rattle.ilp_fields.specs.Forms.{admits}
-use Rattle.ilp_accounts.specs.Limits.{most_assets, most_prices, most_peers, most_routes, most_workers, least_journal, most_journal, longest_ms, longest_rest_ms, most_scale, most_term, most_gap, whole_ppm, most_written, most_carried}
+use Rattle.ilp_accounts.specs.Limits.{most_assets, most_prices, most_peers, most_routes, most_workers, least_journal, most_journal, longest_ms, longest_rest_ms, most_scale, most_term, most_written}
 use Rattle.ilp_accounts.specs.Configuration.{PlainSettings, PlainPeer, Configuration, peer_names, peer_tokens}
 
 -- no two texts are equal
@@ -47,7 +48,7 @@ pub record IsPrice (assets : List PlainAsset) (price : PlainPrice) : Type 0 wher
   pub other : price.from ≢ price.to
   pub p : IsWithin 1 most_term price.p
   pub q : IsWithin 1 most_term price.q
-  pub near : abs_diff price.from.scale price.to.scale ≤ most_gap
+  pub near : abs_diff price.from.scale price.to.scale ≤ most_scale_gap
 
 -- least <= settle_to < threshold
 pub record AreOrdered (p : PlainPeer) (levels : Levels) : Type 0 where
@@ -57,7 +58,7 @@ pub record AreOrdered (p : PlainPeer) (levels : Levels) : Type 0 where
 
 -- the greatest amount that a peer may send: one that was written, or, where none was, as much as a packet can carry
 abbrev pub IsMaxPacket : ℕ → Type 0
-IsMaxPacket amount = (amount ≤ most_written) ⊎ (amount ≡ most_carried)
+IsMaxPacket amount = (amount ≤ most_written) ⊎ (amount ≡ most)
 
 -- a peer whose asset is one of so many
 pub record IsPeer (assets : ℕ) (p : PlainPeer) : Type 0 where
@@ -68,7 +69,7 @@ pub record IsPeer (assets : ℕ) (p : PlainPeer) : Type 0 where
   pub host : HasForm form.Place p.host
   pub out_path : HasForm form.Path p.out_path
   pub least : p.least ≤ℤ pos 0
-  pub fee_ppm : p.fee_ppm ≤ whole_ppm
+  pub fee_ppm : p.fee_ppm ≤ million
   pub max_packet : IsMaxPacket p.max_packet
   pub engine : IfSome p.engine (HasForm form.Place)
   pub levels : IfSome p.levels (AreOrdered p)

@@ -17,7 +17,7 @@ use Rattle.ilp_book.specs.Open.{earlier, numbered_hold, earliest_from, earliest}
 use Rattle.ilp_book.specs.Lawful.{IsLawful, IsOutcome}
 use Rattle.ilp_book.specs.AnswerStep.{preimage_of, verdict, ending, answer_booked, answer_step, due, expire_booked, expire_step}
 use Rattle.ilp_book.proofs.LawfulGrowth.{Admits, lawful_push, limits_now}
-use Rattle.ilp_book.proofs.Refused.{chosen, is_none_at, is_some_at, some_same}
+use Rattle.ilp_order.proofs.RefusalLemmas.{chosen, is_none_at, is_some_at, some_same}
 use Rattle.ilp_book.proofs.InTime.{in_time, calm}
 
 -- ---- verdicts

@@ -7,7 +7,7 @@ use Rattle.ilp_journal.specs.Journal.{Entries, hold_at, as_hold, is_unanswered, 
 use Rattle.ilp_book.specs.Book.{PlainBook, By, moment_at}
 use Rattle.ilp_book.specs.Open.{earlier, earliest, earliest_from, open_with_number, IsEarliest}
 use Rattle.ilp_book.specs.AnswerStep.{due, expire_booked, expire_step}
-use Rattle.ilp_book.proofs.Refused.{chosen, some_same}
+use Rattle.ilp_order.proofs.RefusalLemmas.{chosen, some_same}
 use Rattle.ilp_book.proofs.AnswerSteps.{earliest_stands, open_stands}
 
 -- which of three comes first does not rest on the order of asking

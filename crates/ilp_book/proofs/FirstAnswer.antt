@@ -12,7 +12,7 @@ use Rattle.ilp_journal.proofs.Naming.{answer_of-push, answer_of-append}
 use Rattle.ilp_book.specs.declared.calls.PeerReply.{PeerReply}
 use Rattle.ilp_book.specs.Book.{PlainBook, By, says, moment_at, entry_by, with_entry, pushed}
 use Rattle.ilp_book.specs.AnswerStep.{ending, answer_booked, answer_step, due, expire_booked, expire_step, extended, verdict, IsOverBy}
-use Rattle.ilp_book.proofs.Refused.{some_same, is_none_at, is_some_at}
+use Rattle.ilp_order.proofs.RefusalLemmas.{some_same, is_none_at, is_some_at}
 use Rattle.ilp_book.proofs.AnswerSteps.{open_stands, due_facts}
 
 names_it : (n : ℕ) (v : Result (List ℕ) Cause) → is_number n (answered (ending n v)) ≡ true

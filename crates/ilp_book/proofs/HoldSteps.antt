@@ -18,8 +18,8 @@ use Rattle.ilp_journal.specs.Journal.{Entries, open_count}
 use Rattle.ilp_journal.specs.Balance.{balance}
 use Rattle.ilp_journal.specs.TrialBalance.{total_in, total_out, has_asset}
 use Rattle.ilp_packet.specs.Packet.{PlainPrepare}
-use Rattle.ilp_lookup.specs.Answer.{route_of}
-use Rattle.ilp_lookup.proofs.RouteOf.{IsRoute-route_of}
+use Rattle.ilp_lookup.specs.Answer.{routed_peer}
+use Rattle.ilp_lookup.proofs.RoutedPeer.{IsRoute-routed_peer}
 use Rattle.ilp_book.specs.declared.calls.Held.{Held}
 use Rattle.ilp_book.specs.declared.fault.HoldFault.{HoldFault}
 use Rattle.ilp_book.specs.declared.fault.HoldFault.TheVariants as hold_fault
@@ -29,7 +29,7 @@ use Rattle.ilp_book.specs.Book.{PlainBook, By, Growth, granted, denied, moment_a
 use Rattle.ilp_book.specs.HoldStep.{Incoming, given_route, incoming, with_quote_fault, latest_answer, has_total, hold_terms, hold_fitted, hold_checked, hold_booked, hold_step}
 use Rattle.ilp_book.proofs.Known.{route_known, asset_is, covered}
 use Rattle.ilp_book.proofs.LawfulGrowth.{Admits, lawful_push, limits_now}
-use Rattle.ilp_book.proofs.Refused.{refused_not, found, bound, ok_same, not_true}
+use Rattle.ilp_order.proofs.RefusalLemmas.{refused_not, found, bound, ok_same, not_true}
 use Rattle.ilp_book.proofs.InTime.{in_time}
 
 quoted : {A B : Type 0} (r : Result A QuoteFault) (next : A → Result B HoldFault) (y : B) → (with_quote_fault r >>= next) ≡ Ok y → (x : A) × (r ≡ Ok x) × (next x ≡ Ok y)
@@ -184,10 +184,10 @@ hold_termed book new caller sent growth result h e does =
     subst (λ r. Does book new result (hold_booked book caller growth (r >>= λ x. hold_fitted book x))) (sym e) does
 
 -- a step by the route that was looked up is one by the route itself
-pub hold_by_route : (book new : PlainBook) (caller : By) (from : ℕ) (packet : PlainPrepare) (growth : Growth) (result : Result Held HoldFault) (route : Option ℕ) → route ≡ route_of book.config.routes packet.destination
+pub hold_by_route : (book new : PlainBook) (caller : By) (from : ℕ) (packet : PlainPrepare) (growth : Growth) (result : Result Held HoldFault) (route : Option ℕ) → route ≡ routed_peer book.config.routes packet.destination
     → Does book new result (hold_step book caller (given_route from packet route) growth) → Does book new result (hold_step book caller (incoming book.config from packet) growth)
 hold_by_route book new caller from packet growth result route e does = subst (λ o. Does book new result (hold_step book caller (given_route from packet o) growth)) e does
 
 -- the route that a destination has is its own
 pub own_route : (C : Configuration) (from : ℕ) (packet : PlainPrepare) → IsRoute C.routes packet.destination (incoming C from packet).route
-own_route C from packet = IsRoute-route_of C.routes packet.destination
+own_route C from packet = IsRoute-routed_peer C.routes packet.destination

@@ -16,7 +16,7 @@ use Rattle.ilp_journal.proofs.Naming.{stands_at-push}
 use Rattle.ilp_book.specs.Book.{PlainBook}
 use Rattle.ilp_book.specs.Open.{as_credit, credit_at, has_key, kept_at}
 use Rattle.ilp_book.specs.Lawful.{IsLawful, IsFreshCredit, IsCredit, IsGoodCredit}
-use Rattle.ilp_book.proofs.Refused.{some_same}
+use Rattle.ilp_order.proofs.RefusalLemmas.{some_same}
 
 -- where no place passes no element does
 none_passes : {X : Type 0} (test : X → Bool) (n : ℕ) (xs : List X) → first_from (λ _ x. test x) n xs ≡ None → (i : ℕ) (x : X) → slice_get xs i ≡ Some x → test x ≡ false

@@ -1,6 +1,5 @@
 pub mod Known
 pub mod LawfulGrowth
-pub mod Refused
 pub mod InTime
 pub mod HoldSteps
 pub mod AnswerSteps

@@ -5,7 +5,7 @@ use Rattle.std.specs.Int.{int_min}
 use Rattle.std.specs.Str.{bytes_eq}
 use Rattle.std.proofs.lemmas.Int.{ints, clamps}
 use Rattle.std.proofs.lemmas.Bool.{leb-true, ltb-true}
-use Rattle.ilp_order.specs.Refusals.{◌>>=◌, refuse_some}
+use Rattle.ilp_order.specs.Refusals.{◌>>=◌}
 use Rattle.ilp_assets.specs.Quote.{most}
 use Rattle.ilp_accounts.specs.declared.peer.Levels.{Levels}
 use Rattle.ilp_accounts.specs.Configuration.{Configuration, PlainPeer, peer_at}
@@ -31,7 +31,7 @@ use Rattle.ilp_book.specs.Lawful.{IsLawful, IsWithinLimits, most_open_asks, owed
 use Rattle.ilp_book.specs.SettleStep.{Payment, EngineVerdict, accepted, rejected, amount_of, kept, credit_fresh, credit_checked, credit_booked, credit_step, still_open, due_amount, ask_checked, ask_booked, ask_step, close_booked, close_step}
 use Rattle.ilp_book.proofs.Known.{peer_valid, covered}
 use Rattle.ilp_book.proofs.LawfulGrowth.{Admits, lawful_push, limits_now}
-use Rattle.ilp_book.proofs.Refused.{refused_not, found, ok_same, some_same, not_true, chosen, is_none_at, is_some_at}
+use Rattle.ilp_order.proofs.RefusalLemmas.{refused_not, none_refused, found, ok_same, some_same, not_true, chosen, is_none_at, is_some_at}
 use Rattle.ilp_book.proofs.InTime.{in_time, calm}
 
 -- the first place that passes has an element that does
@@ -197,10 +197,6 @@ few_open j peer e = of_test (nat_lt (open_asks j peer) most_open_asks) refl e
         of : (o : Option (ℕ × Ask)) → first_open_ask j peer ≡ o → option_map (λ (x : ℕ × Ask). ask_fault.StillOpen x.0 x.1.amount) o ≡ None → open_asks j peer < most_open_asks
         of None is e = omega (arith, none_open j peer is)
         of (Some x) is e = cc
-
-none_refused : {B E : Type 0} (o : Option E) (next : Result B E) (y : B) → (refuse_some o >>= λ _. next) ≡ Ok y → (o ≡ None) × (next ≡ Ok y)
-none_refused None next y e = (refl, e)
-none_refused (Some a) next y e = absurd cc
 
 -- what an ask that is booked has
 record AskFacts (book : PlainBook) (peer : ℕ) (a : Ask) : Type 0 where

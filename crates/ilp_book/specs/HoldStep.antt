@@ -5,7 +5,7 @@ use Rattle.ilp_order.specs.Refusals.{◌>>=◌, refuse_if, found_or}
 use Rattle.ilp_packet.specs.Packet.{PlainPrepare}
 use Rattle.ilp_assets.specs.declared.quote.QuoteFault.{QuoteFault}
 use Rattle.ilp_assets.specs.Quote.{most}
-use Rattle.ilp_lookup.specs.Answer.{route_of}
+use Rattle.ilp_lookup.specs.Answer.{routed_peer}
 use Rattle.ilp_accounts.specs.Configuration.{Configuration, peer_at}
 use Rattle.ilp_journal.specs.declared.entry.Hold.{Hold}
 use Rattle.ilp_journal.specs.declared.entry.What.TheVariants as what
@@ -28,7 +28,7 @@ given_route from packet route = record { from = from; packet = packet; route = r
 
 -- a Prepare with the route of its destination
 abbrev pub incoming : Configuration → ℕ → PlainPrepare → Incoming
-incoming C from packet = given_route from packet (route_of C.routes packet.destination)
+incoming C from packet = given_route from packet (routed_peer C.routes packet.destination)
 
 -- a refusal of the quote as one of the hold
 abbrev pub with_quote_fault : {A : Type 0} → Result A QuoteFault → Result A HoldFault

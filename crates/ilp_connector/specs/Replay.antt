@@ -114,17 +114,17 @@ text_of C script = text_from (new_book C) (lines_of script)
 -- ---- reading and writing
 
 -- a script was read to its end, and its whole text written
-pub record Replays (text : List ℕ → List ℕ) (unread left held holds : Option (List ℕ)) : Type 0 where
+pub record Replays (text : List ℕ → List ℕ) (unread left contents grown : Option (List ℕ)) : Type 0 where
   pub script : List ℕ
   pub read : IsReadWhole unread left script
   pub within : length script < 1048577
-  pub wrote : Appends held holds (text script)
+  pub wrote : Appends contents grown (text script)
 
 -- some octets were read, and a front of their text written
-pub record Stops (text : List ℕ → List ℕ) (unread left held holds : Option (List ℕ)) : Type 0 where
+pub record Stops (text : List ℕ → List ℕ) (unread left contents grown : Option (List ℕ)) : Type 0 where
   pub script : List ℕ
   pub read : Consumes unread left script
-  pub wrote : AppendsPrefix held holds (text script)
+  pub wrote : AppendsPrefix contents grown (text script)
 
 -- the refusal that a fault is printed as
 abbrev pub fault_refusal : ReplayFault → Refusal

@@ -1,7 +1,7 @@
 -- What is known where nothing was refused.
 use Rattle.std.proofs.Common.{◌≡◌, Bool, true, false, cond, not, Option, Some, None, refl}
 use Rattle.std.specs.Prelude.{Result, Ok, Err, IsSome, IsNone, is_none}
-use Rattle.ilp_order.specs.Refusals.{◌>>=◌, refuse_if, found_or}
+use Rattle.ilp_order.specs.Refusals.{◌>>=◌, refuse_if, refuse_some, found_or}
 
 -- ---- refusals in order
 
@@ -14,6 +14,11 @@ refused_not false fault next y e = (refl, e)
 pub found : {A B E : Type 0} (o : Option A) (fault : E) (next : A → Result B E) (y : B) → (found_or o fault >>= next) ≡ Ok y → (x : A) × (o ≡ Some x) × (next x ≡ Ok y)
 found None fault next y e = absurd cc
 found (Some x) fault next y e = (x, refl, e)
+
+-- nothing was found that refuses
+pub none_refused : {B E : Type 0} (o : Option E) (next : Result B E) (y : B) → (refuse_some o >>= λ _. next) ≡ Ok y → (o ≡ None) × (next ≡ Ok y)
+none_refused None next y e = (refl, e)
+none_refused (Some a) next y e = absurd cc
 
 -- what comes first was not refused, and neither was what follows it
 pub bound : {A B E : Type 0} (r : Result A E) (next : A → Result B E) (y : B) → (r >>= next) ≡ Ok y → (x : A) × (r ≡ Ok x) × (next x ≡ Ok y)
