@@ -20,7 +20,6 @@ use Rattle.ilp_fields.specs.Fields.{text_of}
 use Rattle.ilp_lookup.specs.Route.{Route, prefixes}
 use Rattle.ilp_accounts.specs.Configuration.{PlainPeer, fields_of, peer_from, peer_of, peer_names, peer_tokens, levels_from, route_of}
 use Rattle.ilp_accounts.specs.Faults.{is_among, fields_checks, fields_fault, levels_checks, levels_fault, are_ordered, peer_rules_checks, peer_rules_fault, peer_checks, peer_fault, route_checks, route_fault}
-
 use Rattle.ilp_accounts.specs.Valid.{AreOrdered, IsPeer, IsRouteTo}
 use Rattle.ilp_accounts.proofs.FieldLaws.{text_formed, text_formed_if, text_formed_or, number_ranged_or, max_packet_of}
 

@@ -9,7 +9,6 @@ use Rattle.ilp_fields.specs.declared.fault.Field.TheVariants as field
 use Rattle.ilp_accounts.specs.declared.peer.Levels.{Levels}
 use Rattle.ilp_fields.specs.Fields.{text_of, text_in, integer_of, integer_in, natural_of, natural_in, asset_of, elements_of, tables}
 
-
 -- what stands at the top; times in milliseconds, the journal in entries
 pub record PlainSettings : Type 0 where
   pub address : List ℕ

@@ -98,7 +98,7 @@ answer_keeps book caller n reply h lawful is =
     let v = verdict h (moment_at book.entries caller.now) reply in
     lawful_push book _ lawful (answer_admitted book caller n h v lawful open_hold.1 open_hold.0 (answer_outcome book.base book.entries n (moment_at book.entries caller.now) h reply open_hold.1))
 
--- the same of a moment and a verdict that are known by equations
+-- the entry of an answer keeps the book lawful, where its moment and its verdict are known by equations
 pub answer_keeps_at : (book : PlainBook) (caller : By) (n : ℕ) (reply : PeerReply) (h : Hold) (m : ℤ) (v : Result (List ℕ) Cause) → IsLawful book → open_hold_at book.entries n ≡ Some h
     → m ≡ moment_at book.entries caller.now → v ≡ verdict h m reply → IsLawful (pushed book (record { moment = m; actor = caller.actor; what = ending n v }))
 answer_keeps_at book caller n reply h m v lawful is at_moment said =
@@ -164,7 +164,7 @@ expire_keeps book caller n lawful is =
     let facts = due_facts book.entries (moment_at book.entries caller.now) n is in
     lawful_push book _ lawful (answer_admitted book caller n facts.0 (Err cause.Late) lawful facts.1 facts.2 (rw facts.1 (λ _. facts.3, λ _. refl)))
 
--- the same of a moment that is known by an equation
+-- the entry of a sweep keeps the book lawful, where its moment is known by an equation
 pub expire_keeps_at : (book : PlainBook) (caller : By) (n : ℕ) (m : ℤ) → IsLawful book → m ≡ moment_at book.entries caller.now → due book.entries m ≡ Some n
     → IsLawful (pushed book (record { moment = m; actor = caller.actor; what = what.Released n cause.Late }))
 expire_keeps_at book caller n m lawful at_moment is =

@@ -38,7 +38,7 @@ told_of_it book caller n k reply named = of (answer_of book.entries n) named
     of None e = absurd cc
     of (Some l) e = ap (λ c. says (Err (record { closer = c }))) named
 
--- and no sweep takes it
+-- no sweep takes a hold that has an answer
 not_due : (book : PlainBook) (caller : By) (n k : ℕ) (m : ℤ) → answer_of book.entries n ≡ Some k → (expire_booked book caller (due book.entries m)).reply ≡ Some n → ⊥
 not_due book caller n k m named = of (due book.entries m) refl
   where
@@ -71,7 +71,7 @@ first_answer book caller n h reply open_hold =
     subst (λ o. IsOverBy (with_entry book (answer_booked book caller n reply o).entry) n (length book.entries)) (sym open_hold)
     (over (pushed book e) n (length book.entries) (answered_by book.entries n e (open_stands book.entries n h open_hold).0 (names_it n v)))
 
--- and so does the sweep that takes it
+-- the sweep that takes a hold ends it
 pub first_expiry : (book : PlainBook) (caller : By) (n : ℕ) → (expire_step book caller).reply ≡ Some n
     → IsOverBy (with_entry book (expire_step book caller).entry) n (length book.entries)
 unfolding expire_step

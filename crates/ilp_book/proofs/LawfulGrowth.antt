@@ -104,7 +104,7 @@ pub limits_now : (book : PlainBook) → IsLawful book → IsWithinLimits book
 limits_now book lawful =
     by_push (λ es. Each (After book) es → IsWithinLimits (with_entries book es)) (λ _. lawful.empty) (λ es e _ h. (Each-parts (After book) es e h).1) book.entries lawful.limits
 
--- its last moment is of the years 1970 to 9999
+-- the last moment of a journal in time is of the years 1970 to 9999
 pub last_in_time : (j : Entries) → Each IsInTime j → (pos 0 ≤ℤ last_moment j) × (last_moment j ≤ℤ last_of_all)
 last_in_time = by_push (λ es. Each IsInTime es → (pos 0 ≤ℤ last_moment es) × (last_moment es ≤ℤ last_of_all)) (λ _. (omega (arith, ints), omega (arith, ints)))
     (λ es e _ each. let new : IsInTime es e = (Each-parts IsInTime es e each).1 in
@@ -122,7 +122,7 @@ limits_raised book raised later limits = record {
   totals_out = λ x. omega (arith, limits.totals_out x, total_out-raised (peer_assets book.config) book.base raised book.entries x later);
 }
 
--- and so is it lawful
+-- a lawful book whose base is raised is lawful
 pub lawful_raised : (book : PlainBook) (raised : ℕ) → book.base ≤ raised → IsLawful book → IsLawful (with_base book raised)
 lawful_raised book raised later lawful = record {
   answers = lawful.answers;

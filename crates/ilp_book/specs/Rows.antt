@@ -150,7 +150,7 @@ TotalRow c =
     answers_of (between alice bob) (at_ 0 (settles 0 (cents 18446744073709551615)) ∷ at_ 0 (pay c 18446744073709551615) ∷ at_ 0 (pay c 1) ∷ [])
     ≡ of_credit (Ok (record { number = 0; amount = 18446744073709551615; fresh = true })) ∷ accepted_as 1 18446744073709551615 ∷ refused_for hold_fault.TotalFull ∷ []
 
--- a journal of three entries takes one hold, and what closes it
+-- a journal of three entries takes one hold, and what ends it
 abbrev pub FullRow : List ℕ → Type 0
 FullRow c =
     let C = between alice bob in

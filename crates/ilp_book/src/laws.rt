@@ -26,7 +26,7 @@ pub fn runs_are_lawful()
     ensures balanced { (C : Configuration) (steps : List Step) (asset : ℕ)
         → IsValid C → AreAllowed C steps
         → IsBalanced (peer_assets C) (book_after (new_book C) steps).entries asset }
-    // So it is from every lawful book on, whatever its base.
+    // A lawful book stays lawful by every such list, whatever its base.
     ensures onward { (book : PlainBook) (steps : List Step)
         → IsValid book.config → IsLawful book → AreAllowed book.config steps
         → IsLawful (book_after book steps) }
@@ -67,7 +67,7 @@ pub fn first_answer_stands()
     ensures answered { (book : PlainBook) (caller : By) (n : ℕ) (h : Hold) (reply : PeerReply)
         → open_hold_at book.entries n ≡ Some h
         → IsOverBy (with_entry book (answer_step book caller n reply).entry) n
-            (length book.entries) }
+        (length book.entries) }
     ensures expired { (book : PlainBook) (caller : By) (n : ℕ)
         → (expire_step book caller).reply ≡ Some n
         → IsOverBy (with_entry book (expire_step book caller).entry) n (length book.entries) }

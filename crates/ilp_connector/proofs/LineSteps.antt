@@ -18,7 +18,7 @@ hold_line book new now same peer p outcome growth reply is ample told does =
     let done : Done now granted = subst (λ t. Done t granted) is (subst (Done same) ample does) in
     record { reply = told ∙ ap hold_reply done.reply; book = done.book }
 
--- the same of a reply that want of memory may take away
+-- a hold's reply is the line's, where want of memory does not take it away
 pub hold_lines : {E : Type 0} (book new : PlainBook) (now same : ℤ) (peer : ℕ) (p : PlainPrepare) (outcome : Result Held HoldFault) (growth : Growth) (told : Result LineReply E)
     → same ≡ now → IfOk told (λ reply. reply ≡ hold_reply outcome) → IfOk told (λ _. growth ≡ granted) → Does book new outcome (hold_step book (by 0 same) (incoming book.config peer p) growth)
     → IfOk told (λ reply. Does book new reply (hold_packet book now peer (Ok (prepare p))))

@@ -76,7 +76,7 @@ detail_text (AmountTooLarge max) = codes " " ++ decimal max
 detail_text (BelowLeast balance) = codes " " ++ signed_decimal balance
 detail_text _ = []
 
--- its name, and what it names
+-- the name of a refusal, and what it names
 abbrev pub named_text : Refusal → List ℕ
 named_text refusal = refusal_name refusal ++ detail_text refusal
 

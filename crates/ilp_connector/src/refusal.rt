@@ -92,7 +92,7 @@ pub enum Refusal {
 }
 
 impl Refusal {
-    /// Its number, which never changes.
+    /// The number of the refusal, which never changes.
     pub fn number(self) -> u8
         ensures { result ≡ refusal_number self }
     {
@@ -138,7 +138,7 @@ impl Refusal {
         }
     }
 
-    /// Its name.
+    /// The name of the refusal.
     pub fn name(self) -> &'static str
         ensures { result.now ≡ refusal_name self }
     {

@@ -235,7 +235,7 @@ pub total_in-raised : (assets : List ℕ) (base raised : ℕ) (j : Entries) (x :
 unfolding total_in
 total_in-raised assets base raised j x later = counted-raised base raised (amount_in assets x) j later
 
--- nor are the amounts out
+-- the amounts out since a later place are no more
 pub total_out-raised : (assets : List ℕ) (base raised : ℕ) (j : Entries) (x : ℕ) → base ≤ raised → total_out assets raised j x ≤ total_out assets base j x
 unfolding total_out
 total_out-raised assets base raised j x later = counted-raised base raised (amount_out assets x) j later
@@ -299,7 +299,7 @@ module _ (assets : List ℕ) (j : Entries) (e : Entry) (x : ℕ) where
   unfolding total_in
   total_in-push base each last = counted-push base (amount_in assets x) j e each last
 
-  -- and so do the amounts out
+  -- the amounts out since a place grow by a hold's, and fall by that of the hold that is released
   pub total_out-push : (base : ℕ) → Each AnswersOnce j → AnswersOnce j e
       → total_out assets base (j ++ e ∷ []) x + of_named j (amount_out assets x) (since base (released e.what))
       ≡ total_out assets base j x + cond (nat_le base (length j)) (of_hold (amount_out assets x) e.what) 0

@@ -25,7 +25,7 @@ rise j p (what.Asked a) = 0
 rise j p (what.Confirmed ask) = 0
 rise j p (what.Undone ask) = of_ask_at j ask (λ a. if a.peer == p then a.amount else 0)
 
--- by how much an entry lowers it
+-- by how much an entry lowers the balance of the peer p
 abbrev pub fall : ℕ → What → ℕ
 fall p (what.Hold h) = if h.from == p then h.amount else 0
 fall p (what.Asked a) = if a.peer == p then a.amount else 0

@@ -6,7 +6,7 @@ abbrev pub sum_from : {X : Type 0} → (ℕ → X → ℕ) → ℕ → List X �
 sum_from f n [] = 0
 sum_from f n (x ∷ xs) = f n x + sum_from f (n + 1) xs
 
--- the same of whole numbers
+-- the sum of whole numbers f of each place and element, the first place being n
 abbrev pub int_sum_from : {X : Type 0} → (ℕ → X → ℤ) → ℕ → List X → ℤ
 int_sum_from f n [] = pos 0
 int_sum_from f n (x ∷ xs) = f n x +ℤ int_sum_from f (n + 1) xs

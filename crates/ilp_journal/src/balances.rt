@@ -46,7 +46,7 @@ fn rise(entries: &[Entry], peer: u32, what: &What) -> u64
     }
 }
 
-// By how much an entry lowers it.
+// By how much an entry lowers the balance of a peer.
 fn fall(peer: u32, what: &What) -> u64
     ensures { result ≡ fall peer what.now }
 {

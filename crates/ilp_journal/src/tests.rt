@@ -55,10 +55,7 @@ fn each_kind_moves_balances(rt: HostRuntime) -> Result<(), Fail> {
     for (what, balances) in [
         (hold(0, 1, 1000, 13, 987), [-1000, 0]),
         (hold(1, 0, 400, 4, 132), [-1000, -400]),
-        (
-            credited(&rt, 1, u64::MAX),
-            [-1000, 18446744073709551215],
-        ),
+        (credited(&rt, 1, u64::MAX), [-1000, 18446744073709551215]),
         (fulfilled(0), [-1000, 18446744073709552202]),
         (
             What::Asked(Ask {
@@ -77,10 +74,7 @@ fn each_kind_moves_balances(rt: HostRuntime) -> Result<(), Fail> {
             [-1000, 18446744073709552552],
         ),
         (What::Confirmed { ask: 7 }, [-1000, 18446744073709552552]),
-        (
-            credited(&rt, 1, u64::MAX),
-            [-1000, 36893488147419104167],
-        ),
+        (credited(&rt, 1, u64::MAX), [-1000, 36893488147419104167]),
         (released(4, Cause::Late), [-1000, 36893488147419104167]),
         (fulfilled(99), [-1000, 36893488147419104167]),
     ] {

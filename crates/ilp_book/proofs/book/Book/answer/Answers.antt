@@ -12,7 +12,7 @@ close-entry-requires-clause-lawful g c =
     answer_keeps_at c.args.self.now (by c.args.actor (to_z w64 (of_z w64 c.args.now))) c.args.number c.args.reply c.in-Some.hold (to_z w64 (of_z w64 c.moment_at-moment.result)) (Ok c.in-Ok.preimage)
     c.in-Some.ensures.lawful (sym c.in-Some.ensures.value) (to_z-of_z fits ∙ c.moment_at-moment.ensures.moment) c.in-Ok.ensures
 
--- and so is a release
+-- a release is lawful
 pub close-entry-requires-in-Err-clause-lawful : goal.close-entry-requires-in-Err-clause-lawful
 close-entry-requires-in-Err-clause-lawful g c =
     let fits : FitsSigned w64 c.moment_at-moment.result = search rules in

@@ -42,7 +42,7 @@ returns-clause-step g c =
     hold_termed book c.book_hold.new.self (by c.args.actor c.args.now) sent (growth_of c.book_hold.result) c.book_hold.result c.in_ok-hold.hold
     (subst Termed moment terms) (subst Done (to_z-of_z w64 c.args.now fits) c.book_hold.ensures.step)
 
--- and so are those that were refused
+-- the terms that were refused are those at the moment of the call
 pub returns-in_err-hold-clause-step : goal.returns-in_err-hold-clause-step
 returns-in_err-hold-clause-step g c =
     let book = c.args.self.now in
