@@ -21,14 +21,13 @@ ghost use Rattle.ilp_book.specs.AnswerStep.{answer_step, expire_step};
 use crate::answers::{earliest_open, open_hold_at, verdict};
 use crate::calls::{Held, Outcome, PeerReply, Sums};
 use crate::fault::{HoldFault, NotOpen};
-use crate::moments::last_moment;
+use crate::moments::moment_at;
 use crate::settlements::settled;
 use crate::terms::hold_terms;
 use crate::totals::{Total, total_of};
 use ilp_accounts::Config;
 use ilp_journal::{Cause, Entry, Hold, Journal, What};
 use ilp_packet::Prepare;
-use ilp_terms::LAST_OF_ALL;
 use std::alloc::{AllocError, Allocator, Global};
 use std::marker::Model;
 
@@ -323,7 +322,7 @@ impl<A: Allocator> Book<A> {
         ensures last { result ≤ℤ last_of_all }
         ensures lawful { IsLawful self.now }
     {
-        now.min(LAST_OF_ALL).max(0).max(last_moment(&self.journal))
+        moment_at(&self.journal, now)
     }
 
     // Books a hold of allowed terms, if there is room, totals and balance for it.

@@ -1,12 +1,22 @@
-use Rattle.std.proofs.Common.{arith, rules, to_z-of_z}
-use Rattle.std.specs.Prelude.{FitsSigned}
+use Rattle.std.proofs.Common.{ℤ, pos, sym, subst, ◌∙◌, rules, to_z, of_z, to_z-of_z}
+use Rattle.std.specs.Prelude.{◌≤ℤ◌, FitsSigned}
 use Rattle.std.specs.Int.{w64}
-use Rattle.std.proofs.lemmas.Int.{ints, clamps}
-use Rattle.ilp_book.proofs.LawfulGrowth.{last_in_time}
+use Rattle.ilp_terms.specs.Expiry.{last_of_all}
+use Rattle.ilp_journal.specs.declared.entry.What.TheVariants as what
+use Rattle.ilp_book.specs.Book.{by}
+use Rattle.ilp_book.specs.Parts.{book_of}
+use Rattle.ilp_book.proofs.InTime.{in_time}
 use Rattle.ilp_book.proofs.book.Book.moment_at.Goals as goal
 
+-- an entry of a lawful book at this moment would be in time
 pub returns-clause-last : goal.returns-clause-last
 returns-clause-last g c =
-    let last = (last_in_time c.self.inside.journal.entries c.self.invariant.lawful.moments).1 in
-    let fits : FitsSigned w64 c.max-2.result = search rules in
-    rw (to_z-of_z fits) (omega (arith, ints, clamps, last, c.last_moment.ensures, c.min.ensures.value, c.max.ensures.value, c.max-2.ensures.value))
+    let fits : FitsSigned w64 c.moment_at.result = search rules in
+    let timely = in_time (book_of c.self.inside.config c.self.inside.base c.self.inside.journal) (by 0 (to_z w64 (of_z w64 c.args.now))) (what.Confirmed 0) c.self.invariant.lawful in
+    subst (λ m. m ≤ℤ last_of_all) (sym (to_z-of_z fits ∙ c.moment_at.ensures)) timely.last
+
+pub returns-clause-first : goal.returns-clause-first
+returns-clause-first g c =
+    let fits : FitsSigned w64 c.moment_at.result = search rules in
+    let timely = in_time (book_of c.self.inside.config c.self.inside.base c.self.inside.journal) (by 0 (to_z w64 (of_z w64 c.args.now))) (what.Confirmed 0) c.self.invariant.lawful in
+    subst (λ m. pos 0 ≤ℤ m) (sym (to_z-of_z fits ∙ c.moment_at.ensures)) timely.first
