@@ -1,5 +1,5 @@
 -- What a script prints, and what a replay reads and writes.
-use Rattle.std.specs.Prelude.{ℕ, ◌<◌, ℤ, List, [], ◌∷◌, ◌++◌, length, Option, Some, None, Result, Ok, Err}
+use Rattle.std.specs.Prelude.{ℕ, ◌≤◌, ℤ, List, [], ◌∷◌, ◌++◌, length, Option, Some, None, Result, Ok, Err}
 use Rattle.std.specs.Io.KnownBytes.{Consumes, Appends}
 use Rattle.hex.specs.Hex.{decode_of}
 use Rattle.hex.specs.declared.error.FromHexError.{FromHexError}
@@ -27,7 +27,7 @@ use Rattle.ilp_connector.specs.declared.reply.LineReply.TheVariants as replies
 use Rattle.ilp_connector.specs.declared.runner.ReplayFault.{ReplayFault}
 use Rattle.ilp_connector.specs.declared.runner.ReplayFault.TheVariants as replay_fault
 use Rattle.ilp_connector.specs.Refusals.{packet_refusal}
-use Rattle.ilp_connector.specs.Script.{lines_of, Form, hold, answer, expire, report, silent, bad, form_of}
+use Rattle.ilp_connector.specs.Script.{most_script, lines_of, Form, hold, answer, expire, report, silent, bad, form_of}
 use Rattle.ilp_connector.specs.Text.{reply_text}
 
 -- ---- one line
@@ -117,7 +117,7 @@ text_of C script = text_from (new_book C) (lines_of script)
 pub record Replays (text : List ℕ → List ℕ) (unread left contents grown : Option (List ℕ)) : Type 0 where
   pub script : List ℕ
   pub read : IsReadWhole unread left script
-  pub within : length script < 1048577
+  pub within : length script ≤ most_script
   pub wrote : Appends contents grown (text script)
 
 -- some octets were read, and a front of their text written
