@@ -57,7 +57,7 @@ pub(crate) fn refused(refusal: Refusal, why: Result<String, AllocError>) -> Endi
     }
 }
 
-/// A reader that keeps the error of its last read that failed.
+// A reader that keeps the error of its last read that failed.
 #[derive(Drop)]
 struct Noting<R> {
     reader: R,

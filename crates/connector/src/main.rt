@@ -16,7 +16,7 @@ use std::rt::Runtime;
 
 const USAGE: &str = "usage: connector packet HEX, check CONFIG, replay CONFIG, serve CONFIG";
 
-/// How the program ended.
+// How the program ended.
 #[derive(Drop)]
 enum Ending {
     Done,

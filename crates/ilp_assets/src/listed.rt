@@ -14,6 +14,7 @@ pub(crate) struct Listed<A: Allocator> {
 }
 
 impl<A: Allocator> Listed<A> {
+    /// The asset with a code of its own. `AllocError` tells that memory is short.
     pub(crate) fn of(alloc: A, asset: Asset<'_>) -> Result<Listed<A>, AllocError>
         ensures { IfOk result (λ listed. plain_listed listed ≡ plain_asset asset.entry) }
     {
@@ -23,6 +24,7 @@ impl<A: Allocator> Listed<A> {
         })
     }
 
+    /// The asset as it is told to callers.
     pub(crate) fn asset(&self) -> Asset<'_>
         ensures { plain_asset result ≡ plain_listed self.now }
     {

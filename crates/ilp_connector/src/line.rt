@@ -17,7 +17,7 @@ use ilp_journal::Cause;
 use ilp_packet::Packet;
 use std::alloc::{AllocError, Allocator};
 
-/// The actor that a script's entries are booked by.
+// The actor that a script's entries are booked by.
 const ACTOR: u32 = 0;
 
 /// Runs one line. Where memory is denied, nothing was booked.

@@ -4,7 +4,7 @@ ghost use Rattle.ilp_journal.specs.Keys.{IsKey};
 
 use std::marker::Model;
 
-/// The most octets of a key.
+// The most octets of a key.
 const LONGEST: usize = 128;
 
 /// The key under which a peer's settlement engine names a settlement, so that it is credited once

@@ -49,6 +49,7 @@ impl<A: Allocator + Copy> RouteIndex<A> {
         self.peers.len()
     }
 
+    /// Whether there is no route.
     pub fn is_empty(&self) -> bool
         ensures { IsTrue result ↔ (self.now ≡ []) }
     {

@@ -44,6 +44,7 @@ impl<A: Allocator + Copy> TextIndex<A> {
         self.texts.len() as u32
     }
 
+    /// Whether there is no text.
     pub fn is_empty(&self) -> bool
         ensures { IsTrue result ↔ (self.now ≡ []) }
     {

@@ -6,11 +6,13 @@ ghost use Rattle.ilp_packet.specs.Reading.{Gives, reading, fault_of};
 use crate::contents::{read_content, read_fulfill, read_prepare, read_reject};
 use crate::fault::PacketFault;
 
-/// The type octets of the packets.
+/// The type octet of a Prepare.
 pub(crate) const PREPARE: u8 = 12;
 
+/// The type octet of a Fulfill.
 pub(crate) const FULFILL: u8 = 13;
 
+/// The type octet of a Reject.
 pub(crate) const REJECT: u8 = 14;
 
 /// A packet, whose fields are slices of the octets that it was read from.

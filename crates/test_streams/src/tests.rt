@@ -5,5 +5,5 @@ mod reading;
 mod replaying;
 mod writing;
 
-/// More growths than any of these calls makes.
+// More growths than any of these calls makes.
 const GROWTHS: u64 = 1_000;

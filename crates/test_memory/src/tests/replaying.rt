@@ -9,20 +9,20 @@ use std::process::Abort;
 use std::test::Fail;
 use test_allocator::DenyingAllocator;
 
-/// A Fulfill of 32 zero octets, without data.
+// A Fulfill of 32 zero octets, without data.
 const FULFILL: &str = "0d21000000000000000000000000000000000000000000000000000000000000000000";
 
-/// A Fulfill of 32 octets `01`, without data.
+// A Fulfill of 32 octets `01`, without data.
 const OTHER_FULFILL: &str =
     "0d21010101010101010101010101010101010101010101010101010101010101010100";
 
-/// A Reject of the code F99, without triggeredBy, message and data.
+// A Reject of the code F99, without triggeredBy, message and data.
 const REJECT: &str = "0e06463939000000";
 
-/// The size of the pieces that a script is read in.
+// The size of the pieces that a script is read in.
 const PIECE: usize = 50;
 
-/// The most octets of a script.
+// The most octets of a script.
 const MAX_SCRIPT: usize = 1_048_576;
 
 // A line of each form, and of each reply. The holds' deadline is 29 seconds after the first moment.
@@ -52,7 +52,7 @@ fn each_form(alloc: Global) -> Result<String, AllocError> {
     )
 }
 
-/// What these lines print.
+// What these lines print.
 const EACH_TEXT: &str = "held 0 to bob out 100\n\
     entry 1 fulfilled 0\n\
     held 2 to alice out 100\n\

@@ -9,10 +9,10 @@ use std::process::Abort;
 use std::test::Fail;
 use test_allocator::DenyingAllocator;
 
-/// A Fulfill of 32 zero octets with the data `0a`.
+// A Fulfill of 32 zero octets with the data `0a`.
 const FULFILL: &str = "0d220000000000000000000000000000000000000000000000000000000000000000010a";
 
-/// A Reject of the code T01 by test.hub, with the message `no` and the data `00ff`.
+// A Reject of the code T01 by test.hub, with the message `no` and the data `00ff`.
 const REJECT: &str = "0e1254303108746573742e687562026e6f0200ff";
 
 // Reads a packet, and writes it behind what is there.

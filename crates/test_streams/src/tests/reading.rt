@@ -7,7 +7,7 @@ use std::process::Abort;
 use std::test::Fail;
 use test_allocator::DenyingAllocator;
 
-/// How many octets are read: more than two reads ask for.
+// How many octets are read: more than two reads ask for.
 const LENGTH: usize = 10_000;
 
 // Octets of which no two pieces that follow each other are alike.
