@@ -36,7 +36,7 @@ abbrev pub ending : ℕ → Result (List ℕ) Cause → What
 ending n (Ok preimage) = what.Fulfilled n preimage
 ending n (Err c) = what.Released n c
 
--- what is told of its entry
+-- what is told of the entry by which a hold ended
 abbrev pub outcome_of : ℕ → Result (List ℕ) Cause → Outcome
 outcome_of number (Ok preimage) = outcome.Fulfilled number
 outcome_of number (Err c) = outcome.Released number c

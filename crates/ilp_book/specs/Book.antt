@@ -78,7 +78,7 @@ abbrev pub appended : Entries → Option Entry → Entries
 appended j None = j
 appended j (Some e) = j ++ e ∷ []
 
--- the book with that entry
+-- the book with the entry that a call makes, if it makes one
 abbrev pub with_entry : PlainBook → Option Entry → PlainBook
 with_entry book entry = with_entries book (appended book.entries entry)
 

@@ -35,7 +35,7 @@ abbrev pub with_quote_fault : {A : Type 0} → Result A QuoteFault → Result A 
 with_quote_fault (Ok x) = Ok x
 with_quote_fault (Err fault) = Err (hold_fault.Quote fault)
 
--- the latest moment at which the next peer can still answer
+-- the moment from which on the next peer answers too late
 abbrev pub latest_answer : Configuration → PlainPrepare → ℤ
 latest_answer C packet = packet.expires -ℤ pos C.settings.window_ms
 

@@ -46,11 +46,11 @@ new_year = 1735689600000
 abbrev pub prepare : List ℕ → ℕ → PlainPrepare
 prepare condition amount = record { amount = amount; expires = pos (new_year + 30000); condition = condition; destination = codes "test.bob"; payload = [] }
 
--- a peer sends it, and it is routed to a peer or to none
+-- a peer sends a Prepare, and it is routed to a peer or to none
 abbrev pub sends : ℕ → PlainPrepare → Option ℕ → Call
 sends from packet route = hold (record { from = from; packet = packet; route = route })
 
--- alice sends it to bob
+-- alice sends bob so many cents
 abbrev pub pay : List ℕ → ℕ → Call
 pay condition amount = sends 0 (prepare condition amount) (Some 1)
 
@@ -74,7 +74,7 @@ at_ n call = record { caller = by 0 (pos (new_year + n)); call = call; growth = 
 abbrev pub answers_of : Configuration → List Step → List CallReply
 answers_of C steps = replies_to (new_book C) steps
 
--- what they leave in its journal
+-- what steps leave in the journal of a new book
 abbrev pub entries_of : Configuration → List Step → Entries
 entries_of C steps = (book_after (new_book C) steps).entries
 

@@ -85,7 +85,7 @@ still_open j peer =
     if nat_lt (open_asks j peer) most_open_asks then None
     else option_map (λ (x : ℕ × Ask). ask_fault.StillOpen x.0 x.1.amount) (first_open_ask j peer)
 
--- what is asked for, where the balance is at the threshold
+-- what is asked for, where the balance is at the threshold or above it
 abbrev pub due_amount : ℤ → Option Levels → Option ℕ
 due_amount balance None = None
 due_amount balance (Some l) = if int_le l.threshold balance then Some (nat_abs (owed_above balance l.settle_to)) else None
@@ -117,7 +117,7 @@ pub data EngineVerdict : Type 0 where
   accepted : EngineVerdict
   rejected : EngineVerdict
 
--- what is booked of its verdict on the settlement n
+-- what is booked of an engine's verdict on the settlement n
 abbrev pub closing_of_verdict : ℕ → EngineVerdict → What
 closing_of_verdict n accepted = what.Confirmed n
 closing_of_verdict n rejected = what.Undone n

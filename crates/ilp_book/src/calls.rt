@@ -25,7 +25,7 @@ pub enum PeerReply {
     BadFulfil,
     /// A Reject with this code.
     Reject([u8; 3]),
-    /// Nothing, or nothing that could be read.
+    /// No Fulfill and no Reject that could be read.
     NoReply,
 }
 

@@ -33,7 +33,8 @@ pub enum HoldFault {
     /// The journal has no room for the hold and the entry that ends it.
     #[error("the journal is full")]
     Full,
-    /// The open and the fulfilled holds of an asset would come to more than a packet carries.
+    /// The open and the fulfilled holds since the base would come to more than a packet carries, in
+    /// the sender's asset or in the receiver's.
     #[error("the holds of an asset come to too much")]
     TotalFull,
     /// The sender's balance, which is this, would fall below its least.

@@ -9,7 +9,7 @@ use ilp_journal::Journal;
 use ilp_terms::LAST_OF_ALL;
 use std::alloc::Allocator;
 
-//// The moment of a call at the time `now`: of the years 1970 to 9999, and never before the last
+/// The moment of a call at the time `now`: of the years 1970 to 9999, and never before the last
 /// entry's.
 pub(crate) fn moment_at<A: Allocator>(journal: &Journal<A>, now: i64) -> i64
     ensures { result ≡ moment_at journal.now.entries now }

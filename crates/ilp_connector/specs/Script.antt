@@ -19,7 +19,7 @@ lines_of (octet ∷ octets) = if octet == 10 then [] ∷ lines_of octets else on
 abbrev pub HasNoneBelow : ℕ → List ℕ → ℕ → Type 0
 HasNoneBelow octet text end = (k : ℕ) → k < end → slice_index text k ≢ octet
 
--- it stands there first
+-- an octet stands at a place, and nowhere before it
 abbrev pub StandsFirst : ℕ → List ℕ → ℕ → Type 0
 StandsFirst octet text end = (end < length text) × (slice_index text end ≡ octet) × HasNoneBelow octet text end
 
@@ -40,10 +40,11 @@ is_printable octet = nat_le 32 octet && nat_le octet 126
 abbrev pub number_in : ℕ → List ℕ → Option ℕ
 number_in most text = if nat_le 1 (length text) && nat_le (length text) most && list_all is_ascii_digit text then Some (digits_value 10 text) else None
 
--- the most digits of a moment, and those of an entry's number
+-- the most digits of a moment
 abbrev pub moment_digits : ℕ
 moment_digits = 15
 
+-- the most digits of an entry's number
 abbrev pub entry_digits : ℕ
 entry_digits = 9
 

@@ -26,7 +26,8 @@ pub fn read_config<S: Source, A: Allocator + Copy>(
     ensures part { OnErr result
         (ConsumesUpTo (S.remaining reader.old) (S.remaining reader.new) (most_config + 1)) }
 
-    // A configuration is unread just where a read failed, or there were more octets.
+    // A configuration is unread only where a read failed, or where there were more octets. A read
+    // that failed gives nothing else, and more octets never give Ok.
     ensures unread { IsErrOf result Refusal.ConfigUnread
         → TalliesUpTo (S.tally reader.old) (S.tally reader.new) (most_config + 1) 1
         ⊎ IsBeyond most_config (S.tally reader.old) (S.tally reader.new)

@@ -14,7 +14,7 @@ pub(crate) fn split_line(text: &[u8]) -> (&[u8], &[u8])
     }
 }
 
-/// The place of the first of these octets.
+/// The place of the first octet that is the wanted one.
 pub(crate) fn first_place(text: &[u8], wanted: u8) -> Option<usize>
     ensures found { IfSome result (StandsFirst wanted text.now) }
     ensures none { IfNone result (HasNoneBelow wanted text.now (length text.now)) }

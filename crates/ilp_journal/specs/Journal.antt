@@ -18,33 +18,33 @@ last_moment j = fold (λ _ (e : Entry). e.moment) (pos 0) j
 
 -- ---- what an entry is
 
--- the hold that it opens
+-- the hold that an entry opens
 abbrev pub as_hold : What → Option Hold
 as_hold (what.Hold h) = Some h
 as_hold _ = None
 
--- the settlement that it opens
+-- the settlement that an entry opens
 abbrev pub as_ask : What → Option Ask
 as_ask (what.Asked a) = Some a
 as_ask _ = None
 
--- the number of the hold that it answers
+-- the number of the hold that an entry answers
 abbrev pub answered : What → Option ℕ
 answered (what.Fulfilled hold preimage) = Some hold
 answered (what.Released hold cause) = Some hold
 answered _ = None
 
--- the number of the hold that it fulfills
+-- the number of the hold that an entry fulfills
 abbrev pub fulfilled : What → Option ℕ
 fulfilled (what.Fulfilled hold preimage) = Some hold
 fulfilled _ = None
 
--- the number of the hold that it releases
+-- the number of the hold that an entry releases
 abbrev pub released : What → Option ℕ
 released (what.Released hold cause) = Some hold
 released _ = None
 
--- the number of the settlement that it closes
+-- the number of the settlement that an entry closes
 abbrev pub closed : What → Option ℕ
 closed (what.Confirmed ask) = Some ask
 closed (what.Undone ask) = Some ask
@@ -137,7 +137,7 @@ opening (what.Hold h) = 1
 opening (what.Asked a) = 1
 opening _ = 0
 
--- how many it closes
+-- how many holds and settlements an entry ends
 abbrev pub closing : What → ℕ
 closing (what.Fulfilled hold preimage) = 1
 closing (what.Released hold cause) = 1

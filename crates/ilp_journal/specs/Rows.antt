@@ -22,7 +22,7 @@ bob = 1
 abbrev pub entry_at : ℕ → What → Entry
 entry_at moment w = record { moment = pos moment; actor = 0; what = w }
 
--- what she asks for
+-- alice's hold: 100 units for bob, of which 3 are the fee
 abbrev pub terms : Hold
 terms = record { from = alice; to = bob; amount = 100; fee = 3; out = 97; deadline = pos 29000; condition = replicate 32 7 }
 
@@ -148,7 +148,7 @@ pub record Books : Type 0 where
   pub sold : ℕ
   pub settled : ℤ
 
--- those that a journal comes to
+-- the sums of an asset that a journal comes to
 abbrev pub books_of : Entries → ℕ → Books
 books_of j x = record {
   balances = books.balances assets j x;

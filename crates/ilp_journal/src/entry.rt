@@ -129,7 +129,7 @@ pub enum Cause {
     Late,
     /// The preimage does not meet the condition.
     WrongPreimage,
-    /// The receiver gave no answer that could be read.
+    /// The receiver gave no Fulfill and no Reject that could be read.
     NoReply,
     /// The receiver rejected the Prepare, with this code (RFC 0027).
     Peer([u8; 3]),
