@@ -6,6 +6,7 @@ use crate::arrays::{Arrays, arrays_of};
 use crate::assets::{asset_from, table_of};
 use crate::peers::peers_of;
 use crate::route::routes_of;
+use ilp_assets::AssetTable;
 use ilp_fields::{ConfigFault, Field, Form, required_text};
 use std::alloc::{AllocError, Global};
 use std::fmt;
@@ -142,9 +143,18 @@ fn read(alloc: Global, arrays: Arrays<'_>) -> Result<(), ConfigFault>
     requires { length arrays.peers.now ≤ most_peers }
 {
     let assets = table_of(alloc, arrays)?;
-    let peers = peers_of(alloc, &assets, arrays.peers)?;
-    routes_of(alloc, &peers, arrays.routes)?;
-    Ok(())
+    read_peers(alloc, &assets, arrays)
+}
+
+// Reads peers and routes beside the assets, and gives up what they make.
+fn read_peers(alloc: Global, assets: &AssetTable, arrays: Arrays<'_>) -> Result<(), ConfigFault>
+    requires { length arrays.peers.now ≤ most_peers }
+{
+    let peers = peers_of(alloc, assets, arrays.peers)?;
+    match routes_of(alloc, &peers, arrays.routes) {
+        Ok(_) => Ok(()),
+        Err(fault) => Err(fault),
+    }
 }
 
 // How many tables the arrays have.
