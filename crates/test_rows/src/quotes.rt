@@ -27,52 +27,55 @@ fn print_quote<R: Print + AllocGlobal>(rt: &R, row: &str) -> io::Result<()> {
     }
 }
 
-// The quote of a row, which has two scales, the price's p and q, the millionths of the fee, and an
-// amount.
-fn quoted(alloc: Global, row: &str) -> Result<Result<Quote, QuoteFault>, RowFault> {
-    let Some([from, to, p, q, ppm, amount]) = numbers(row) else {
-        return Err(RowFault::NotUnderstood);
-    };
-    let (Ok(from), Ok(to)) = (u8::try_from(from), u8::try_from(to)) else {
-        return Err(RowFault::NotUnderstood);
-    };
-    let (Ok(p), Ok(q), Ok(ppm)) = (u32::try_from(p), u32::try_from(q), u32::try_from(ppm)) else {
-        return Err(RowFault::NotUnderstood);
-    };
-    if ppm > MOST_PPM {
-        return Err(RowFault::NotUnderstood);
-    }
-    between(alloc, (from, to), (p, q), ppm, amount)
-}
-
-fn numbers(row: &str) -> Option<[u64; 6]> {
-    let mut numbers = [0; 6];
-    let mut words = row.split(' ');
-    for number in &mut numbers {
-        *number = words.next()?.parse::<u64>().ok()?;
-    }
-    Some(numbers)
-}
-
-// What an amount becomes from one scale to another at the price p / q.
-fn between(
-    alloc: Global,
-    scales: (u8, u8),
-    price: (u32, u32),
+// What a row has: two scales, the price's p and q, the millionths of the fee, and an amount.
+#[derive(Clone, Copy)]
+struct Given {
+    from: u8,
+    to: u8,
+    p: u32,
+    q: u32,
     ppm: u32,
     amount: u64,
-) -> Result<Result<Quote, QuoteFault>, RowFault>
-    requires { ppm ≤ 1000000 }
+}
+
+fn read_given(row: &str) -> Option<Given> {
+    let mut words = row.split(' ');
+    Some(Given {
+        from: words.next()?.parse::<u8>().ok()?,
+        to: words.next()?.parse::<u8>().ok()?,
+        p: words.next()?.parse::<u32>().ok()?,
+        q: words.next()?.parse::<u32>().ok()?,
+        ppm: words.next()?.parse::<u32>().ok()?,
+        amount: words.next()?.parse::<u64>().ok()?,
+    })
+}
+
+fn quoted(alloc: Global, row: &str) -> Result<Result<Quote, QuoteFault>, RowFault> {
+    match read_given(row) {
+        Some(given) if given.ppm <= MOST_PPM => between(alloc, given),
+        _ => Err(RowFault::NotUnderstood),
+    }
+}
+
+// What the amount becomes from one scale to the other.
+fn between(alloc: Global, given: Given) -> Result<Result<Quote, QuoteFault>, RowFault>
+    requires { given.ppm ≤ 1000000 }
 {
+    let Given {
+        p,
+        q,
+        ppm,
+        amount,
+        ..
+    } = given;
     let from = Asset {
         code: "FROM",
-        scale: scales.0,
+        scale: given.from,
     };
     let to = Asset {
         code: "TO",
-        scale: scales.1,
+        scale: given.to,
     };
-    let (p, q) = price;
     match AssetTable::new(alloc, &[from, to], &[Price { from, to, p, q }]) {
         Ok(table) => Ok(table.quote(0, 1, ppm, amount)),
         Err(AssetFault::Memory) => Err(RowFault::Memory),
