@@ -16,35 +16,39 @@ fn fill_up<A: Allocator>(rt: &impl Abort, out: &mut Octets<A>) {
 }
 
 #[test]
-fn reserving(rt: HostRuntime) -> Result<(), Fail> {
+fn reserving(rt: HostRuntime) {
     for granted in 0..GROWTHS {
         let heap = DenyingAllocator::after(rt.alloc(), granted);
         let mut out = Octets::new(&heap);
-        let outcome = out.reserve(3);
-        if heap.has_denied() {
-            assert_eq!(rt; outcome, Err(AllocError), "the first");
-            assert!(rt; out.as_slice().is_empty());
-            assert_eq!(rt; out.spare(), 0);
-            continue;
+        let outcome = reserve_twice(&rt, &mut out);
+        if !heap.has_denied() {
+            assert_eq!(rt; outcome, Ok(()));
+            assert_eq!(rt; granted, 2, "each call grows once");
+            return;
         }
-        outcome?;
-        assert!(rt; out.spare() >= 3);
-        out.append(b"abc")?;
-        let spare = out.spare();
-        let outcome = out.reserve(1_000);
-        assert_eq!(rt; out.as_slice(), b"abc".as_slice());
-        if heap.has_denied() {
-            assert_eq!(rt; outcome, Err(AllocError), "the second");
-            assert_eq!(rt; out.spare(), spare);
-            continue;
-        }
-        outcome?;
-        assert!(rt; out.spare() >= 1_000);
-        assert_eq!(rt; granted, 2, "each call grows once");
-        return Ok(());
+        assert_eq!(rt; outcome, Err(AllocError), "after {granted} growths");
     }
     assert!(rt; false, "some growth was always denied");
-    Ok(())
+}
+
+// Reserves twice, and takes octets in between.
+fn reserve_twice<A: Allocator>(rt: &impl Abort, out: &mut Octets<A>) -> Result<(), AllocError> {
+    if let Err(fault) = out.reserve(3) {
+        assert!(rt; out.as_slice().is_empty());
+        assert_eq!(rt; out.spare(), 0);
+        return Err(fault);
+    }
+    assert!(rt; out.spare() >= 3);
+    out.append(b"abc")?;
+    let spare = out.spare();
+    let outcome = out.reserve(1_000);
+    assert_eq!(rt; out.as_slice(), b"abc".as_slice());
+    if outcome.is_err() {
+        assert_eq!(rt; out.spare(), spare);
+    } else {
+        assert!(rt; out.spare() >= 1_000);
+    }
+    outcome
 }
 
 #[test]
@@ -63,34 +67,36 @@ fn reserving_more_than_there_can_be(rt: HostRuntime) -> Result<(), Fail> {
 }
 
 #[test]
-fn appending(rt: HostRuntime) -> Result<(), Fail> {
+fn appending(rt: HostRuntime) {
     for granted in 0..GROWTHS {
         let heap = DenyingAllocator::after(rt.alloc(), granted);
         let mut out = Octets::new(&heap);
-        let outcome = out.append(b"abc");
-        if heap.has_denied() {
-            assert_eq!(rt; outcome, Err(AllocError), "the first");
-            assert!(rt; out.as_slice().is_empty());
-            assert_eq!(rt; out.spare(), 0);
-            continue;
+        let outcome = append_twice(&rt, &mut out);
+        if !heap.has_denied() {
+            assert_eq!(rt; outcome, Ok(()));
+            assert_eq!(rt; granted, 2, "each call grows once");
+            return;
         }
-        outcome?;
-        let spare = out.spare();
-        let outcome = out.append(&[7; 1_000]);
-        if heap.has_denied() {
-            assert_eq!(rt; outcome, Err(AllocError), "the second");
-            assert_eq!(rt; out.as_slice(), b"abc".as_slice());
-            assert_eq!(rt; out.spare(), spare);
-            continue;
-        }
-        outcome?;
-        assert_eq!(rt; out.as_slice().len(), 1_003);
-        assert!(rt; out.as_slice().starts_with(b"abc\x07"));
-        assert!(rt; out.as_slice().ends_with(&[7; 1_000]));
-        assert_eq!(rt; granted, 2, "each call grows once");
-        return Ok(());
+        assert_eq!(rt; outcome, Err(AllocError), "after {granted} growths");
     }
     assert!(rt; false, "some growth was always denied");
+}
+
+fn append_twice<A: Allocator>(rt: &impl Abort, out: &mut Octets<A>) -> Result<(), AllocError> {
+    if let Err(fault) = out.append(b"abc") {
+        assert!(rt; out.as_slice().is_empty());
+        assert_eq!(rt; out.spare(), 0);
+        return Err(fault);
+    }
+    let spare = out.spare();
+    if let Err(fault) = out.append(&[7; 1_000]) {
+        assert_eq!(rt; out.as_slice(), b"abc".as_slice());
+        assert_eq!(rt; out.spare(), spare);
+        return Err(fault);
+    }
+    assert_eq!(rt; out.as_slice().len(), 1_003);
+    assert!(rt; out.as_slice().starts_with(b"abc\x07"));
+    assert!(rt; out.as_slice().ends_with(&[7; 1_000]));
     Ok(())
 }
 
