@@ -1,14 +1,16 @@
 #!/usr/bin/env python3
-"""Vectors for the tests of crates/ilp_packet and crates/ilp_oer, made from the standards alone.
+"""Vectors for the tests of packets and octet strings, made from the standards alone.
 
-Writes ILPv4 packets (RFC 0027) over the octet strings of RFC 0030, and mistakes in them, as rows of
-the tables in crates/ilp_packet/src/tests.rt, each with the fault that a reader meets first, and
-octet strings for crates/ilp_oer/src/tests.rt. A row leaves out what the tests fill in: the eight
-octets of the amount 100, the usual expiry, the 32 octets of a condition or fulfillment, and the
-octets of a long field. It shares nothing with the crates. Run it with no arguments.
+Writes ILPv4 packets (RFC 0027) over the octet strings of RFC 0030, and mistakes in them. With the
+argument `rows` it prints the rows of crates/test_rows/data/packets/vectors.txt, and with `lines`
+what that program is to print of each: the packet in words (docs/PROTOCOL.md), or the fault that a
+reader meets first. So many `x` in a long field are written `<N 78>` in both. With `strings` it prints
+the octet strings of crates/test_values/src/tests/oer.rt. It shares nothing with the crates.
 """
 import datetime
 import hashlib
+import re
+import sys
 
 CONDITION = hashlib.sha256(bytes(32)).digest()
 ZEROS = bytes(32)
@@ -44,24 +46,6 @@ def reject(code=b"F99", triggered_by=b"", message=b"", data=b""):
     return b"\x0e" + string(code + string(triggered_by) + string(message) + string(data))
 
 
-def literal(octets):
-    """A Rust byte string."""
-    plain = {0: "\\0", 0x22: '\\"', 0x5c: "\\\\"}
-    return 'b"' + "".join(
-        plain.get(o, chr(o) if 0x20 <= o < 0x7f else f"\\x{o:02x}") for o in octets) + '"'
-
-
-def row(whole, *fillings, fault=None):
-    """What stands before, between and after the fillings, and the first fault."""
-    parts = []
-    for filling in fillings:
-        at = whole.index(filling)
-        parts.append(literal(whole[:at]))
-        whole = whole[at + len(filling):]
-    ending = [] if fault is None else [fault]
-    return "    (" + ", ".join(parts + [literal(whole)] + ending) + ")"
-
-
 def moment(expires):
     """The moment of an expiry, in milliseconds since 1970 (RFC 0027)."""
     utc = datetime.timezone.utc
@@ -70,95 +54,144 @@ def moment(expires):
     return since // datetime.timedelta(milliseconds=1)
 
 
-print("The condition that 32 zero octets meet:", CONDITION.hex())
-for expires in (EXPIRY, b"99991231235959999"):
-    print("The moment of", expires.decode(), "is", moment(expires))
+def words(octets):
+    """Octets in a line of words."""
+    return octets.hex() or "-"
 
-print("Prepares, round the condition:")
-print(row(prepare(), CONDITION))
-print(row(prepare(amount=(2**56 + 2).to_bytes(8, "big")), CONDITION))
-print(row(prepare(amount=b"\xff" * 8, expires=b"99991231235959999",
-                  destination=string(b"private.Zed-0.a_~")), CONDITION))
 
-print("Fulfills and Rejects:")
-print(row(fulfill(), ZEROS))
-print("   ", literal(reject()))
-print("   ", literal(reject(b"T01", b"test.hub", b"no way", b"\x00\xff")))
+def told_prepare(amount=100, expires=EXPIRY, destination=BOB, data=b""):
+    return (f"prepare amount {amount} expires {moment(expires)} condition {words(CONDITION)} "
+            f"to {destination.decode()} data {words(data)}")
 
-print("Beginnings:")
-for fault, whole in [
-    ("Truncated", b""),
-    ("Truncated", b"\x0c"),
-    ("UnknownType", b"\x0f"),
-    ("UnknownType", b"\x0f\0"),
-    ("UnknownType", b"\x0b" + string(b"")),
-    ("BadPrefix", b"\x0d\x80"),
-    ("BadPrefix", b"\x0e\x81\x05"),
-    ("TooLong", b"\x0c\x83"),
-]:
-    print(row(whole, fault=fault))
 
-print("Prepares, round the amount, the usual expiry and the condition:")
-for fault, whole in [
-    ("Trailing", prepare(beyond=b"\0")),
-    ("Trailing", prepare(after=b"\0")),
-    ("Truncated", prepare(data=b"")),
-    # The content ends too soon, and an octet follows the packet: the outer faults come first.
-    ("Trailing", prepare(data=b"", beyond=b"\0")),
-    ("BadPrefix", prepare(destination=b"\x81\x08" + BOB)),
-    ("BadAddress", prepare(destination=string(b"test..bob"))),
-    ("BadAddress", prepare(destination=string(b""))),
-    # The destination is no address, and the data's prefix is wrong.
-    ("BadAddress", prepare(destination=string(b"test."), data=b"\x80")),
-]:
-    print(row(whole, AMOUNT + EXPIRY, CONDITION, fault=fault))
+def told_fulfill(data=b""):
+    return f"fulfill preimage {words(ZEROS)} data {words(data)}"
 
-print("Prepares with a bad expiry, round the amount, with the expiry, and after the condition:")
-for expires, destination in [
-    (b"20230229000030000", string(BOB)),
-    (b"2025010100003000x", string(BOB)),
-    # The expiry and the destination are wrong: the expiry comes first.
-    (b"20250101246000000", string(b"bob")),
-]:
-    print(row(prepare(expires=expires, destination=destination), AMOUNT, CONDITION))
 
-print("Fulfills, round the fulfillment:")
-for fault, whole in [
-    ("Trailing", fulfill(after=b"\0")),
-    ("Truncated", fulfill(data=b"\x02\x01")),
-    ("BadPrefix", fulfill(data=b"\x81\x01\0")),
-    ("TooLong", fulfill(data=b"\x83")),
-]:
-    print(row(whole, ZEROS, fault=fault))
+def told_reject(code=b"F99", triggered_by=b"", message=b"", data=b""):
+    return (f"reject code {words(code)} by {words(triggered_by)} message {words(message)} "
+            f"data {words(data)}")
 
-LIMITED = {True: "FieldTooLong", False: None}
 
-print("Fulfills, round the fulfillment and data of so many `x`:")
-# The content of the last has 65,535 octets, the most that an octet string may have.
-for size in (127, 128, 255, 256, 32767, 32768, 65500):
-    whole = fulfill(data=string(b"x" * size))
-    print("   ", size, row(whole, ZEROS, b"x" * size), LIMITED[size > 32767])
+def refused(name):
+    """The line of a fault, whose numbers docs/PROTOCOL.md lists."""
+    names = ["Truncated", "BadPrefix", "TooLong", "UnknownType", "Trailing", "BadExpiry",
+             "BadAddress", "FieldTooLong"]
+    return f"refused {names.index(name) + 1} {name}"
 
-print("Rejects, round a field of so many `x`:")
-for size in (32767, 32768):
-    print("   ", size, row(reject(data=b"x" * size), b"x" * size), LIMITED[size > 32767])
-for size in (8191, 8192):
-    print("   ", size, row(reject(message=b"x" * size), b"x" * size), LIMITED[size > 8191])
-for size in (1023, 1024):
-    print("   ", size, row(reject(triggered_by=b"x" * size), b"x" * size), LIMITED[size > 1023])
 
-print("Prepares, round the amount, the usual expiry, the condition, and data of so many `x`:")
-for size in (32767, 32768):
-    whole = prepare(data=string(b"x" * size))
-    print("   ", size, row(whole, AMOUNT + EXPIRY, CONDITION, b"x" * size), LIMITED[size > 32767])
+def short(text):
+    """A text with `<N 78>` for many `x` in hexadecimal."""
+    return re.sub("(78){100,}", lambda run: f"<{len(run.group()) // 2} 78>", text)
 
-print("Prepares, with so many `x` at the end of the destination:")
-for size in (1021, 1022):
-    whole = prepare(destination=string(b"g." + b"x" * size))
-    fault = "BadAddress" if size > 1021 else None
-    print("   ", size, row(whole, AMOUNT + EXPIRY, CONDITION, b"x" * size), fault)
 
-print("Octet strings of the octets 0, 1, .. 250, 0, 1, .., their heads and their tails:")
-for size in (0, 127, 128, 255, 256, 65535):
-    whole = string(bytes(n % 251 for n in range(size)))
-    print("   ", size, whole[:6].hex(" "), "..", whole[-2:].hex(" "), "of", len(whole))
+def within(size, most, told, fault="FieldTooLong"):
+    """The line of a field of this size."""
+    return told if size <= most else refused(fault)
+
+
+def vectors():
+    """Each packet, or what is none, and the line that is printed of it."""
+    yield prepare(), told_prepare()
+    amount = 2**56 + 2
+    yield prepare(amount=amount.to_bytes(8, "big")), told_prepare(amount=amount)
+    last, zed = b"99991231235959999", b"private.Zed-0.a_~"
+    yield (prepare(amount=b"\xff" * 8, expires=last, destination=string(zed)),
+           told_prepare(amount=2**64 - 1, expires=last, destination=zed))
+    yield fulfill(), told_fulfill()
+    yield reject(), told_reject()
+    fields = (b"T01", b"test.hub", b"no way", b"\x00\xff")
+    yield reject(*fields), told_reject(*fields)
+    yield from beginnings()
+    yield from wrong_prepares()
+    yield from wrong_fulfills()
+    yield from long_fields()
+
+
+def beginnings():
+    for fault, whole in [
+        ("Truncated", b""),
+        ("Truncated", b"\x0c"),
+        ("UnknownType", b"\x0f"),
+        ("UnknownType", b"\x0f\0"),
+        ("UnknownType", b"\x0b" + string(b"")),
+        ("BadPrefix", b"\x0d\x80"),
+        ("BadPrefix", b"\x0e\x81\x05"),
+        ("TooLong", b"\x0c\x83"),
+    ]:
+        yield whole, refused(fault)
+
+
+def wrong_prepares():
+    for fault, whole in [
+        ("Trailing", prepare(beyond=b"\0")),
+        ("Trailing", prepare(after=b"\0")),
+        ("Truncated", prepare(data=b"")),
+        # The content ends too soon, and an octet follows the packet: the outer faults come first.
+        ("Trailing", prepare(data=b"", beyond=b"\0")),
+        ("BadPrefix", prepare(destination=b"\x81\x08" + BOB)),
+        ("BadAddress", prepare(destination=string(b"test..bob"))),
+        ("BadAddress", prepare(destination=string(b""))),
+        # The destination is no address, and the data's prefix is wrong.
+        ("BadAddress", prepare(destination=string(b"test."), data=b"\x80")),
+        ("BadExpiry", prepare(expires=b"20230229000030000")),
+        ("BadExpiry", prepare(expires=b"2025010100003000x")),
+        # The expiry and the destination are wrong: the expiry comes first.
+        ("BadExpiry", prepare(expires=b"20250101246000000", destination=string(b"bob"))),
+    ]:
+        yield whole, refused(fault)
+
+
+def wrong_fulfills():
+    for fault, whole in [
+        ("Trailing", fulfill(after=b"\0")),
+        ("Truncated", fulfill(data=b"\x02\x01")),
+        ("BadPrefix", fulfill(data=b"\x81\x01\0")),
+        ("TooLong", fulfill(data=b"\x83")),
+    ]:
+        yield whole, refused(fault)
+
+
+def long_fields():
+    # The content of the last has 65,535 octets, the most that an octet string may have.
+    for size in (127, 128, 255, 256, 32767, 32768, 65500):
+        data = b"x" * size
+        yield fulfill(data=string(data)), within(size, 32767, told_fulfill(data))
+    for size in (32767, 32768):
+        data = b"x" * size
+        yield prepare(data=string(data)), within(size, 32767, told_prepare(data=data))
+        yield reject(data=data), within(size, 32767, told_reject(data=data))
+    for size in (8191, 8192):
+        message = b"x" * size
+        yield reject(message=message), within(size, 8191, told_reject(message=message))
+    for size in (1023, 1024):
+        address = b"x" * size
+        yield reject(triggered_by=address), within(size, 1023, told_reject(triggered_by=address))
+    for size in (1023, 1024):
+        address = b"g." + b"x" * (size - 2)
+        yield (prepare(destination=string(address)),
+               within(size, 1023, told_prepare(destination=address), "BadAddress"))
+
+
+def strings():
+    """Octet strings of the octets 0, 1, .. 250, 0, 1, .., their heads and their tails."""
+    for size in (0, 127, 128, 255, 256, 65535):
+        whole = string(bytes(n % 251 for n in range(size)))
+        print("   ", size, whole[:6].hex(" "), "..", whole[-2:].hex(" "), "of", len(whole))
+
+
+def main():
+    if sys.argv[1:] == ["rows"]:
+        for whole, _ in vectors():
+            print(short(whole.hex()))
+    elif sys.argv[1:] == ["lines"]:
+        for _, line in vectors():
+            print(short(line))
+    elif sys.argv[1:] == ["strings"]:
+        strings()
+    else:
+        sys.exit("packet_vectors.py rows | lines | strings")
+
+
+if __name__ == "__main__":
+    main()

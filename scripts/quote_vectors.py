@@ -1,11 +1,13 @@
 #!/usr/bin/env python3
-"""Prints the rows of the table of quotes in crates/ilp_assets/src/tests/vectors.rt.
+"""Quotes at the limits of their arguments, for crates/test_rows/data/quotes.
 
 Written from the rule alone, over whole numbers and fractions of any size: the fee is the amount
 times ppm millionths, rounded up; what is left is worth p / q of the other asset, from an amount at
-scale s to one at scale t, rounded down. A row is scale s, scale t, p, q, ppm, amount, and the quote
-or the refusal.
+scale s to one at scale t, rounded down. With the argument `rows` it prints the rows of quotes.txt,
+each of which is scale s, scale t, p, q, ppm and amount, and with `lines` what that program is to print
+of each: the row, and the quote or the refusal. It shares nothing with the crates.
 """
+import sys
 from fractions import Fraction
 from itertools import product
 from math import ceil, floor
@@ -20,10 +22,10 @@ def quote(s, t, p, q, ppm, amount):
     value = Fraction(net, 10**s) * Fraction(p, q)
     out = floor(value * 10**t)
     if out > MOST:
-        return "Err(OutTooLarge)"
+        return "more would go out than a packet carries"
     if amount > 0 and out == 0:
-        return "Err(RoundsToNothing)"
-    return f"Ok(({name(fee)}, {name(net)}, {name(out)}))"
+        return "nothing would go out"
+    return f"fee {fee} net {net} out {out}"
 
 
 def rows():
@@ -43,10 +45,13 @@ def rows():
     yield 9, 0, 1, WORD, 0, WORD * 10**9
 
 
-def name(number):
-    return {MOST: "MOST", WORD: "WORD"}.get(number, str(number))
+def main():
+    if sys.argv[1:] not in (["rows"], ["lines"]):
+        sys.exit("quote_vectors.py rows | lines")
+    for given in rows():
+        row = " ".join(str(number) for number in given)
+        print(row if sys.argv[1] == "rows" else f"{row}: {quote(*given)}")
 
 
-for s, t, p, q, ppm, amount in rows():
-    given = f"{s}, {t}, {name(p)}, {name(q)}, {ppm}, {name(amount)}"
-    print(f"    ({given}, {quote(s, t, p, q, ppm, amount)}),")
+if __name__ == "__main__":
+    main()

@@ -15,6 +15,3 @@ pub use fault::AssetFault;
 pub use laws::rows;
 pub use quote::{Quote, QuoteFault};
 pub use table::AssetTable;
-
-#[cfg(test)]
-mod tests;

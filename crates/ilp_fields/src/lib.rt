@@ -13,6 +13,3 @@ pub use fields::{
     required_asset, required_integer, required_number, required_text, tables_at,
 };
 pub use form::Form;
-
-#[cfg(test)]
-mod tests;

@@ -23,6 +23,3 @@ pub use recording::Recording;
 pub use sink::Sink;
 pub use source::Source;
 pub use writing::{WriteFault, put_all};
-
-#[cfg(test)]
-mod tests;

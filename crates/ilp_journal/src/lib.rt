@@ -11,6 +11,3 @@ pub mod laws;
 pub use entry::{Ask, Cause, Credited, Entry, Hold, What};
 pub use journal::Journal;
 pub use key::Key;
-
-#[cfg(test)]
-mod tests;

@@ -11,6 +11,3 @@ pub use fault::LookupFault;
 pub use laws::{one_match_of_a_length, one_place, one_route, routed_peer_has_a_route};
 pub use routes::RouteIndex;
 pub use texts::TextIndex;
-
-#[cfg(test)]
-mod tests;

@@ -10,6 +10,3 @@ pub use fault::OerFault;
 pub use laws::{faulty_exactly_where_unspelled, one_spelling};
 pub use octets::Octets;
 pub use strings::{MAX_CONTENT, octets_len, read_octets, write_octets, write_prefix};
-
-#[cfg(test)]
-mod tests;

@@ -18,6 +18,3 @@ pub use laws::{
 };
 pub use packet::{Fulfill, Packet, Prepare, Reject};
 pub use writing::{write_fulfill, write_prepare, write_reject};
-
-#[cfg(test)]
-mod tests;

@@ -9,6 +9,3 @@ mod laws;
 pub use condition::meets;
 pub use expiry::{LAST_OF_ALL, expiry_read, expiry_write};
 pub use laws::one_expiry_a_moment;
-
-#[cfg(test)]
-mod tests;

@@ -84,6 +84,3 @@ fn count_growth(left: u64) -> Counted
         is_denied: left == 1,
     }
 }
-
-#[cfg(test)]
-mod tests;

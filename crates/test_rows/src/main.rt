@@ -5,15 +5,22 @@
 mod configurations;
 mod cuts;
 mod examples;
+mod expiries;
 mod fault;
 mod packets;
+mod quotes;
+mod repeated;
+mod routes;
 mod scripts;
 mod words;
 
 use configurations::print_configurations;
 use cuts::print_cuts;
 use examples::print_examples;
+use expiries::print_expiries;
 use packets::print_packets;
+use quotes::print_quotes;
+use routes::print_routes;
 use scripts::print_scripts;
 use std::io;
 
@@ -22,5 +29,8 @@ fn main(rt: HostRuntime) -> io::Result<()> {
     print_scripts(&rt)?;
     print_packets(&rt)?;
     print_cuts(&rt)?;
-    print_examples(&rt)
+    print_examples(&rt)?;
+    print_expiries(&rt)?;
+    print_quotes(&rt)?;
+    print_routes(&rt)
 }

@@ -60,36 +60,44 @@ fn reserving(rt: HostRuntime) -> Result<(), Fail> {
     for granted in 0..GROWTHS {
         let heap = DenyingAllocator::after(rt.alloc(), granted);
         let mut journal = Journal::new(&heap, 9)?;
-        let outcome = journal.reserve(2);
-        if heap.has_denied() {
-            assert_eq!(rt; outcome, Err(AllocError), "the first");
-            assert!(rt; journal.is_empty());
-            assert_eq!(rt; journal.spare(), 0);
-            assert_eq!(rt; journal.limit(), 9);
-            continue;
+        let outcome = reserve_twice(&rt, &mut journal);
+        if !heap.has_denied() {
+            assert_eq!(rt; outcome, Ok(()));
+            assert_eq!(rt; granted, 2, "each call grows once");
+            return Ok(());
         }
-        outcome?;
-        book(&rt, &mut journal, What::Hold(HOLD));
-        let fulfilled = What::Fulfilled {
-            hold: 0,
-            preimage: [0; 32],
-        };
-        book(&rt, &mut journal, fulfilled);
-        let spare = journal.spare();
-        let outcome = journal.reserve(100);
-        assert_booked(&rt, &journal);
-        if heap.has_denied() {
-            assert_eq!(rt; outcome, Err(AllocError), "the second");
-            assert_eq!(rt; journal.spare(), spare);
-            continue;
-        }
-        outcome?;
-        assert!(rt; journal.spare() >= 100);
-        assert_eq!(rt; granted, 2, "each call grows once");
-        return Ok(());
+        assert_eq!(rt; outcome, Err(AllocError), "after {granted} growths");
     }
     assert!(rt; false, "some growth was always denied");
     Ok(())
+}
+
+// Reserves twice, and books what is there room for in between.
+fn reserve_twice<A: Allocator>(
+    rt: &impl Abort,
+    journal: &mut Journal<A>,
+) -> Result<(), AllocError> {
+    if let Err(fault) = journal.reserve(2) {
+        assert!(rt; journal.is_empty());
+        assert_eq!(rt; journal.spare(), 0);
+        assert_eq!(rt; journal.limit(), 9);
+        return Err(fault);
+    }
+    book(rt, journal, What::Hold(HOLD));
+    let fulfilled = What::Fulfilled {
+        hold: 0,
+        preimage: [0; 32],
+    };
+    book(rt, journal, fulfilled);
+    let spare = journal.spare();
+    let outcome = journal.reserve(100);
+    assert_booked(rt, journal);
+    if outcome.is_err() {
+        assert_eq!(rt; journal.spare(), spare);
+    } else {
+        assert!(rt; journal.spare() >= 100);
+    }
+    outcome
 }
 
 #[test]

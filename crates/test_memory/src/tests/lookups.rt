@@ -4,7 +4,6 @@ use super::GROWTHS;
 use ilp_lookup::{LookupFault, RouteIndex, TextIndex};
 use std::alloc::{AllocError, Allocator};
 use std::process::Abort;
-use std::test::Fail;
 use test_allocator::DenyingAllocator;
 
 const TOKENS: [&[u8]; 5] = [b"alice", b"bob", b"carol", b"dave", b"erin"];
@@ -36,7 +35,7 @@ fn assert_tokens<A: Allocator + Copy>(rt: &impl Abort, texts: &TextIndex<A>, cou
 }
 
 #[test]
-fn adding_texts(rt: HostRuntime) -> Result<(), Fail> {
+fn adding_texts(rt: HostRuntime) {
     for granted in 0..GROWTHS {
         let heap = DenyingAllocator::after(rt.alloc(), granted);
         let mut texts = TextIndex::new(&heap);
@@ -44,31 +43,38 @@ fn adding_texts(rt: HostRuntime) -> Result<(), Fail> {
         assert_tokens(&rt, &texts, added);
         assert_eq!(rt; added < 5, heap.has_denied());
         if !heap.has_denied() {
-            return Ok(());
+            return;
         }
     }
     assert!(rt; false, "no growth was left to deny");
-    Ok(())
 }
 
 #[test]
-fn copying_texts(rt: HostRuntime) -> Result<(), Fail> {
+fn copying_texts(rt: HostRuntime) {
     for granted in 0..GROWTHS {
         let heap = DenyingAllocator::after(rt.alloc(), granted);
         let mut texts = TextIndex::new(&heap);
-        if add_tokens(&rt, &mut texts) < 5 {
-            continue;
+        let outcome = copy_tokens(&rt, &mut texts);
+        if !heap.has_denied() {
+            assert_eq!(rt; outcome, Ok(()));
+            return;
         }
-        let outcome = texts.copy();
-        assert_tokens(&rt, &texts, 5);
-        if heap.has_denied() {
-            assert_eq!(rt; outcome.err(), Some(AllocError));
-            continue;
-        }
-        assert_tokens(&rt, &outcome?, 5);
-        return Ok(());
+        assert_eq!(rt; outcome, Err(AllocError));
     }
     assert!(rt; false, "no growth was left to deny");
+}
+
+// Adds the tokens and copies them.
+fn copy_tokens<A: Allocator + Copy>(
+    rt: &impl Abort,
+    texts: &mut TextIndex<A>,
+) -> Result<(), AllocError> {
+    if add_tokens(rt, texts) < 5 {
+        return Err(AllocError);
+    }
+    let outcome = texts.copy();
+    assert_tokens(rt, texts, 5);
+    assert_tokens(rt, &outcome?, 5);
     Ok(())
 }
 
@@ -81,70 +87,82 @@ fn assert_routed<A: Allocator + Copy>(rt: &impl Abort, routes: &RouteIndex<A>, b
 }
 
 #[test]
-fn adding_routes(rt: HostRuntime) -> Result<(), Fail> {
+fn adding_routes(rt: HostRuntime) {
     for granted in 0..GROWTHS {
         let heap = DenyingAllocator::after(rt.alloc(), granted);
         let mut routes = RouteIndex::new(&heap);
-        if routes.insert(b"test", 1).is_err() {
-            assert!(rt; heap.has_denied());
-            assert_eq!(rt; routes.find(b"test"), None);
-            continue;
+        let outcome = add_routes(&rt, &mut routes);
+        if !heap.has_denied() {
+            assert_eq!(rt; outcome, Ok(()));
+            return;
         }
-        let outcome = routes.insert(b"test.bob", 0);
-        assert_routed(&rt, &routes, outcome.is_ok());
-        if heap.has_denied() {
-            assert_eq!(rt; outcome, Err(LookupFault::Memory));
-            continue;
-        }
-        outcome?;
-        return Ok(());
+        assert_eq!(rt; outcome, Err(LookupFault::Memory));
     }
     assert!(rt; false, "no growth was left to deny");
-    Ok(())
+}
+
+fn add_routes<A: Allocator + Copy>(
+    rt: &impl Abort,
+    routes: &mut RouteIndex<A>,
+) -> Result<(), LookupFault> {
+    if let Err(fault) = routes.insert(b"test", 1) {
+        assert_eq!(rt; routes.find(b"test"), None);
+        return Err(fault);
+    }
+    let outcome = routes.insert(b"test.bob", 0);
+    assert_routed(rt, routes, outcome.is_ok());
+    outcome
 }
 
 #[test]
-fn copying_routes(rt: HostRuntime) -> Result<(), Fail> {
+fn copying_routes(rt: HostRuntime) {
     for granted in 0..GROWTHS {
         let heap = DenyingAllocator::after(rt.alloc(), granted);
         let mut routes = RouteIndex::new(&heap);
-        let (first, second) = (routes.insert(b"test", 1), routes.insert(b"test.bob", 0));
-        if heap.has_denied() {
-            continue;
+        let outcome = copy_routes(&rt, &mut routes);
+        if !heap.has_denied() {
+            assert_eq!(rt; outcome, Ok(()));
+            return;
         }
-        first?;
-        second?;
-        let outcome = routes.copy();
-        assert_routed(&rt, &routes, true);
-        if heap.has_denied() {
-            assert_eq!(rt; outcome.err(), Some(AllocError));
-            continue;
-        }
-        assert_routed(&rt, &outcome?, true);
-        return Ok(());
+        assert_eq!(rt; outcome, Err(LookupFault::Memory));
     }
     assert!(rt; false, "no growth was left to deny");
+}
+
+fn copy_routes<A: Allocator + Copy>(
+    rt: &impl Abort,
+    routes: &mut RouteIndex<A>,
+) -> Result<(), LookupFault> {
+    routes.insert(b"test", 1)?;
+    routes.insert(b"test.bob", 0)?;
+    let outcome = routes.copy();
+    assert_routed(rt, routes, true);
+    assert_routed(rt, &outcome?, true);
     Ok(())
 }
 
 // Look-ups, and what is there already, want no memory.
 #[test]
-fn doubles_want_no_memory(rt: HostRuntime) -> Result<(), Fail> {
+fn doubles_want_no_memory(rt: HostRuntime) {
     for granted in 0..GROWTHS {
         let heap = DenyingAllocator::after(rt.alloc(), granted);
         let mut routes = RouteIndex::new(&heap);
-        let added = routes.insert(b"test", 1);
-        let denied = heap.has_denied();
-        let outcome = routes.insert(b"test", 2);
-        if denied {
-            continue;
+        let outcome = add_double(&rt, &mut routes);
+        if !heap.has_denied() {
+            assert_eq!(rt; outcome, Ok(()));
+            return;
         }
-        added?;
-        assert_eq!(rt; outcome, Err(LookupFault::Double));
-        assert_eq!(rt; routes.find(b"test"), Some(1));
-        assert!(rt; !heap.has_denied());
-        return Ok(());
+        assert_eq!(rt; outcome, Err(LookupFault::Memory));
     }
     assert!(rt; false, "no growth was left to deny");
+}
+
+fn add_double<A: Allocator + Copy>(
+    rt: &impl Abort,
+    routes: &mut RouteIndex<A>,
+) -> Result<(), LookupFault> {
+    routes.insert(b"test", 1)?;
+    assert_eq!(rt; routes.insert(b"test", 2), Err(LookupFault::Double));
+    assert_eq!(rt; routes.find(b"test"), Some(1));
     Ok(())
 }

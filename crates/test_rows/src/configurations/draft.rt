@@ -1,7 +1,8 @@
 //! A text, in which the lines of a row replace some lines.
 
 use crate::fault::RowFault;
-use std::alloc::{AllocError, Global};
+use crate::repeated::push_repeated;
+use std::alloc::Global;
 
 /// The text that a row makes of another.
 ///
@@ -90,26 +91,5 @@ fn push_line(alloc: Global, text: &mut String, line: &str) -> Result<(), RowFaul
     push_repeated(alloc, text, repeat)?;
     text.push_str(end)?;
     text.push('\n')?;
-    Ok(())
-}
-
-fn push_repeated(alloc: Global, text: &mut String, repeat: &str) -> Result<(), RowFault> {
-    let Some((count, part)) = repeat.split_once(' ') else {
-        return Err(RowFault::NotUnderstood);
-    };
-    let Ok(count) = count.parse::<u32>() else {
-        return Err(RowFault::NotUnderstood);
-    };
-    let part = part.replace(alloc, "\\n", "\n")?;
-    push_parts(alloc, text, count, part.as_str())?;
-    Ok(())
-}
-
-fn push_parts(alloc: Global, text: &mut String, count: u32, part: &str) -> Result<(), AllocError> {
-    for number in 0..count {
-        let number = number.to_string(alloc)?;
-        let numbered = part.replace(alloc, "#", number.as_str())?;
-        text.push_str(numbered.as_str())?;
-    }
     Ok(())
 }

@@ -1,52 +1,10 @@
-//! Moments were computed by Python's `datetime` (the year 0, which it lacks, as the year 400 less
-//! 146,097 days), and digests by its `hashlib`.
+//! Expiries and conditions. Digests were computed by Python's `hashlib`.
 ghost use Rattle.std.specs.Prelude.{◌≡◌, Some, SomeIff};
 ghost use Rattle.ilp_terms.specs.Expiry.{IsExpiry, IsMoment};
 
-use super::*;
+use ilp_terms::{expiry_read, expiry_write, meets};
 use sha2::{Digest, Sha256};
 use std::test::Fail;
-
-#[test]
-fn reads_and_writes_known_expiries(rt: HostRuntime) {
-    let known: [(&[u8; 17], i64); 8] = [
-        (b"19700101000000000", 0),
-        (b"19691231235959999", -1),
-        (b"20240229000000000", 1_709_164_800_000),
-        (b"20250101000029000", 1_735_689_629_000),
-        (b"20000229120000001", 951_825_600_001),
-        (b"19000228235959999", -2_203_891_200_001),
-        (b"00000101000000000", -62_167_219_200_000),
-        (b"99991231235959999", 253_402_300_799_999),
-    ];
-    for (text, moment) in known {
-        assert_eq!(rt; expiry_read(text), Some(moment));
-    }
-    assert_eq!(rt; expiry_write(0), *b"19700101000000000");
-    assert_eq!(rt; expiry_write(1_735_689_629_000), *b"20250101000029000");
-    assert_eq!(rt; expiry_write(-62_167_219_200_000), *b"00000101000000000");
-    assert_eq!(rt; expiry_write(253_402_300_799_999), *b"99991231235959999");
-}
-
-#[test]
-fn refuses_what_is_no_expiry(rt: HostRuntime) {
-    let refused: [&[u8; 17]; 11] = [
-        b"20230229000000000",
-        b"19000229000000000",
-        b"20240001000000000",
-        b"20241301000000000",
-        b"20240100000000000",
-        b"20240132000000000",
-        b"20240229240000000",
-        b"20240229006000000",
-        b"20240229000060000",
-        b"2024022900000000:",
-        b"-0240229000000000",
-    ];
-    for text in refused {
-        assert_eq!(rt; expiry_read(text), None);
-    }
-}
 
 // What was written is read as the moment that was written.
 fn read_back(moment: i64) -> Option<i64>

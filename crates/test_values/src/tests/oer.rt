@@ -1,5 +1,5 @@
 //! Octet strings by hand, and from a Python script.
-use super::*;
+use ilp_oer::{MAX_CONTENT, Octets, OerFault, read_octets, write_octets};
 use std::alloc::{AllocError, Global};
 use std::test::Fail;
 

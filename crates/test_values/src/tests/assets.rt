@@ -1,12 +1,8 @@
-//! Worked tables and quotes, and quotes at the limits of their arguments.
+//! Worked tables and quotes.
 
-mod vectors;
-
-use super::*;
+use ilp_assets::{Asset, AssetFault, AssetTable, Price, Quote, QuoteFault};
 use std::alloc::Global;
-use std::process::Abort;
 use std::test::Fail;
-use vectors::VECTORS;
 
 const USD: Asset<'static> = Asset {
     code: "USD",
@@ -38,46 +34,6 @@ fn fault_of(alloc: Global, prices: &[Price<'_>]) -> Option<AssetFault> {
         Ok(_) => None,
         Err(fault) => Some(fault),
     }
-}
-
-// What an amount becomes within one asset.
-fn within_one(
-    rt: &impl Abort,
-    alloc: Global,
-    ppm: u32,
-    amount: u64,
-) -> Result<Result<Quote, QuoteFault>, Fail> {
-    let table = AssetTable::new(alloc, &[USD], &[])?;
-    assert!(rt; ppm <= 1_000_000);
-    Ok(table.quote(0, 0, ppm, amount))
-}
-
-// What an amount becomes from one scale to another at the price p / q.
-fn between(
-    rt: &impl Abort,
-    alloc: Global,
-    scales: (u8, u8),
-    price: (u32, u32),
-    ppm: u32,
-    amount: u64,
-) -> Result<Result<Quote, QuoteFault>, Fail> {
-    let from = Asset {
-        code: "FROM",
-        scale: scales.0,
-    };
-    let to = Asset {
-        code: "TO",
-        scale: scales.1,
-    };
-    let given = Price {
-        from,
-        to,
-        p: price.0,
-        q: price.1,
-    };
-    let table = AssetTable::new(alloc, &[from, to], &[given])?;
-    assert!(rt; ppm <= 1_000_000);
-    Ok(table.quote(0, 1, ppm, amount))
 }
 
 #[test]
@@ -123,22 +79,31 @@ fn the_first_fault_counts(rt: HostRuntime) -> Result<(), Fail> {
 
 #[test]
 fn quotes_one_asset(rt: HostRuntime) -> Result<(), Fail> {
-    let alloc = rt.alloc();
+    let table = AssetTable::new(rt.alloc(), &[USD], &[])?;
     let passed = Quote {
         fee: 2,
         net: 999_999,
         out: 999_999,
     };
-    assert_eq!(rt; within_one(&rt, alloc, 1, 1_000_001)?, Ok(passed));
-    let nothing = Err(QuoteFault::RoundsToNothing);
-    assert_eq!(rt; within_one(&rt, alloc, 1, 1)?, nothing);
-    assert_eq!(rt; within_one(&rt, alloc, 1_000_000, u64::MAX)?, nothing);
     let empty = Quote {
         fee: 0,
         net: 0,
         out: 0,
     };
-    assert_eq!(rt; within_one(&rt, alloc, 1_000_000, 0)?, Ok(empty));
+    let nothing = Err(QuoteFault::RoundsToNothing);
+    for (ppm, amount, expected) in [
+        (1, 1_000_001, Ok(passed)),
+        (1, 1, nothing),
+        (1_000_000, u64::MAX, nothing),
+        (1_000_000, 0, Ok(empty)),
+    ] {
+        assert!(rt; ppm <= 1_000_000);
+        assert_eq!(rt;
+            table.quote(0, 0, ppm, amount),
+            expected,
+            "{amount} and {ppm} ppm"
+        );
+    }
     Ok(())
 }
 
@@ -172,23 +137,6 @@ fn names_assets_by_place(rt: HostRuntime) -> Result<(), Fail> {
     };
     assert!(rt; shown);
     assert!(rt; table.asset(3).is_none());
-    Ok(())
-}
-
-#[test]
-fn quotes_at_the_limits(rt: HostRuntime) -> Result<(), Fail> {
-    for (s, t, p, q, ppm, amount, expected) in VECTORS {
-        let quoted = between(&rt, rt.alloc(), (s, t), (p, q), ppm, amount)?;
-        let outcome = match quoted {
-            Ok(quote) => Ok((quote.fee, quote.net, quote.out)),
-            Err(fault) => Err(fault),
-        };
-        assert_eq!(rt;
-            outcome,
-            expected,
-            "{s} to {t} at {p} / {q}: {amount} and {ppm} ppm"
-        );
-    }
     Ok(())
 }
 

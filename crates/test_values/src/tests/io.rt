@@ -1,8 +1,11 @@
 //! Reading and writing in pieces, with a fault at each octet. The counts were worked out by hand:
 //! a read or write a piece, and one more for the end or the fault.
-use super::*;
+use ilp_io::{
+    Counting, Narrow, Pieces, ReadFault, Recording, WhenFull, WriteFault, put_all, read_to_limit,
+};
 use std::io;
 use std::io::{ErrorKind, Read};
+use std::process::Abort;
 use std::test::Fail;
 
 const TEXT: &[u8; 7] = b"abcdefg";
@@ -89,15 +92,19 @@ fn counts_the_reads_of_a_reader(rt: HostRuntime) -> Result<(), Fail> {
 #[test]
 fn writes_whole(rt: HostRuntime) {
     let mut recording = Recording::new(rt.alloc());
-    assert_eq!(rt; put_all(&mut recording, b"abc"), Ok(()));
-    assert_eq!(rt; put_all(&mut recording, b""), Ok(()));
-    assert_eq!(rt; put_all(&mut recording, b"defg"), Ok(()));
-    assert_eq!(rt; recording.octets.as_slice(), TEXT.as_slice());
-    assert_eq!(rt; recording.failures, 0);
+    assert_recorded(&rt, &mut recording);
 
     let mut uncounted = Vec::new(rt.alloc());
     assert_eq!(rt; put_all(&mut uncounted, TEXT), Ok(()));
     assert_eq!(rt; uncounted.as_slice(), TEXT.as_slice());
+}
+
+fn assert_recorded(rt: &impl Abort, recording: &mut Recording) {
+    for part in [&b"abc"[..], b"", b"defg"] {
+        assert_eq!(rt; put_all(recording, part), Ok(()));
+    }
+    assert_eq!(rt; recording.octets.as_slice(), TEXT.as_slice());
+    assert_eq!(rt; recording.failures, 0);
 }
 
 #[test]
@@ -106,17 +113,26 @@ fn stops_where_a_write_fails_or_takes_nothing(rt: HostRuntime) {
         for piece in [1, 3, 100] {
             for room in 0..7 {
                 let mut sink = Narrow::new(rt.alloc(), piece, room, when_full);
-                assert_eq!(rt; put_all(&mut sink, TEXT), Err(WriteFault), "room {room}");
-                assert_eq!(rt; sink.recording.octets.as_slice(), &TEXT[..room]);
-                assert_eq!(rt; sink.recording.failures, 1);
+                assert_stopped(&rt, &mut sink, room);
             }
             let mut sink = Narrow::new(rt.alloc(), piece, 7, when_full);
-            assert_eq!(rt; put_all(&mut sink, TEXT), Ok(()));
-            assert_eq!(rt; sink.recording.octets.as_slice(), TEXT.as_slice());
-            assert_eq!(rt; put_all(&mut sink, b""), Ok(()));
-            assert_eq!(rt; (sink.recording.failures, sink.room), (0, 0));
+            assert_whole(&rt, &mut sink);
         }
     }
+}
+
+fn assert_stopped(rt: &impl Abort, sink: &mut Narrow, room: usize) {
+    assert!(rt; room < 7);
+    assert_eq!(rt; put_all(sink, TEXT), Err(WriteFault), "room {room}");
+    assert_eq!(rt; sink.recording.octets.as_slice(), &TEXT[..room]);
+    assert_eq!(rt; sink.recording.failures, 1);
+}
+
+fn assert_whole(rt: &impl Abort, sink: &mut Narrow) {
+    assert_eq!(rt; put_all(sink, TEXT), Ok(()));
+    assert_eq!(rt; sink.recording.octets.as_slice(), TEXT.as_slice());
+    assert_eq!(rt; put_all(sink, b""), Ok(()));
+    assert_eq!(rt; (sink.recording.failures, sink.room), (0, 0));
 }
 
 #[test]

@@ -1,4 +1,4 @@
-use super::*;
+use test_allocator::DenyingAllocator;
 
 const GROWTHS: u64 = 6;
 

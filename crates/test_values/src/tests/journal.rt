@@ -1,4 +1,4 @@
-use super::*;
+use ilp_journal::{Ask, Cause, Credited, Entry, Hold, Journal, Key, What};
 use std::process::Abort;
 use std::test::Fail;
 

@@ -1,0 +1,6 @@
+//! Values from outside for the calls of the lower crates: a standard's vectors, what a Python script
+//! worked out, and what was worked out by hand.
+#![tactic(auto)]
+
+#[cfg(test)]
+mod tests;
