@@ -435,32 +435,29 @@ fn copy_packets(octets: &mut [u8], place: usize, out: &mut Vec<u8>, turns: u32) 
     sum
 }
 
-fn append_blocks(block: &mut [u8; 32_768], turns: u32) -> u64 {
-    let mut out = Vec::with_capacity(block.len());
+fn append_blocks(block: &mut [u8], place: usize, out: &mut Vec<u8>, turns: u32) -> u64 {
     let mut sum = 0u64;
     for turn in 0..turns {
-        block[32_767] = letter(turn);
+        if let Some(octet) = block.get_mut(place) {
+            *octet = letter(turn);
+        }
         out.clear();
         out.extend_from_slice(black_box(&*block));
         let front = out.len().min(turn as usize % 32_768);
-        sum = sum.wrapping_add(u64::from(last(&black_box(&out)[..front])));
+        sum = sum.wrapping_add(u64::from(last(&black_box(&*out)[..front])));
     }
     sum
 }
 
-fn digest_messages(message: &mut [u8], turns: u32) -> u64 {
+fn digest_messages(message: &mut [u8], place: usize, turns: u32) -> u64 {
     let mut sum = 0u64;
     for turn in 0..turns {
-        message[0] = letter(turn);
+        if let Some(octet) = message.get_mut(place) {
+            *octet = letter(turn);
+        }
         sum = sum.wrapping_add(u64::from(sha256(black_box(message))[31]));
     }
     sum
-}
-
-fn print_row(name: &str, turns: u32, work: impl FnOnce(u32) -> u64) {
-    let start = Instant::now();
-    let sum = work(turns);
-    println!("{name} {turns} {} {sum}", start.elapsed().as_nanos());
 }
 
 fn decoded(hex: &str) -> Vec<u8> {
@@ -472,16 +469,22 @@ fn main() {
     let mut text = String::new();
     std::io::stdin().read_to_string(&mut text).expect("standard input");
     for line in text.lines() {
-        let [name, place, hex] = line.split(' ').collect::<Vec<_>>()[..] else { panic!("a line") };
-        let (mut octets, place) = (decoded(hex), place.parse().expect("a place"));
-        let row = format!("read_{name}");
-        print_row(&row, 2_000_000, |turns| read_packets(&mut octets, place, turns));
-        let row = format!("read_and_write_{name}");
+        let [name, turns, place, hex] = line.split(' ').collect::<Vec<_>>()[..] else {
+            panic!("a line")
+        };
+        let (turns, place) = (turns.parse().expect("turns"), place.parse().expect("a place"));
+        let mut octets = decoded(hex);
         let mut out = Vec::with_capacity(32_768);
-        print_row(&row, 2_000_000, |turns| copy_packets(&mut octets, place, &mut out, turns));
+        let start = Instant::now();
+        let sum = if name.starts_with("read_and_write_") {
+            copy_packets(&mut octets, place, &mut out, turns)
+        } else if name.starts_with("append_") {
+            append_blocks(&mut octets, place, &mut out, turns)
+        } else if name.starts_with("sha256_") {
+            digest_messages(&mut octets, place, turns)
+        } else {
+            read_packets(&mut octets, place, turns)
+        };
+        println!("{name} {turns} {} {sum}", start.elapsed().as_nanos());
     }
-    let mut block = std::array::from_fn(|place| (place % 251) as u8);
-    print_row("append_32768", 100_000, |turns| append_blocks(&mut block, turns));
-    print_row("sha256_32", 500_000, |turns| digest_messages(&mut [7; 32], turns));
-    print_row("sha256_65536", 500, |turns| digest_messages(&mut [7; 65_536], turns));
 }
