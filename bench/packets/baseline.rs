@@ -219,7 +219,39 @@ fn day_number(year: u32, month: u32, day: u32) -> Option<i64> {
 
 // ---- writing
 
-fn write(out: &mut Vec<u8>, packet: &Packet<'_>) {
+// Octets, and behind them room that is filled already: what is appended is written over it.
+struct Octets {
+    row: Vec<u8>,
+    len: usize,
+}
+
+impl Octets {
+    fn with_capacity(capacity: usize) -> Octets {
+        Octets { row: vec![0; capacity], len: 0 }
+    }
+
+    fn clear(&mut self) {
+        self.len = 0;
+    }
+
+    fn as_slice(&self) -> &[u8] {
+        &self.row[..self.len]
+    }
+
+    fn reserve(&mut self, additional: usize) {
+        if self.row.len() - self.len < additional {
+            self.row.resize(self.len + additional, 0);
+        }
+    }
+
+    fn append(&mut self, octets: &[u8]) {
+        let end = self.len + octets.len();
+        self.row[self.len..end].copy_from_slice(octets);
+        self.len = end;
+    }
+}
+
+fn write(out: &mut Octets, packet: &Packet<'_>) {
     match packet {
         Packet::Prepare(found) => write_prepare(out, found),
         Packet::Fulfill(found) => write_fulfill(out, found),
@@ -227,41 +259,41 @@ fn write(out: &mut Vec<u8>, packet: &Packet<'_>) {
     }
 }
 
-fn write_prepare(out: &mut Vec<u8>, packet: &Prepare<'_>) {
+fn write_prepare(out: &mut Octets, packet: &Prepare<'_>) {
     let expiry = expiry_write(packet.expires);
     begin(out, 12, 57 + octets_len(packet.destination) + octets_len(packet.payload));
-    out.extend_from_slice(&packet.amount.to_be_bytes());
-    out.extend_from_slice(&expiry);
-    out.extend_from_slice(packet.condition);
+    out.append(&packet.amount.to_be_bytes());
+    out.append(&expiry);
+    out.append(packet.condition);
     write_string(out, packet.destination);
     write_string(out, packet.payload);
 }
 
-fn write_fulfill(out: &mut Vec<u8>, packet: &Fulfill<'_>) {
+fn write_fulfill(out: &mut Octets, packet: &Fulfill<'_>) {
     begin(out, 13, 32 + octets_len(packet.payload));
-    out.extend_from_slice(packet.preimage);
+    out.append(packet.preimage);
     write_string(out, packet.payload);
 }
 
-fn write_reject(out: &mut Vec<u8>, packet: &Reject<'_>) {
+fn write_reject(out: &mut Octets, packet: &Reject<'_>) {
     let fields = [packet.triggered_by, packet.message, packet.payload];
     begin(out, 14, 3 + fields.into_iter().map(octets_len).sum::<usize>());
-    out.extend_from_slice(packet.code);
+    out.append(packet.code);
     for field in fields {
         write_string(out, field);
     }
 }
 
 // Makes room for the packet, and appends its type and the prefix of its content.
-fn begin(out: &mut Vec<u8>, number: u8, len: usize) {
+fn begin(out: &mut Octets, number: u8, len: usize) {
     out.reserve(1 + prefix_len(len) + len);
-    out.push(number);
+    out.append(&[number]);
     write_prefix(out, len);
 }
 
-fn write_string(out: &mut Vec<u8>, content: &[u8]) {
+fn write_string(out: &mut Octets, content: &[u8]) {
     write_prefix(out, content.len());
-    out.extend_from_slice(content);
+    out.append(content);
 }
 
 fn octets_len(content: &[u8]) -> usize {
@@ -276,12 +308,12 @@ fn prefix_len(len: usize) -> usize {
     }
 }
 
-fn write_prefix(out: &mut Vec<u8>, len: usize) {
+fn write_prefix(out: &mut Octets, len: usize) {
     let [high, low] = (len as u16).to_be_bytes();
     match prefix_len(len) {
-        1 => out.extend_from_slice(&[low]),
-        2 => out.extend_from_slice(&[0x81, low]),
-        _ => out.extend_from_slice(&[0x82, high, low]),
+        1 => out.append(&[low]),
+        2 => out.append(&[0x81, low]),
+        _ => out.append(&[0x82, high, low]),
     }
 }
 
@@ -419,7 +451,7 @@ fn read_packets(octets: &mut [u8], place: usize, turns: u32) -> u64 {
     sum
 }
 
-fn copy_packets(octets: &mut [u8], place: usize, out: &mut Vec<u8>, turns: u32) -> u64 {
+fn copy_packets(octets: &mut [u8], place: usize, out: &mut Octets, turns: u32) -> u64 {
     let mut sum = 0u64;
     for turn in 0..turns {
         if let Some(octet) = octets.get_mut(place) {
@@ -429,13 +461,14 @@ fn copy_packets(octets: &mut [u8], place: usize, out: &mut Vec<u8>, turns: u32) 
         if let Ok(packet) = read(black_box(octets)) {
             write(out, &packet);
         }
-        let front = out.len().min(turn as usize % 32_768);
-        sum = sum.wrapping_add(u64::from(last(&black_box(&*out)[..front])));
+        let front = out.as_slice().len().min(turn as usize % 32_768);
+        sum = sum.wrapping_add(u64::from(last(&black_box(out.as_slice())[..front])));
     }
     sum
 }
 
-fn append_blocks(block: &mut [u8], place: usize, out: &mut Vec<u8>, turns: u32) -> u64 {
+fn append_blocks(block: &mut [u8], place: usize, turns: u32) -> u64 {
+    let mut out = Vec::with_capacity(block.len());
     let mut sum = 0u64;
     for turn in 0..turns {
         if let Some(octet) = block.get_mut(place) {
@@ -444,7 +477,7 @@ fn append_blocks(block: &mut [u8], place: usize, out: &mut Vec<u8>, turns: u32) 
         out.clear();
         out.extend_from_slice(black_box(&*block));
         let front = out.len().min(turn as usize % 32_768);
-        sum = sum.wrapping_add(u64::from(last(&black_box(&*out)[..front])));
+        sum = sum.wrapping_add(u64::from(last(&black_box(&out)[..front])));
     }
     sum
 }
@@ -474,12 +507,12 @@ fn main() {
         };
         let (turns, place) = (turns.parse().expect("turns"), place.parse().expect("a place"));
         let mut octets = decoded(hex);
-        let mut out = Vec::with_capacity(32_768);
+        let mut out = Octets::with_capacity(32_768);
         let start = Instant::now();
         let sum = if name.starts_with("read_and_write_") {
             copy_packets(&mut octets, place, &mut out, turns)
         } else if name.starts_with("append_") {
-            append_blocks(&mut octets, place, &mut out, turns)
+            append_blocks(&mut octets, place, turns)
         } else if name.starts_with("sha256_") {
             digest_messages(&mut octets, place, turns)
         } else {

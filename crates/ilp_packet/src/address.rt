@@ -69,9 +69,9 @@ fn are_all_segments(octets: &[u8]) -> bool
     passed && before != b'.'
 }
 
-// Whether a segment may have this octet.
+// Whether a segment may have this octet. Those that most segments have are looked for first.
 fn is_allowed(octet: u8) -> bool
     ensures { result ≡ is_segment_octet octet }
 {
-    matches!(octet, b'A'..=b'Z' | b'a'..=b'z' | b'0'..=b'9' | b'_' | b'~' | b'-')
+    matches!(octet, b'a'..=b'z' | b'0'..=b'9' | b'A'..=b'Z') || matches!(octet, b'-' | b'_' | b'~')
 }

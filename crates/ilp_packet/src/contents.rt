@@ -27,6 +27,7 @@ pub(crate) fn read_content(input: &[u8]) -> Result<&[u8], PacketFault>
 }
 
 /// The fields of a Prepare.
+#[inline(never)]
 #[tactic(auto, unfolding(crate::specs::Reading::prepare_in))]
 pub(crate) fn read_prepare(content: &[u8]) -> Result<Prepare<'_>, PacketFault>
     ensures { Gives plain_prepare result (prepare_in content.now) }
@@ -73,6 +74,7 @@ pub(crate) fn read_reject(content: &[u8]) -> Result<Reject<'_>, PacketFault>
 }
 
 // The data, the last field of each content.
+#[inline(always)]
 #[tactic(auto, unfolding(crate::specs::Reading::payload_in))]
 fn read_payload(input: &[u8]) -> Result<&[u8], PacketFault>
     ensures { Gives (λ payload. payload.now) result (payload_in input.now) }

@@ -64,6 +64,7 @@ impl<'a> Packet<'a> {
     /// Reads a packet, all of the input, in one pass and without memory (RFC 0027, "ILP Packets").
     /// The first fault from left to right is answered: of the type octet, of the octet string that
     /// is the content, `Trailing` after it, of each field in order, `Trailing` after the last.
+    #[inline]
     pub fn read(input: &'a [u8]) -> Result<Packet<'a>, PacketFault>
         // What is read is what the octets stand for, and no such octets are refused.
         ensures ok { IfOk result (λ packet. Spells input.now (plain packet)) }
@@ -78,7 +79,9 @@ impl<'a> Packet<'a> {
     }
 }
 
-// Reads a packet by its type octet.
+// Reads a packet by its type octet. It is inlined, so that no packet is passed on through memory as
+// the greatest of the three, with zeros in what the others lack.
+#[inline(always)]
 #[tactic(auto, unfolding(crate::specs::Reading::reading))]
 fn read_by_type(input: &[u8]) -> Result<Packet<'_>, PacketFault>
     ensures { Gives plain result (reading input.now) }
