@@ -49,6 +49,7 @@ pub(crate) fn take_string(input: &[u8]) -> Result<(&[u8], &[u8]), PacketFault>
 }
 
 /// An octet string whose content has at most so many octets.
+#[inline(always)]
 #[tactic(auto, unfolding(crate::specs::Reading::string_within))]
 pub(crate) fn take_string_within(limit: usize, input: &[u8]) -> Result<(&[u8], &[u8]), PacketFault>
     ensures { Gives (λ field. (field.0.now, field.1.now)) result (string_within limit input.now) }
