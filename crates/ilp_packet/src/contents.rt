@@ -1,8 +1,8 @@
 //! The contents of the three packets (RFC 0027): their fields in order, each read and checked at
 //! once.
 //!
-//! Each of the three readers is one piece of code with all that it calls, and is called once for a
-//! packet: so a field is passed on in a register, and a packet with its own fields alone.
+//! What reads a field is inlined, so that fields are passed on in registers, and so are the readers
+//! of the two small packets. A Prepare's is one piece of code.
 ghost use Rattle.std.specs.Prelude.{◌≡◌, Ok, Err};
 ghost use Rattle.ilp_packet.specs.Packet.{plain_prepare, plain_fulfill, plain_reject};
 ghost use Rattle.ilp_packet.specs.Reading.{Gives, prepare_in, fulfill_in, reject_in, payload_in, content_at, prepare_at, fulfill_at, reject_at};
@@ -29,7 +29,7 @@ pub(crate) fn read_prepare(input: &[u8]) -> Result<Prepare<'_>, PacketFault>
 }
 
 /// A Fulfill, from what follows its type octet.
-#[inline(never)]
+#[inline(always)]
 pub(crate) fn read_fulfill(input: &[u8]) -> Result<Fulfill<'_>, PacketFault>
     ensures { Gives plain_fulfill result (fulfill_at input.now) }
 {
@@ -37,7 +37,7 @@ pub(crate) fn read_fulfill(input: &[u8]) -> Result<Fulfill<'_>, PacketFault>
 }
 
 /// A Reject, from what follows its type octet.
-#[inline(never)]
+#[inline(always)]
 pub(crate) fn read_reject(input: &[u8]) -> Result<Reject<'_>, PacketFault>
     ensures { Gives plain_reject result (reject_at input.now) }
 {

@@ -41,6 +41,7 @@ pub(crate) fn take_expiry(input: &[u8]) -> Result<(i64, &[u8]), PacketFault>
 }
 
 /// An octet string, as its content.
+#[inline(always)]
 #[tactic(auto, unfolding(crate::specs::Reading::string_at))]
 pub(crate) fn take_string(input: &[u8]) -> Result<(&[u8], &[u8]), PacketFault>
     ensures { Gives (λ field. (field.0.now, field.1.now)) result (string_at input.now) }

@@ -88,9 +88,8 @@ pub counted_from : (number : ℤ) (y m d : ℕ) → y ≤ 9999 → 1 ≤ d → n
 counted_from number y m d year_in first e =
     e ∙ ap (λ (a : ℤ). days_from_civil a m d) (to_z_pos w16 y (omega arith)) ∙ same_day_number y m d first
 
-pub same_month_length : (y m n : ℕ) → y ≤ 9999 → n ≡ jiff_days_in_month (to_z w16 y) m → n ≡ days_in_month y m
-same_month_length y m n year_in e =
-    e ∙ ap (λ (a : ℤ). jiff_days_in_month a m) (to_z_pos w16 y (omega arith))
+pub same_month_length : (y m : ℕ) → y ≤ 9999 → jiff_days_in_month (to_z w16 y) m ≡ days_in_month y m
+same_month_length y m year_in = ap (λ (a : ℤ). jiff_days_in_month a m) (to_z_pos w16 y (omega arith))
 
 -- dates with one day number are one date
 pub day_number_injective : (y m d y₂ m₂ d₂ : ℕ) → IsDate y m d → IsDate y₂ m₂ d₂ → day_number y m d ≡ day_number y₂ m₂ d₂ → (y ≡ y₂) × (m ≡ m₂) × (d ≡ d₂)

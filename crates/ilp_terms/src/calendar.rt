@@ -1,5 +1,6 @@
 //! Dates of the years 0 to 9999, over `jiff_core`.
-ghost use Rattle.std.specs.Prelude.{◌≡◌, ◌≤◌, SomeIff, IfSome};
+ghost use Rattle.std.specs.Prelude.{◌≡◌, ◌≤◌, ◌↔◌, IsTrue, SomeIff, IfSome};
+ghost use Rattle.jiff_core.specs.Calendar.{days_in_month};
 ghost use Rattle.ilp_terms.specs.Calendar as calendar;
 ghost use Rattle.ilp_terms.specs.Calendar.{IsDate, IsDayNumber};
 
@@ -22,10 +23,17 @@ pub(crate) fn day_number(year: u32, month: u32, day: u32) -> Option<i32>
     ensures bound { IfSome result IsDayNumber }
 {
     let (year, month, day) = (year as i16, month as u8, day as u8);
-    if month < 1 || month > 12 || day < 1 || day > civil::days_in_month(year, month) {
+    if month < 1 || month > 12 || day < 1 || !month_has(year, month, day) {
         return None;
     }
     Some(Date { year, month, day }.to_unix_epoch_day())
+}
+
+// Whether the month is as long. How long it is must be known for its last days alone.
+fn month_has(year: i16, month: u8, day: u8) -> bool
+    ensures { IsTrue result ↔ (day ≤ days_in_month year month) }
+{
+    day <= 28 || day <= civil::days_in_month(year, month)
 }
 
 /// The date so many days after 1970-01-01.

@@ -7,11 +7,12 @@ use Rattle.ilp_terms.proofs.calendar.day_number.Goals as goal
 pub returns-clause-value : goal.returns-clause-value
 returns-clause-value c =
     let number = counted_from c.to_unix_epoch_day.result c.args.year c.args.month c.args.day c.requires.year_in c.if-day-lt1.false c.to_unix_epoch_day.ensures.value in
-    let length = same_month_length c.args.year c.args.month c.days_in_month.result c.requires.year_in c.days_in_month.ensures.value in
+    let length = same_month_length c.args.year c.args.month c.requires.year_in in
+    let fits = c.month_has.ensures.0 c.if-not-month_has.false in
     let date : IsDate c.args.year c.args.month c.args.day = record {
       year_in = c.requires.year_in;
       month_in = (omega arith, omega arith);
-      day_in = (omega arith, omega (arith, length));
+      day_in = (omega arith, rw (← length) fits);
     } in
     (date, omega (arith, signed_arith, number))
 
