@@ -201,20 +201,22 @@ fn expiry_read(text: &[u8; 17]) -> Option<i64> {
 
 // The number of days from 1970-01-01 to a date, where the calendar has it.
 fn day_number(year: u32, month: u32, day: u32) -> Option<i64> {
-    let days = match month {
-        1 | 3 | 5 | 7 | 8 | 10 | 12 => 31,
-        4 | 6 | 9 | 11 => 30,
-        2 if year % 4 == 0 && (year % 100 != 0 || year % 400 == 0) => 29,
-        2 => 28,
-        _ => return None,
-    };
-    if day < 1 || day > days {
+    if !(1..=12).contains(&month) || day < 1 || day > 28 && day > days_in_month(year, month) {
         return None;
     }
     // Years are counted from March, so that the leap day is the last.
     let (years, months) = if month > 2 { (year + 400, month - 3) } else { (year + 399, month + 9) };
     let of_years = years * 365 + years / 4 - years / 100 + years / 400;
     Some(i64::from(of_years + (153 * months + 2) / 5 + day) - 865_566)
+}
+
+fn days_in_month(year: u32, month: u32) -> u32 {
+    match month {
+        4 | 6 | 9 | 11 => 30,
+        2 if year % 4 == 0 && (year % 100 != 0 || year % 400 == 0) => 29,
+        2 => 28,
+        _ => 31,
+    }
 }
 
 // ---- writing

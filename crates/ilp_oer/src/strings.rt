@@ -16,6 +16,7 @@ pub const MAX_CONTENT: usize = 65_535;
 /// these faults is answered: no octet at all is `Truncated`; a first octet of `0x80` is
 /// `BadPrefix`; one above `0x82` is `TooLong`; a missing octet of the length is `Truncated`; a
 /// longer prefix than the length needs is `BadPrefix`; fewer octets than the length is `Truncated`.
+#[inline(always)]
 pub fn read_octets(input: &[u8]) -> Result<(&[u8], &[u8]), OerFault>
     ensures ok { IfOk result (λ parts. Splits input.now parts.0.now parts.1.now) }
     ensures every { (content rest : List ℕ) → Splits input.now content rest
@@ -30,6 +31,7 @@ pub fn read_octets(input: &[u8]) -> Result<(&[u8], &[u8]), OerFault>
 }
 
 // The length at the front of the input, and the rest of the input.
+#[inline(always)]
 fn read_len(input: &[u8]) -> Result<(usize, &[u8]), OerFault>
     ensures within { IfOk result (λ parts. parts.0 ≤ MAX_CONTENT) }
     ensures ok { IfOk result (λ parts. input.now ≡ prefix parts.0 ++ parts.1.now) }
