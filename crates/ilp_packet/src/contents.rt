@@ -9,7 +9,7 @@ ghost use Rattle.ilp_packet.specs.Reading.{Gives, prepare_in, fulfill_in, reject
 
 use crate::fault::PacketFault;
 use crate::fields::{
-    take_address, take_amount, take_chunk, take_expiry, take_last, take_string, take_string_within,
+    take_address, take_chunk, take_expiry, take_last, take_string, take_string_within,
 };
 use crate::packet::{Fulfill, Prepare, Reject};
 
@@ -55,17 +55,17 @@ fn read_content(input: &[u8]) -> Result<&[u8], PacketFault>
 }
 
 // The fields of a Prepare.
-#[tactic(auto, unfolding(crate::specs::Reading::prepare_in))]
+#[tactic(auto, unfolding(crate::specs::Reading::prepare_in, crate::specs::Reading::amount_at))]
 fn prepare_of(content: &[u8]) -> Result<Prepare<'_>, PacketFault>
     ensures { Gives plain_prepare result (prepare_in content.now) }
 {
-    let (amount, rest) = take_amount(content)?;
+    let (amount, rest) = take_chunk::<8>(content)?;
     let (expires, rest) = take_expiry(rest)?;
     let (condition, rest) = take_chunk::<32>(rest)?;
     let (destination, rest) = take_address(rest)?;
     let payload = read_payload(rest)?;
     Ok(Prepare {
-        amount,
+        amount: u64::from_be_bytes(*amount),
         expires,
         condition,
         destination,

@@ -1,7 +1,7 @@
 //! The fields of a packet. Each function reads one field at the front of the input, and gives its
 //! value and the rest of the input.
 ghost use Rattle.std.specs.Prelude.{◌≡◌, Ok, Err};
-ghost use Rattle.ilp_packet.specs.Reading.{Gives, chunk_at, amount_at, expiry_at, string_at, string_within, address_at, last_of};
+ghost use Rattle.ilp_packet.specs.Reading.{Gives, chunk_at, expiry_at, string_at, string_within, address_at, last_of};
 
 use crate::address::is_address;
 use crate::fault::PacketFault;
@@ -17,15 +17,6 @@ pub(crate) fn take_chunk<const N: usize>(input: &[u8]) -> Result<(&[u8; N], &[u8
         Some(field) => Ok(field),
         None => Err(PacketFault::Truncated),
     }
-}
-
-/// A number of eight octets, greatest first.
-#[tactic(auto, unfolding(crate::specs::Reading::amount_at))]
-pub(crate) fn take_amount(input: &[u8]) -> Result<(u64, &[u8]), PacketFault>
-    ensures { Gives (λ field. (field.0, field.1.now)) result (amount_at input.now) }
-{
-    let (octets, rest) = take_chunk::<8>(input)?;
-    Ok((u64::from_be_bytes(*octets), rest))
 }
 
 /// An expiry, as the moment that it names.
