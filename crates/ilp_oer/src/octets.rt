@@ -3,10 +3,11 @@ ghost use Rattle.std.specs.Prelude.{◌≡◌, ◌+◌, ◌<◌, ◌≤◌, [], 
 ghost use Rattle.ilp_oer.specs.Octets.{OctetsWithRoom};
 
 use std::alloc::{AllocError, Allocator, Global};
+use std::fmt;
 use std::marker::Model;
 
 /// A list of octets that tells how many more it takes without memory.
-#[derive(Debug, Drop)]
+#[derive(Drop)]
 pub struct Octets<A: Allocator = Global> {
     // The octets, and behind them the room for more, which is filled with zeros or what stood there
     // before: so octets are appended by writing over places that are there, with one test of room
@@ -122,5 +123,12 @@ impl<A: Allocator> Octets<A> {
         let end = self.len + octets.len();
         self.row[self.len..end].copy_from_slice(octets);
         self.len = end;
+    }
+}
+
+// The octets alone, and not what stands in their room.
+impl<A: Allocator> fmt::Debug for Octets<A> {
+    fn fmt<W: fmt::Write>(&self, f: &mut fmt::Formatter<W>) -> fmt::Result {
+        f.debug_list().entries(self.as_slice()).finish()
     }
 }
