@@ -1,16 +1,18 @@
 #!/bin/sh
 # Runs the benchmark bench/NAME: main.rt.in, a Rattle program over this repository's crates, and
-# baseline.rs, the same work in plain Rust. Prints the nanoseconds of a turn and their ratio.
+# baseline.rs, the same work in plain Rust. Prints the nanoseconds of a turn and their ratio, and then
+# the instructions of a turn, which don't move with the machine (but for `book`, whose rows are no
+# input).
 #
 #     scripts/bench.sh packets
 #     scripts/bench.sh quote
 #     scripts/bench.sh book
 #
 # It works on a copy of the repository in a temporary folder (TMPDIR says where). It needs rt, rustc
-# and python3. The Rattle program is proved before it is built (`rt run`): a build without proof
-# (`rt try`) has checks in it and is slower. In a fresh clone that takes some minutes. ROUNDS is how
-# often each program runs; of each row the least time counts, since other work on the machine can
-# only add to it.
+# and python3, and valgrind for the instructions. The Rattle program is proved before it is built
+# (`rt run`): a build without proof (`rt try`) has checks in it and is slower. In a fresh clone that
+# takes some minutes. ROUNDS is how often each program runs; of each row the least time counts, since
+# other work on the machine can only add to it. With ROUNDS=0 only the instructions are counted.
 set -eu
 
 name=${1:?usage: scripts/bench.sh NAME}
@@ -34,11 +36,16 @@ rt run <"$work/input" >"$work/first" 2>"$work/log" || { cat "$work/log" >&2; exi
 cpu=$(sed -n 's/^logic=.* cpu=\([^ ]*\).*/\1/p' "$work/log" | tail -n 1)
 rustc --edition 2024 -O -C "target-cpu=$cpu" "$bench/baseline.rs" -o "$work/baseline"
 
-for _ in $(seq "$rounds"); do
-    "out/bench_$name" <"$work/input" | sed 's/^/rattle /'
-    "$work/baseline" <"$work/input" | sed 's/^/rust /'
-done >"$work/rows"
-
 echo "Rattle: proved and built by rt run, for $cpu. Rust: rustc -O for $cpu, std alone."
-echo "Nanoseconds of a turn, the least of $rounds rounds."
-python3 "$top/scripts/bench_table.py" "$work/rows"
+if [ "$rounds" -gt 0 ]; then
+    for _ in $(seq "$rounds"); do
+        "out/bench_$name" <"$work/input" | sed 's/^/rattle /'
+        "$work/baseline" <"$work/input" | sed 's/^/rust /'
+    done >"$work/rows"
+    echo "Nanoseconds of a turn, the least of $rounds rounds."
+    python3 "$top/scripts/bench_table.py" "$work/rows"
+fi
+if [ -s "$work/input" ] && command -v valgrind >/dev/null; then
+    echo "Instructions of a turn, by callgrind."
+    python3 "$top/scripts/bench_instructions.py" "$work/input" "out/bench_$name" "$work/baseline"
+fi

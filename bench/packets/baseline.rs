@@ -201,14 +201,7 @@ fn expiry_read(text: &[u8; 17]) -> Option<i64> {
 
 // The number of days from 1970-01-01 to a date, where the calendar has it.
 fn day_number(year: u32, month: u32, day: u32) -> Option<i64> {
-    let days = match month {
-        1 | 3 | 5 | 7 | 8 | 10 | 12 => 31,
-        4 | 6 | 9 | 11 => 30,
-        2 if year % 4 == 0 && (year % 100 != 0 || year % 400 == 0) => 29,
-        2 => 28,
-        _ => return None,
-    };
-    if day < 1 || day > days {
+    if !(1..=12).contains(&month) || day < 1 || day > 28 && day > days_in_month(year, month) {
         return None;
     }
     // Years are counted from March, so that the leap day is the last.
@@ -217,9 +210,50 @@ fn day_number(year: u32, month: u32, day: u32) -> Option<i64> {
     Some(i64::from(of_years + (153 * months + 2) / 5 + day) - 865_566)
 }
 
+fn days_in_month(year: u32, month: u32) -> u32 {
+    match month {
+        4 | 6 | 9 | 11 => 30,
+        2 if year % 4 == 0 && (year % 100 != 0 || year % 400 == 0) => 29,
+        2 => 28,
+        _ => 31,
+    }
+}
+
 // ---- writing
 
-fn write(out: &mut Vec<u8>, packet: &Packet<'_>) {
+// Octets, and behind them room that is filled already: what is appended is written over it.
+struct Octets {
+    row: Vec<u8>,
+    len: usize,
+}
+
+impl Octets {
+    fn with_capacity(capacity: usize) -> Octets {
+        Octets { row: vec![0; capacity], len: 0 }
+    }
+
+    fn clear(&mut self) {
+        self.len = 0;
+    }
+
+    fn as_slice(&self) -> &[u8] {
+        &self.row[..self.len]
+    }
+
+    fn reserve(&mut self, additional: usize) {
+        if self.row.len() - self.len < additional {
+            self.row.resize(self.len + additional, 0);
+        }
+    }
+
+    fn append(&mut self, octets: &[u8]) {
+        let end = self.len + octets.len();
+        self.row[self.len..end].copy_from_slice(octets);
+        self.len = end;
+    }
+}
+
+fn write(out: &mut Octets, packet: &Packet<'_>) {
     match packet {
         Packet::Prepare(found) => write_prepare(out, found),
         Packet::Fulfill(found) => write_fulfill(out, found),
@@ -227,41 +261,41 @@ fn write(out: &mut Vec<u8>, packet: &Packet<'_>) {
     }
 }
 
-fn write_prepare(out: &mut Vec<u8>, packet: &Prepare<'_>) {
+fn write_prepare(out: &mut Octets, packet: &Prepare<'_>) {
     let expiry = expiry_write(packet.expires);
     begin(out, 12, 57 + octets_len(packet.destination) + octets_len(packet.payload));
-    out.extend_from_slice(&packet.amount.to_be_bytes());
-    out.extend_from_slice(&expiry);
-    out.extend_from_slice(packet.condition);
+    out.append(&packet.amount.to_be_bytes());
+    out.append(&expiry);
+    out.append(packet.condition);
     write_string(out, packet.destination);
     write_string(out, packet.payload);
 }
 
-fn write_fulfill(out: &mut Vec<u8>, packet: &Fulfill<'_>) {
+fn write_fulfill(out: &mut Octets, packet: &Fulfill<'_>) {
     begin(out, 13, 32 + octets_len(packet.payload));
-    out.extend_from_slice(packet.preimage);
+    out.append(packet.preimage);
     write_string(out, packet.payload);
 }
 
-fn write_reject(out: &mut Vec<u8>, packet: &Reject<'_>) {
+fn write_reject(out: &mut Octets, packet: &Reject<'_>) {
     let fields = [packet.triggered_by, packet.message, packet.payload];
     begin(out, 14, 3 + fields.into_iter().map(octets_len).sum::<usize>());
-    out.extend_from_slice(packet.code);
+    out.append(packet.code);
     for field in fields {
         write_string(out, field);
     }
 }
 
 // Makes room for the packet, and appends its type and the prefix of its content.
-fn begin(out: &mut Vec<u8>, number: u8, len: usize) {
+fn begin(out: &mut Octets, number: u8, len: usize) {
     out.reserve(1 + prefix_len(len) + len);
-    out.push(number);
+    out.append(&[number]);
     write_prefix(out, len);
 }
 
-fn write_string(out: &mut Vec<u8>, content: &[u8]) {
+fn write_string(out: &mut Octets, content: &[u8]) {
     write_prefix(out, content.len());
-    out.extend_from_slice(content);
+    out.append(content);
 }
 
 fn octets_len(content: &[u8]) -> usize {
@@ -276,12 +310,12 @@ fn prefix_len(len: usize) -> usize {
     }
 }
 
-fn write_prefix(out: &mut Vec<u8>, len: usize) {
+fn write_prefix(out: &mut Octets, len: usize) {
     let [high, low] = (len as u16).to_be_bytes();
     match prefix_len(len) {
-        1 => out.extend_from_slice(&[low]),
-        2 => out.extend_from_slice(&[0x81, low]),
-        _ => out.extend_from_slice(&[0x82, high, low]),
+        1 => out.append(&[low]),
+        2 => out.append(&[0x81, low]),
+        _ => out.append(&[0x82, high, low]),
     }
 }
 
@@ -419,7 +453,7 @@ fn read_packets(octets: &mut [u8], place: usize, turns: u32) -> u64 {
     sum
 }
 
-fn copy_packets(octets: &mut [u8], place: usize, out: &mut Vec<u8>, turns: u32) -> u64 {
+fn copy_packets(octets: &mut [u8], place: usize, out: &mut Octets, turns: u32) -> u64 {
     let mut sum = 0u64;
     for turn in 0..turns {
         if let Some(octet) = octets.get_mut(place) {
@@ -429,17 +463,19 @@ fn copy_packets(octets: &mut [u8], place: usize, out: &mut Vec<u8>, turns: u32) 
         if let Ok(packet) = read(black_box(octets)) {
             write(out, &packet);
         }
-        let front = out.len().min(turn as usize % 32_768);
-        sum = sum.wrapping_add(u64::from(last(&black_box(&*out)[..front])));
+        let front = out.as_slice().len().min(turn as usize % 32_768);
+        sum = sum.wrapping_add(u64::from(last(&black_box(out.as_slice())[..front])));
     }
     sum
 }
 
-fn append_blocks(block: &mut [u8; 32_768], turns: u32) -> u64 {
+fn append_blocks(block: &mut [u8], place: usize, turns: u32) -> u64 {
     let mut out = Vec::with_capacity(block.len());
     let mut sum = 0u64;
     for turn in 0..turns {
-        block[32_767] = letter(turn);
+        if let Some(octet) = block.get_mut(place) {
+            *octet = letter(turn);
+        }
         out.clear();
         out.extend_from_slice(black_box(&*block));
         let front = out.len().min(turn as usize % 32_768);
@@ -448,19 +484,15 @@ fn append_blocks(block: &mut [u8; 32_768], turns: u32) -> u64 {
     sum
 }
 
-fn digest_messages(message: &mut [u8], turns: u32) -> u64 {
+fn digest_messages(message: &mut [u8], place: usize, turns: u32) -> u64 {
     let mut sum = 0u64;
     for turn in 0..turns {
-        message[0] = letter(turn);
+        if let Some(octet) = message.get_mut(place) {
+            *octet = letter(turn);
+        }
         sum = sum.wrapping_add(u64::from(sha256(black_box(message))[31]));
     }
     sum
-}
-
-fn print_row(name: &str, turns: u32, work: impl FnOnce(u32) -> u64) {
-    let start = Instant::now();
-    let sum = work(turns);
-    println!("{name} {turns} {} {sum}", start.elapsed().as_nanos());
 }
 
 fn decoded(hex: &str) -> Vec<u8> {
@@ -472,16 +504,22 @@ fn main() {
     let mut text = String::new();
     std::io::stdin().read_to_string(&mut text).expect("standard input");
     for line in text.lines() {
-        let [name, place, hex] = line.split(' ').collect::<Vec<_>>()[..] else { panic!("a line") };
-        let (mut octets, place) = (decoded(hex), place.parse().expect("a place"));
-        let row = format!("read_{name}");
-        print_row(&row, 2_000_000, |turns| read_packets(&mut octets, place, turns));
-        let row = format!("read_and_write_{name}");
-        let mut out = Vec::with_capacity(32_768);
-        print_row(&row, 2_000_000, |turns| copy_packets(&mut octets, place, &mut out, turns));
+        let [name, turns, place, hex] = line.split(' ').collect::<Vec<_>>()[..] else {
+            panic!("a line")
+        };
+        let (turns, place) = (turns.parse().expect("turns"), place.parse().expect("a place"));
+        let mut octets = decoded(hex);
+        let mut out = Octets::with_capacity(32_768);
+        let start = Instant::now();
+        let sum = if name.starts_with("read_and_write_") {
+            copy_packets(&mut octets, place, &mut out, turns)
+        } else if name.starts_with("append_") {
+            append_blocks(&mut octets, place, turns)
+        } else if name.starts_with("sha256_") {
+            digest_messages(&mut octets, place, turns)
+        } else {
+            read_packets(&mut octets, place, turns)
+        };
+        println!("{name} {turns} {} {sum}", start.elapsed().as_nanos());
     }
-    let mut block = std::array::from_fn(|place| (place % 251) as u8);
-    print_row("append_32768", 100_000, |turns| append_blocks(&mut block, turns));
-    print_row("sha256_32", 500_000, |turns| digest_messages(&mut [7; 32], turns));
-    print_row("sha256_65536", 500, |turns| digest_messages(&mut [7; 65_536], turns));
 }

@@ -1,6 +1,6 @@
 #!/usr/bin/env python3
-"""The packets that the benchmark reads: on each line a name, the place of an octet that the
-benchmark varies (a letter at that place leaves the packet a packet), and the octets as hex."""
+"""The rows of the benchmark: on each line the row's name, how many turns it makes, the place of an
+octet that each turn varies (a letter at that place leaves a packet a packet), and the octets as hex."""
 
 
 def string(content):
@@ -25,10 +25,16 @@ LARGE = prepare(LONG, DATA)
 FULFILL = b"\x0d" + string(bytes(32) + string(DATA[:32]))
 REJECT = b"\x0e" + string(b"T01" + string(b"test.hub") + string(b"no way") + string(DATA[:2]))
 
+BLOCK = bytes(n % 251 for n in range(32_768))
+
 for name, packet, place in [
     ("prepare_small", SMALL, SMALL.index(b"bob")),
     ("prepare_large", LARGE, LARGE.index(LONG) + 68),
     ("fulfill", FULFILL, 2),
     ("reject", REJECT, REJECT.index(b"no way")),
 ]:
-    print(name, place, packet.hex())
+    for row in ["read", "read_and_write"]:
+        print(f"{row}_{name}", 2_000_000, place, packet.hex())
+print("append_32768", 100_000, 32_767, BLOCK.hex())
+print("sha256_32", 500_000, 0, "07" * 32)
+print("sha256_65536", 500, 0, "07" * 65_536)

@@ -4,7 +4,6 @@ use std::hint::black_box;
 use std::time::Instant;
 
 const ASSETS: usize = 64;
-const ROUNDS: u64 = 20_000_000;
 
 struct Asset {
     code: String,
@@ -87,11 +86,13 @@ fn table() -> AssetTable {
 }
 
 fn main() {
+    let text = std::io::read_to_string(std::io::stdin()).expect("standard input");
+    let turns: u32 = text.trim_end().rsplit(' ').next().expect("a word").parse().expect("turns");
     let table = black_box(table());
     let mut sum: u64 = 0;
     let mut state: u64 = 1;
     let start = Instant::now();
-    for _ in 0..ROUNDS {
+    for _ in 0..turns {
         state = state.wrapping_mul(6_364_136_223_846_793_005).wrapping_add(1_442_695_040_888_963_407);
         let from = (state >> 58) as u32;
         let to = ((state >> 52) % 64) as u32;
@@ -104,7 +105,7 @@ fn main() {
         };
     }
     let spent = start.elapsed().as_nanos();
-    println!("quote {ROUNDS} {spent} {sum}");
+    println!("quote {turns} {spent} {sum}");
     let codes: usize = table.assets.iter().map(|asset| asset.code.len()).sum();
     let places: usize = table.prices.iter().map(|price| price.from ^ price.to).sum();
     black_box((codes, places));

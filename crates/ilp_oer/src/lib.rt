@@ -9,4 +9,6 @@ mod strings;
 pub use fault::OerFault;
 pub use laws::{faulty_exactly_where_unspelled, one_spelling};
 pub use octets::Octets;
-pub use strings::{MAX_CONTENT, octets_len, read_octets, write_octets, write_prefix};
+pub use strings::{
+    MAX_CONTENT, octets_len, put_octets, put_prefix, read_octets, write_octets, write_prefix,
+};

@@ -1,26 +1,30 @@
 //! Octets in memory.
-ghost use Rattle.std.specs.Prelude.{◌≡◌, ◌+◌, ◌<◌, ◌≤◌, [], ◌++◌, length, IsOk, OnOk, OnErr, vec_len, vec_capacity};
+ghost use Rattle.std.specs.Prelude.{◌≡◌, ◌+◌, ◌<◌, ◌≤◌, [], ◌++◌, length, IsOk, OnOk, OnErr, vec_len, take};
 ghost use Rattle.ilp_oer.specs.Octets.{OctetsWithRoom};
 
 use std::alloc::{AllocError, Allocator, Global};
+use std::fmt;
 use std::marker::Model;
 
 /// A list of octets that tells how many more it takes without memory.
-#[derive(Debug, Drop)]
+#[derive(Drop)]
 pub struct Octets<A: Allocator = Global> {
+    // The octets, and behind them the room for more, which is filled with zeros or what stood there
+    // before: so octets are appended by writing over places that are there, with one test of room
+    // for a whole packet, where std would test its capacity at each append.
     row: Vec<u8, A>,
-    // How many more octets the row has room for at least. It is kept beside the row, since std does
-    // not say that the capacity stays as it is where octets are appended in one piece.
-    room: usize,
-    ghost fits: { vec_len row + room ≤ vec_capacity row },
+    // How many octets there are.
+    len: usize,
+    ghost fits: { len ≤ vec_len row },
 }
 
 impl<A: Allocator> Model for Octets<A> {
+    ghost use Rattle.std.specs.Prelude.{◌-◌, take, vec_len};
     ghost use Rattle.ilp_oer.specs.Octets.{OctetsWithRoom};
 
     ghost Value = { OctetsWithRoom };
 
-    ghost view = { λ o. record { octets = o.row.items; spare = o.room } };
+    ghost view = { λ o. record { octets = take o.len o.row.items; spare = vec_len o.row - o.len } };
 }
 
 impl<A: Allocator> Octets<A> {
@@ -31,7 +35,7 @@ impl<A: Allocator> Octets<A> {
     {
         Octets {
             row: Vec::new(alloc),
-            room: 0,
+            len: 0,
         }
     }
 
@@ -39,7 +43,7 @@ impl<A: Allocator> Octets<A> {
     pub fn as_slice(&self) -> &[u8]
         ensures { result.now ≡ self.now.octets }
     {
-        self.row.as_slice()
+        &self.row.as_slice()[..self.len]
     }
 
     /// Takes the octets away. Their room is kept, as spare room.
@@ -47,15 +51,14 @@ impl<A: Allocator> Octets<A> {
         ensures octets { self.new.octets ≡ [] }
         ensures room { self.new.spare ≡ length self.old.octets + self.old.spare }
     {
-        self.room += self.row.len();
-        self.row.clear();
+        self.len = 0;
     }
 
     /// How many more octets are taken without memory.
     pub fn spare(&self) -> usize
         ensures { result ≡ self.now.spare }
     {
-        self.room
+        self.row.len() - self.len
     }
 
     /// Makes room for `additional` more octets, if there is less.
@@ -73,12 +76,23 @@ impl<A: Allocator> Octets<A> {
         ensures refused { OnErr result (self.old.spare < additional) }
         ensures err { OnErr result (self.new ≡ self.old) }
     {
-        if additional <= self.room {
+        let spare = self.spare();
+        if additional <= spare {
             return Ok(());
         }
-        self.row.reserve(additional)?;
-        self.room = self.row.capacity() - self.row.len();
-        Ok(())
+        self.grow(additional - spare)
+    }
+
+    // Makes room for so many more octets than there is room for.
+    fn grow(&mut self, missing: usize) -> Result<(), AllocError>
+        ensures octets { self.new.octets ≡ self.old.octets }
+        ensures ok { OnOk result (self.old.spare + missing ≤ self.new.spare) }
+        ensures kept { self.old.spare ≤ self.new.spare }
+        ensures err { OnErr result (self.new ≡ self.old) }
+    {
+        self.row.reserve(missing)?;
+        let capacity = self.row.capacity();
+        self.row.resize(capacity, 0)
     }
 
     /// Appends the octets.
@@ -96,8 +110,25 @@ impl<A: Allocator> Octets<A> {
         ensures err { OnErr result (self.new ≡ self.old) }
     {
         self.reserve(octets.len())?;
-        self.row.extend_from_slice(octets)?;
-        self.room -= octets.len();
+        self.append_reserved(octets);
         Ok(())
+    }
+
+    /// Appends the octets, for which there is room.
+    pub fn append_reserved(&mut self, octets: &[u8])
+        requires { length octets.now ≤ self.old.spare }
+        ensures octets { self.new.octets ≡ self.old.octets ++ octets.now }
+        ensures used { self.new.spare + length octets.now ≡ self.old.spare }
+    {
+        let end = self.len + octets.len();
+        self.row[self.len..end].copy_from_slice(octets);
+        self.len = end;
+    }
+}
+
+// The octets alone, and not what stands in their room.
+impl<A: Allocator> fmt::Debug for Octets<A> {
+    fn fmt<W: fmt::Write>(&self, f: &mut fmt::Formatter<W>) -> fmt::Result {
+        f.debug_list().entries(self.as_slice()).finish()
     }
 }

@@ -16,6 +16,7 @@ pub const MAX_CONTENT: usize = 65_535;
 /// these faults is answered: no octet at all is `Truncated`; a first octet of `0x80` is
 /// `BadPrefix`; one above `0x82` is `TooLong`; a missing octet of the length is `Truncated`; a
 /// longer prefix than the length needs is `BadPrefix`; fewer octets than the length is `Truncated`.
+#[inline(always)]
 pub fn read_octets(input: &[u8]) -> Result<(&[u8], &[u8]), OerFault>
     ensures ok { IfOk result (λ parts. Splits input.now parts.0.now parts.1.now) }
     ensures every { (content rest : List ℕ) → Splits input.now content rest
@@ -30,6 +31,7 @@ pub fn read_octets(input: &[u8]) -> Result<(&[u8], &[u8]), OerFault>
 }
 
 // The length at the front of the input, and the rest of the input.
+#[inline(always)]
 fn read_len(input: &[u8]) -> Result<(usize, &[u8]), OerFault>
     ensures within { IfOk result (λ parts. parts.0 ≤ MAX_CONTENT) }
     ensures ok { IfOk result (λ parts. input.now ≡ prefix parts.0 ++ parts.1.now) }
@@ -73,8 +75,21 @@ pub fn write_octets<A: Allocator>(out: &mut Octets<A>, content: &[u8]) -> Result
     ensures err { OnErr result (out.new ≡ out.old) }
 {
     out.reserve(octets_len(content.len()))?;
-    write_prefix(out, content.len())?;
-    out.append(content)
+    put_octets(out, content);
+    Ok(())
+}
+
+/// Appends the octet string of the content, which has at most `MAX_CONTENT` octets, and for which
+/// there is room.
+#[inline]
+pub fn put_octets<A: Allocator>(out: &mut Octets<A>, content: &[u8])
+    requires within { length content.now ≤ MAX_CONTENT }
+    requires room { length (spelling content.now) ≤ out.old.spare }
+    ensures octets { out.new.octets ≡ out.old.octets ++ spelling content.now }
+    ensures used { out.new.spare + length (spelling content.now) ≡ out.old.spare }
+{
+    put_prefix(out, content.len());
+    out.append_reserved(content);
 }
 
 /// Appends the prefix of an octet string whose content, of at most `MAX_CONTENT` octets, is to
@@ -94,13 +109,27 @@ pub fn write_prefix<A: Allocator>(out: &mut Octets<A>, len: usize) -> Result<(),
     ensures refused { OnErr result (out.old.spare < length (prefix len)) }
     ensures err { OnErr result (out.new ≡ out.old) }
 {
+    out.reserve(octets_len(len) - len)?;
+    put_prefix(out, len);
+    Ok(())
+}
+
+/// Appends the prefix of an octet string whose content, of at most `MAX_CONTENT` octets, is to
+/// follow. There is room for the prefix.
+#[inline]
+pub fn put_prefix<A: Allocator>(out: &mut Octets<A>, len: usize)
+    requires within { len ≤ MAX_CONTENT }
+    requires room { length (prefix len) ≤ out.old.spare }
+    ensures octets { out.new.octets ≡ out.old.octets ++ prefix len }
+    ensures used { out.new.spare + length (prefix len) ≡ out.old.spare }
+{
     let low = (len % 0x100) as u8;
     if len < 0x80 {
-        out.append(&[low])
+        out.append_reserved(&[low]);
     } else if len < 0x100 {
-        out.append(&[0x81, low])
+        out.append_reserved(&[0x81, low]);
     } else {
-        out.append(&[0x82, (len / 0x100) as u8, low])
+        out.append_reserved(&[0x82, (len / 0x100) as u8, low]);
     }
 }
 

@@ -113,6 +113,16 @@ content_at octets = do
   field ← string_at octets
   last_of field
 
+-- each packet, from what follows its type octet
+abbrev pub prepare_at : List ℕ → Result PlainPrepare PacketFault
+prepare_at octets = content_at octets >>= prepare_in
+
+abbrev pub fulfill_at : List ℕ → Result PlainFulfill PacketFault
+fulfill_at octets = content_at octets >>= fulfill_in
+
+abbrev pub reject_at : List ℕ → Result PlainReject PacketFault
+reject_at octets = content_at octets >>= reject_in
+
 -- what was read, as a packet
 abbrev pub as_packet : {X : Type 0} → (X → PlainPacket) → Result X PacketFault → Result PlainPacket PacketFault
 as_packet make read = read >>= λ x. Ok (make x)

@@ -69,9 +69,12 @@ fn are_all_segments(octets: &[u8]) -> bool
     passed && before != b'.'
 }
 
-// Whether a segment may have this octet.
+// Whether a segment may have this octet. The letters are looked for first, and both ranges of them
+// at once.
 fn is_allowed(octet: u8) -> bool
     ensures { result ≡ is_segment_octet octet }
 {
-    matches!(octet, b'A'..=b'Z' | b'a'..=b'z' | b'0'..=b'9' | b'_' | b'~' | b'-')
+    (b'A' <= octet) & (octet <= b'Z') | (b'a' <= octet) & (octet <= b'z')
+        || octet.is_ascii_digit()
+        || matches!(octet, b'_' | b'~' | b'-')
 }

@@ -1,12 +1,15 @@
 //! The contents of the three packets (RFC 0027): their fields in order, each read and checked at
 //! once.
+//!
+//! What reads a field is inlined, so that fields are passed on in registers, and so are the readers
+//! of the two small packets. A Prepare's is one piece of code.
 ghost use Rattle.std.specs.Prelude.{◌≡◌, Ok, Err};
 ghost use Rattle.ilp_packet.specs.Packet.{plain_prepare, plain_fulfill, plain_reject};
-ghost use Rattle.ilp_packet.specs.Reading.{Gives, prepare_in, fulfill_in, reject_in, payload_in, content_at};
+ghost use Rattle.ilp_packet.specs.Reading.{Gives, prepare_in, fulfill_in, reject_in, payload_in, content_at, prepare_at, fulfill_at, reject_at};
 
 use crate::fault::PacketFault;
 use crate::fields::{
-    take_address, take_amount, take_chunk, take_expiry, take_last, take_string, take_string_within,
+    take_address, take_chunk, take_expiry, take_last, take_string, take_string_within,
 };
 use crate::packet::{Fulfill, Prepare, Reject};
 
@@ -17,27 +20,52 @@ const MAX_MESSAGE: usize = 8_191;
 // The greatest number of octets of the address that triggered a Reject.
 const MAX_TRIGGERED_BY: usize = 1_023;
 
-/// The content after a type octet: one octet string, which nothing follows.
+/// A Prepare, from what follows its type octet.
+#[inline(never)]
+pub(crate) fn read_prepare(input: &[u8]) -> Result<Prepare<'_>, PacketFault>
+    ensures { Gives plain_prepare result (prepare_at input.now) }
+{
+    prepare_of(read_content(input)?)
+}
+
+/// A Fulfill, from what follows its type octet.
+#[inline(always)]
+pub(crate) fn read_fulfill(input: &[u8]) -> Result<Fulfill<'_>, PacketFault>
+    ensures { Gives plain_fulfill result (fulfill_at input.now) }
+{
+    fulfill_of(read_content(input)?)
+}
+
+/// A Reject, from what follows its type octet.
+#[inline(always)]
+pub(crate) fn read_reject(input: &[u8]) -> Result<Reject<'_>, PacketFault>
+    ensures { Gives plain_reject result (reject_at input.now) }
+{
+    reject_of(read_content(input)?)
+}
+
+// The content after a type octet: one octet string, which nothing follows.
+#[inline(always)]
 #[tactic(auto, unfolding(crate::specs::Reading::content_at))]
-pub(crate) fn read_content(input: &[u8]) -> Result<&[u8], PacketFault>
+fn read_content(input: &[u8]) -> Result<&[u8], PacketFault>
     ensures { Gives (λ content. content.now) result (content_at input.now) }
 {
     let (content, rest) = take_string(input)?;
     take_last(content, rest)
 }
 
-/// The fields of a Prepare.
-#[tactic(auto, unfolding(crate::specs::Reading::prepare_in))]
-pub(crate) fn read_prepare(content: &[u8]) -> Result<Prepare<'_>, PacketFault>
+// The fields of a Prepare.
+#[tactic(auto, unfolding(crate::specs::Reading::prepare_in, crate::specs::Reading::amount_at))]
+fn prepare_of(content: &[u8]) -> Result<Prepare<'_>, PacketFault>
     ensures { Gives plain_prepare result (prepare_in content.now) }
 {
-    let (amount, rest) = take_amount(content)?;
+    let (amount, rest) = take_chunk::<8>(content)?;
     let (expires, rest) = take_expiry(rest)?;
     let (condition, rest) = take_chunk::<32>(rest)?;
     let (destination, rest) = take_address(rest)?;
     let payload = read_payload(rest)?;
     Ok(Prepare {
-        amount,
+        amount: u64::from_be_bytes(*amount),
         expires,
         condition,
         destination,
@@ -45,9 +73,9 @@ pub(crate) fn read_prepare(content: &[u8]) -> Result<Prepare<'_>, PacketFault>
     })
 }
 
-/// The fields of a Fulfill.
+// The fields of a Fulfill.
 #[tactic(auto, unfolding(crate::specs::Reading::fulfill_in))]
-pub(crate) fn read_fulfill(content: &[u8]) -> Result<Fulfill<'_>, PacketFault>
+fn fulfill_of(content: &[u8]) -> Result<Fulfill<'_>, PacketFault>
     ensures { Gives plain_fulfill result (fulfill_in content.now) }
 {
     let (preimage, rest) = take_chunk::<32>(content)?;
@@ -55,9 +83,9 @@ pub(crate) fn read_fulfill(content: &[u8]) -> Result<Fulfill<'_>, PacketFault>
     Ok(Fulfill { preimage, payload })
 }
 
-/// The fields of a Reject. All but the lengths may be any octets.
+// The fields of a Reject. All but the lengths may be any octets.
 #[tactic(auto, unfolding(crate::specs::Reading::reject_in))]
-pub(crate) fn read_reject(content: &[u8]) -> Result<Reject<'_>, PacketFault>
+fn reject_of(content: &[u8]) -> Result<Reject<'_>, PacketFault>
     ensures { Gives plain_reject result (reject_in content.now) }
 {
     let (code, rest) = take_chunk::<3>(content)?;
@@ -73,6 +101,7 @@ pub(crate) fn read_reject(content: &[u8]) -> Result<Reject<'_>, PacketFault>
 }
 
 // The data, the last field of each content.
+#[inline(always)]
 #[tactic(auto, unfolding(crate::specs::Reading::payload_in))]
 fn read_payload(input: &[u8]) -> Result<&[u8], PacketFault>
     ensures { Gives (λ payload. payload.now) result (payload_in input.now) }

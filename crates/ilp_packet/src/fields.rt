@@ -1,7 +1,7 @@
 //! The fields of a packet. Each function reads one field at the front of the input, and gives its
 //! value and the rest of the input.
 ghost use Rattle.std.specs.Prelude.{◌≡◌, Ok, Err};
-ghost use Rattle.ilp_packet.specs.Reading.{Gives, chunk_at, amount_at, expiry_at, string_at, string_within, address_at, last_of};
+ghost use Rattle.ilp_packet.specs.Reading.{Gives, chunk_at, expiry_at, string_at, string_within, address_at, last_of};
 
 use crate::address::is_address;
 use crate::fault::PacketFault;
@@ -19,15 +19,6 @@ pub(crate) fn take_chunk<const N: usize>(input: &[u8]) -> Result<(&[u8; N], &[u8
     }
 }
 
-/// A number of eight octets, greatest first.
-#[tactic(auto, unfolding(crate::specs::Reading::amount_at))]
-pub(crate) fn take_amount(input: &[u8]) -> Result<(u64, &[u8]), PacketFault>
-    ensures { Gives (λ field. (field.0, field.1.now)) result (amount_at input.now) }
-{
-    let (octets, rest) = take_chunk::<8>(input)?;
-    Ok((u64::from_be_bytes(*octets), rest))
-}
-
 /// An expiry, as the moment that it names.
 #[tactic(auto, unfolding(crate::specs::Reading::expiry_at))]
 pub(crate) fn take_expiry(input: &[u8]) -> Result<(i64, &[u8]), PacketFault>
@@ -41,6 +32,7 @@ pub(crate) fn take_expiry(input: &[u8]) -> Result<(i64, &[u8]), PacketFault>
 }
 
 /// An octet string, as its content.
+#[inline(always)]
 #[tactic(auto, unfolding(crate::specs::Reading::string_at))]
 pub(crate) fn take_string(input: &[u8]) -> Result<(&[u8], &[u8]), PacketFault>
     ensures { Gives (λ field. (field.0.now, field.1.now)) result (string_at input.now) }
@@ -49,6 +41,7 @@ pub(crate) fn take_string(input: &[u8]) -> Result<(&[u8], &[u8]), PacketFault>
 }
 
 /// An octet string whose content has at most so many octets.
+#[inline(always)]
 #[tactic(auto, unfolding(crate::specs::Reading::string_within))]
 pub(crate) fn take_string_within(limit: usize, input: &[u8]) -> Result<(&[u8], &[u8]), PacketFault>
     ensures { Gives (λ field. (field.0.now, field.1.now)) result (string_within limit input.now) }

@@ -3,7 +3,7 @@ ghost use Rattle.std.specs.Prelude.{◌≡◌, Some, IfOk, IfErr, IsOkAnd};
 ghost use Rattle.ilp_packet.specs.Packet.{PlainPacket, plain, Spells};
 ghost use Rattle.ilp_packet.specs.Reading.{Gives, reading, fault_of};
 
-use crate::contents::{read_content, read_fulfill, read_prepare, read_reject};
+use crate::contents::{read_fulfill, read_prepare, read_reject};
 use crate::fault::PacketFault;
 
 /// The type octet of a Prepare.
@@ -64,6 +64,7 @@ impl<'a> Packet<'a> {
     /// Reads a packet, all of the input, in one pass and without memory (RFC 0027, "ILP Packets").
     /// The first fault from left to right is answered: of the type octet, of the octet string that
     /// is the content, `Trailing` after it, of each field in order, `Trailing` after the last.
+    #[inline(always)]
     pub fn read(input: &'a [u8]) -> Result<Packet<'a>, PacketFault>
         // What is read is what the octets stand for, and no such octets are refused.
         ensures ok { IfOk result (λ packet. Spells input.now (plain packet)) }
@@ -78,16 +79,18 @@ impl<'a> Packet<'a> {
     }
 }
 
-// Reads a packet by its type octet.
+// Reads a packet by its type octet. It is inlined, since a packet that is passed on as one of three
+// has zeros in the fields that it lacks.
+#[inline(always)]
 #[tactic(auto, unfolding(crate::specs::Reading::reading))]
 fn read_by_type(input: &[u8]) -> Result<Packet<'_>, PacketFault>
     ensures { Gives plain result (reading input.now) }
 {
     match input {
         [] => Err(PacketFault::Truncated),
-        [PREPARE, rest @ ..] => Ok(Packet::Prepare(read_prepare(read_content(rest)?)?)),
-        [FULFILL, rest @ ..] => Ok(Packet::Fulfill(read_fulfill(read_content(rest)?)?)),
-        [REJECT, rest @ ..] => Ok(Packet::Reject(read_reject(read_content(rest)?)?)),
+        [PREPARE, rest @ ..] => Ok(Packet::Prepare(read_prepare(rest)?)),
+        [FULFILL, rest @ ..] => Ok(Packet::Fulfill(read_fulfill(rest)?)),
+        [REJECT, rest @ ..] => Ok(Packet::Reject(read_reject(rest)?)),
         [_, ..] => Err(PacketFault::UnknownType),
     }
 }

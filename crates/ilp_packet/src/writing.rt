@@ -5,7 +5,7 @@ ghost use Rattle.ilp_packet.specs.Packet.{plain_prepare, plain_fulfill, plain_re
 ghost use Rattle.ilp_packet.specs.Writing.{size, Writes};
 
 use crate::packet::{FULFILL, Fulfill, PREPARE, Prepare, REJECT, Reject};
-use ilp_oer::{MAX_CONTENT, Octets, octets_len, write_octets, write_prefix};
+use ilp_oer::{MAX_CONTENT, Octets, octets_len, put_octets, put_prefix};
 use ilp_terms::expiry_write;
 use std::alloc::{AllocError, Allocator};
 
@@ -31,7 +31,8 @@ pub fn write_prepare<A: Allocator>(
 {
     let expiry = expiry_write(packet.expires);
     begin(out, PREPARE, prepare_len(packet))?;
-    put_prepare(out, packet, &expiry)
+    put_prepare(out, packet, &expiry);
+    Ok(())
 }
 
 // How many octets the content of a Prepare has.
@@ -47,25 +48,20 @@ fn prepare_len(packet: &Prepare<'_>) -> usize
 }
 
 // Appends the content of a Prepare into room that is there.
-fn put_prepare<A: Allocator>(
-    out: &mut Octets<A>,
-    packet: &Prepare<'_>,
-    expiry: &[u8; 17],
-) -> Result<(), AllocError>
+fn put_prepare<A: Allocator>(out: &mut Octets<A>, packet: &Prepare<'_>, expiry: &[u8; 17])
     requires within { IsPrepare (plain_prepare packet.now) }
     requires room { length (content expiry.now (prepare (plain_prepare packet.now))) ≤ out.old.spare }
-    ensures ok { IsOk result }
-    ensures octets { OnOk result (out.new.octets
-        ≡ out.old.octets ++ content expiry.now (prepare (plain_prepare packet.now))) }
+    ensures octets { out.new.octets
+        ≡ out.old.octets ++ content expiry.now (prepare (plain_prepare packet.now)) }
     ensures used { out.new.spare + length (content expiry.now (prepare (plain_prepare packet.now)))
         ≡ out.old.spare }
 {
     let condition = packet.condition;
-    out.append(&packet.amount.to_be_bytes())?;
-    out.append(expiry)?;
-    out.append(condition)?;
-    write_octets(out, packet.destination)?;
-    write_octets(out, packet.payload)
+    out.append_reserved(&packet.amount.to_be_bytes());
+    out.append_reserved(expiry);
+    out.append_reserved(condition);
+    put_octets(out, packet.destination);
+    put_octets(out, packet.payload);
 }
 
 /// Appends the octets of a Fulfill (RFC 0027), whose data has at most 32,767 octets.
@@ -80,7 +76,8 @@ pub fn write_fulfill<A: Allocator>(
     ensures { Writes (fulfill (plain_fulfill packet.now)) out.old out.new result }
 {
     begin(out, FULFILL, fulfill_len(packet))?;
-    put_fulfill(out, packet)
+    put_fulfill(out, packet);
+    Ok(())
 }
 
 // How many octets the content of a Fulfill has.
@@ -95,18 +92,17 @@ fn fulfill_len(packet: &Fulfill<'_>) -> usize
 }
 
 // Appends the content of a Fulfill into room that is there.
-fn put_fulfill<A: Allocator>(out: &mut Octets<A>, packet: &Fulfill<'_>) -> Result<(), AllocError>
+fn put_fulfill<A: Allocator>(out: &mut Octets<A>, packet: &Fulfill<'_>)
     requires within { IsFulfill (plain_fulfill packet.now) }
     requires room { length (content [] (fulfill (plain_fulfill packet.now))) ≤ out.old.spare }
-    ensures ok { IsOk result }
-    ensures octets { OnOk result (out.new.octets
-        ≡ out.old.octets ++ content [] (fulfill (plain_fulfill packet.now))) }
+    ensures octets { out.new.octets
+        ≡ out.old.octets ++ content [] (fulfill (plain_fulfill packet.now)) }
     ensures used { out.new.spare + length (content [] (fulfill (plain_fulfill packet.now)))
         ≡ out.old.spare }
 {
     let preimage = packet.preimage;
-    out.append(preimage)?;
-    write_octets(out, packet.payload)
+    out.append_reserved(preimage);
+    put_octets(out, packet.payload);
 }
 
 /// Appends the octets of a Reject (RFC 0027). The address that triggered it has at most 1,023
@@ -122,7 +118,8 @@ pub fn write_reject<A: Allocator>(
     ensures { Writes (reject (plain_reject packet.now)) out.old out.new result }
 {
     begin(out, REJECT, reject_len(packet))?;
-    put_reject(out, packet)
+    put_reject(out, packet);
+    Ok(())
 }
 
 // How many octets the content of a Reject has.
@@ -138,20 +135,19 @@ fn reject_len(packet: &Reject<'_>) -> usize
 }
 
 // Appends the content of a Reject into room that is there.
-fn put_reject<A: Allocator>(out: &mut Octets<A>, packet: &Reject<'_>) -> Result<(), AllocError>
+fn put_reject<A: Allocator>(out: &mut Octets<A>, packet: &Reject<'_>)
     requires within { IsReject (plain_reject packet.now) }
     requires room { length (content [] (reject (plain_reject packet.now))) ≤ out.old.spare }
-    ensures ok { IsOk result }
-    ensures octets { OnOk result (out.new.octets
-        ≡ out.old.octets ++ content [] (reject (plain_reject packet.now))) }
+    ensures octets { out.new.octets
+        ≡ out.old.octets ++ content [] (reject (plain_reject packet.now)) }
     ensures used { out.new.spare + length (content [] (reject (plain_reject packet.now)))
         ≡ out.old.spare }
 {
     let code = packet.code;
-    out.append(code)?;
-    write_octets(out, packet.triggered_by)?;
-    write_octets(out, packet.message)?;
-    write_octets(out, packet.payload)
+    out.append_reserved(code);
+    put_octets(out, packet.triggered_by);
+    put_octets(out, packet.message);
+    put_octets(out, packet.payload);
 }
 
 // Makes room for a whole packet, and appends the type octet and the prefix of the content.
@@ -167,6 +163,7 @@ fn begin<A: Allocator>(out: &mut Octets<A>, number: u8, content: usize) -> Resul
     ensures err { OnErr result (out.new ≡ out.old) }
 {
     out.reserve(1 + octets_len(content))?;
-    out.append(&[number])?;
-    write_prefix(out, content)
+    out.append_reserved(&[number]);
+    put_prefix(out, content);
+    Ok(())
 }

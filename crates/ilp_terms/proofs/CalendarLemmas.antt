@@ -1,8 +1,8 @@
 -- The calendar of this crate gives jiff's day numbers, from the year 0 on.
-use Rattle.std.proofs.Common.{◌≡◌, ℕ, zero, suc, ◌+◌, ◌-◌, ◌≤◌, ◌<◌, to_z, of_z, ◌^◌, refl, sym, subst, ◌∙◌, arith, ℤ, pos, negsuc, neg_ℤ, ◌≤ℤ◌}
+use Rattle.std.proofs.Common.{◌≡◌, ℕ, zero, suc, ◌+◌, ◌-◌, ◌≤◌, ◌<◌, to_z, of_z, ◌^◌, refl, sym, ap, subst, ◌∙◌, arith, ℤ, pos, negsuc, neg_ℤ, ◌≤ℤ◌}
 use Rattle.std.proofs.lemmas.Int.{by_lt_z, to_z_pos}
 use Rattle.jiff_core.specs.Calendar.{IsCivilDate, days_from_civil, day_count, days_of_years, days_of_months as jiff_days_of_months, days_in_month as jiff_days_in_month}
-use Rattle.std.specs.Int.{IsInRange, Width, w8, w16}
+use Rattle.std.specs.Int.{IsInRange, Width, w16}
 use mir.Val.{hbits}
 use Rattle.jiff_core.specs.Date.{epoch_day}
 use Rattle.jiff_core.specs.declared.civil.date.Date.{Date}
@@ -10,7 +10,7 @@ use Rattle.jiff_core.proofs.SignedLemmas.{signed_arith}
 use Rattle.jiff_core.proofs.MarchLemmas.{leap_day-shift, days_in_year-leap_day, days_of_years-suc, day_count-early}
 use Rattle.jiff_core.proofs.CalendarLemmas.{days_from_civil-day_count, day_count-lt_year}
 use Rattle.jiff_core.proofs.DateLemmas.{civil, epoch_day_injective, epoch_day_range}
-use Rattle.ilp_terms.specs.Calendar.{IsDate, IsDayNumber, days_before_year, days_of_months, days_before, day_number}
+use Rattle.ilp_terms.specs.Calendar.{IsDate, IsDayNumber, days_in_month, days_before_year, days_of_months, days_before, day_number}
 
 -- jiff counts years from -10000, a multiple of 400
 pub days_of_years-shift : (y : ℕ) → days_of_years (y + 10000) ≡ days_of_years 10000 + days_before_year y
@@ -83,12 +83,13 @@ date_with date n h e =
 pub back_at : (w : Width) (z : ℤ) (n : ℕ) → z ≡ pos n → n < 2 ^ hbits w → to_z w (of_z w z) ≡ pos n
 back_at w z n e h = rw e (to_z_pos w n h)
 
--- what a date of jiff's says that was made from small unsigned parts
-pub made_from : (date : Date) (y m d : ℕ) → y ≤ 9999 → m ≤ 99 → d ≤ 99 → (date.year ≡ to_z w16 y) × (pos date.month ≡ to_z w8 m) × (pos date.day ≡ to_z w8 d) → IsDate y m d × (epoch_day date ≡ day_number y m d) × IsDayNumber (epoch_day date)
-made_from date y m d year_in month_in day_in made =
-    let month = made.1 ∙ to_z_pos w8 m (omega arith) in
-    let day = made.2 ∙ to_z_pos w8 d (omega arith) in
-    date_parts date y m d (made.0 ∙ to_z_pos w16 y (omega arith)) (omega (arith, signed_arith, month)) (omega (arith, signed_arith, day))
+-- the day number that jiff gives to a date, and the length of a month, at a year that was cast
+pub counted_from : (number : ℤ) (y m d : ℕ) → y ≤ 9999 → 1 ≤ d → number ≡ days_from_civil (to_z w16 y) m d → number ≡ day_number y m d
+counted_from number y m d year_in first e =
+    e ∙ ap (λ (a : ℤ). days_from_civil a m d) (to_z_pos w16 y (omega arith)) ∙ same_day_number y m d first
+
+pub same_month_length : (y m : ℕ) → y ≤ 9999 → jiff_days_in_month (to_z w16 y) m ≡ days_in_month y m
+same_month_length y m year_in = ap (λ (a : ℤ). jiff_days_in_month a m) (to_z_pos w16 y (omega arith))
 
 -- dates with one day number are one date
 pub day_number_injective : (y m d y₂ m₂ d₂ : ℕ) → IsDate y m d → IsDate y₂ m₂ d₂ → day_number y m d ≡ day_number y₂ m₂ d₂ → (y ≡ y₂) × (m ≡ m₂) × (d ≡ d₂)

@@ -25,15 +25,15 @@ pub fn expiry_read(text: &[u8; 17]) -> Option<i64>
     if !is_all_digits(text) {
         return None;
     }
-    let hour = u32::from(two_digits(text, 8));
-    let minute = u32::from(two_digits(text, 10));
-    let second = u32::from(two_digits(text, 12));
+    let hour = two_digits(text, 8);
+    let minute = two_digits(text, 10);
+    let second = two_digits(text, 12);
     if hour > 23 || minute > 59 || second > 59 {
         return None;
     }
-    let year = u16::from(two_digits(text, 0)) * 100 + u16::from(two_digits(text, 2));
+    let year = two_digits(text, 0) * 100 + two_digits(text, 2);
     let day = calendar::day_number(year, two_digits(text, 4), two_digits(text, 6))?;
-    let millisecond = u32::from(text[14] - b'0') * 100 + u32::from(two_digits(text, 15));
+    let millisecond = u32::from(text[14] - b'0') * 100 + two_digits(text, 15);
     let time = ((hour * 60 + minute) * 60 + second) * 1000 + millisecond;
     Some(i64::from(day) * DAY + i64::from(time))
 }
@@ -51,14 +51,14 @@ fn is_all_digits(text: &[u8; 17]) -> bool
 }
 
 // The number of the two digits at a place.
-fn two_digits(text: &[u8; 17], place: usize) -> u8
+fn two_digits(text: &[u8; 17], place: usize) -> u32
     requires within { place + 1 < 17 }
     requires tens { IsInRange 48 57 (slice_index text.now place) }
     requires ones { IsInRange 48 57 (slice_index text.now (place + 1)) }
     ensures value { result ≡ expiry.two_digits text.now place }
     ensures bound { result ≤ 99 }
 {
-    (text[place] - b'0') * 10 + (text[place + 1] - b'0')
+    u32::from(text[place] - b'0') * 10 + u32::from(text[place + 1] - b'0')
 }
 
 /// The digits of the one expiry that names a moment, in milliseconds since 1970-01-01T00:00:00Z.

@@ -8,7 +8,6 @@ use Rattle.ilp_terms.proofs.expiry.expiry_read.Goals as goal
 pub returns-clause-value : goal.returns-clause-value
 returns-clause-value c =
     let text = c.args.text.now in
-    let year_is = c.from.ensures in
     let named = c.in_ok-day.ensures.value in
     let bound = c.in_ok-day.ensures.bound in
     let valid : IsExpiry text = record {
