@@ -6,23 +6,31 @@
 #     scripts/build.sh ~/.local/bin
 #
 # It needs rt. In a fresh clone the proofs take minutes; what was proved is kept in crates/*/out, so
-# that a second build takes seconds. Where a proof fails, nothing is built and nothing is installed.
+# that a second build takes seconds. Where a proof fails, no program is built or installed, and one of
+# an earlier build stays as it was.
 set -eu
 
-top=$(cd "$(dirname "$0")/.." && pwd)
-folder=${1:-}
-if [ -n "$folder" ]; then
-    mkdir -p "$folder"
-    folder=$(cd "$folder" && pwd)
+if [ $# -gt 1 ]; then
+    echo "usage: scripts/build.sh [FOLDER]" >&2
+    exit 2
 fi
+folder=${1:-}
+case $folder in
+-*) echo "usage: scripts/build.sh [FOLDER]" >&2; exit 2 ;;
+"" | /*) ;;
+*) folder=$PWD/$folder ;;
+esac
 
-cd "$top/crates/connector"
+crate=$(CDPATH= cd -- "$(dirname -- "$0")/../crates/connector" && pwd)
+cd "$crate"
 told=$(mktemp)
 trap 'rm -f "$told"' EXIT
+trap 'exit 1' INT TERM
 rt run -- replay - <stdin >"$told"
 cmp "$told" stdout || { echo "build.sh: the built program does not print what it should" >&2; exit 1; }
-program=$top/crates/connector/out/connector
+program=$crate/out/connector
 if [ -n "$folder" ]; then
+    mkdir -p "$folder"
     install -m 755 "$program" "$folder/connector"
     program=$folder/connector
 fi

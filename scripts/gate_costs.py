@@ -1,13 +1,14 @@
 #!/usr/bin/env python3
 """Runs the gate on a clean clone of what is committed, and prints what each part of it cost: the
-table of docs/GATE.md, in processor seconds, which depend little on what else runs.
+table of docs/GATE.md, in processor seconds, which depend less on what else runs than minutes do.
 
     scripts/gate_costs.py             one row a crate
     scripts/gate_costs.py --edits     each wrong body as well, dearest first
 
 It watches the prover's processes in /proc while the gate runs, so that what a process spent in its
-last half second is missed; the line of the whole is what the system counted. The gate's own output
-goes to standard error. The exit status is the gate's.
+last half second is missed, and what a copy of it spent that ended then; the line of the whole is what
+the system counted. "Proof" counts building too. The gate's own output goes to standard error. The
+exit status is the gate's.
 """
 import collections
 import os
@@ -23,7 +24,9 @@ PROVER = re.compile(r"\S*/rattle (check|build) --crate-name (\w+) ")
 
 
 def of_session(session):
-    """The processes of the session: identity, command line, folder and processor seconds."""
+    """The processes of the session, in the order of their start: identity, parent, command line,
+    folder and processor seconds."""
+    found = []
     for pid in filter(str.isdigit, os.listdir("/proc")):
         try:
             with open(f"/proc/{pid}/stat") as it:
@@ -37,33 +40,27 @@ def of_session(session):
             continue
         # with what its own ended children spent
         spent = sum(int(field) for field in fields[11:15]) / TICK
-        yield (pid, fields[19]), line, folder, spent
+        found.append(((pid, int(fields[19])), fields[1], line, folder, spent))
+    return sorted(found, key=lambda it: it[0][1])
 
 
 def watch(gate):
-    """What each of the prover's processes was, and what it spent, in the order of their start."""
-    seen = {}
+    """What each of the prover's processes was, and what it spent, in the order of their start. A
+    prover forks copies, whose time it has itself once they ended."""
+    seen, copies = {}, set()
     while gate.poll() is None:
-        for key, line, folder, spent in of_session(gate.pid):
+        now = of_session(gate.pid)
+        provers = {key[0] for key, _, line, *_ in now if PROVER.match(line)}
+        for key, parent, line, folder, spent in now:
             found = PROVER.match(line)
-            if found and (key in seen or not is_copy(line, folder, seen, key)):
+            if not found or key in copies:
+                continue
+            if key not in seen and parent in provers:
+                copies.add(key)
+            else:
                 seen[key] = (found[2], kind_of(line, folder), folder, spent)
         time.sleep(0.5)
     return list(seen.values())
-
-
-def is_copy(line, folder, seen, key):
-    """Whether the process is a forked copy of one that is watched, which counts what it spent."""
-    parent = parent_of(key[0])
-    return any(known[0] == parent for known in seen)
-
-
-def parent_of(pid):
-    try:
-        with open(f"/proc/{pid}/stat") as it:
-            return it.read().rpartition(")")[2].split()[1]
-    except OSError:
-        return ""
 
 
 def kind_of(line, folder):
@@ -102,6 +99,9 @@ def edits(clone, seen):
     for crate in dict.fromkeys(crate for crate, *_ in seen):
         spent = [it for name, kind, _, it in seen if (name, kind) == (crate, "edit")]
         names = names_of(clone, crate) + ["(the crate as it is)"]
+        if spent and len(spent) < len(names):
+            print(f"names of {crate} unknown: {[round(it) for it in spent]}")
+            continue
         names += ["(again)"] * (len(spent) - len(names))
         rows += [(it, crate, name) for it, name in zip(spent, names)]
     for it, crate, name in sorted(rows, reverse=True):
@@ -109,13 +109,17 @@ def edits(clone, seen):
 
 
 def main():
-    top = subprocess.run(["git", "rev-parse", "--show-toplevel"], check=True, capture_output=True, text=True).stdout.strip()
+    top = os.path.dirname(os.path.dirname(os.path.abspath(__file__)))
     with tempfile.TemporaryDirectory() as room:
         clone = f"{room}/clone"
         subprocess.run(["git", "clone", "-q", top, clone], check=True)
         began = time.time()
         gate = subprocess.Popen([".ci/run"], cwd=clone, stdout=sys.stderr, start_new_session=True)
-        seen = watch(gate)
+        try:
+            seen = watch(gate)
+        finally:
+            gate.terminate()
+            gate.wait()
         spent = resource.getrusage(resource.RUSAGE_CHILDREN)
         table(clone, seen)
         minutes = (spent.ru_utime + spent.ru_stime) / 60

@@ -4,7 +4,8 @@
 Writes ILPv4 packets (RFC 0027) over the octet strings of RFC 0030, and mistakes in them. With the
 argument `rows` it prints the rows of crates/test_rows/data/packets/vectors.txt, and with `lines`
 what that program is to print of each: the packet in words (docs/PROTOCOL.md), or the fault that a
-reader meets first. So many `x` in a long field are written `<N 78>` in both. With `strings` it prints
+reader meets first. So many `x` in a long field are written `<N 78>` in both, but for an
+address, which `lines` has as text. With `strings` it prints
 the octet strings of crates/test_values/src/tests/oer.rt. It shares nothing with the crates.
 """
 import datetime

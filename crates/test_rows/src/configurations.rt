@@ -17,7 +17,8 @@ use told::Telling;
 
 /// Prints what is told of each configuration.
 pub(crate) fn print_configurations<R: Files + Print + AllocGlobal>(rt: &R) -> io::Result<()> {
-    print_configuration(rt)?;
+    print_configuration(rt, "two_peers.toml")?;
+    print_configuration(rt, "each_field.toml")?;
     print_longest_prefixes(rt)?;
     print_rows(rt, "ranges.rows", "two_peers.toml", Telling::Fault)?;
     print_rows(rt, "texts.rows", "priced.toml", Telling::Fault)?;
@@ -33,18 +34,19 @@ pub(crate) fn print_configurations<R: Files + Print + AllocGlobal>(rt: &R) -> io
 }
 
 // What the readers give of a configuration, and of its copy.
-fn print_configuration<R: Files + Print + AllocGlobal>(rt: &R) -> io::Result<()> {
-    println!(rt; "two_peers.toml")?;
-    let octets = fs::read(rt, "configurations/two_peers.toml")?;
+fn print_configuration<R: Files + Print + AllocGlobal>(rt: &R, name: &str) -> io::Result<()> {
+    println!(rt; "{name}")?;
+    let path = format!(in rt.alloc(); "configurations/{name}")?;
+    let octets = fs::read(rt, path.as_str())?;
     match Config::read(rt.alloc(), &octets) {
-        Ok(config) => print_with_copy(rt, &config),
+        Ok(config) => print_with_copy(rt, &config, name),
         Err(fault) => println!(rt; "not read: {fault}"),
     }
 }
 
-fn print_with_copy(rt: &impl Print, config: &Config) -> io::Result<()> {
+fn print_with_copy(rt: &impl Print, config: &Config, name: &str) -> io::Result<()> {
     print_readers(rt, config)?;
-    println!(rt; "copy of two_peers.toml")?;
+    println!(rt; "copy of {name}")?;
     let copy = config.copy()?;
     print_readers(rt, &copy)
 }

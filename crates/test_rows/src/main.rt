@@ -1,5 +1,6 @@
 //! Rows: what goes in lies in `data/`, and what is to be printed of it in `stdout`. Both were written
-//! by hand from the rules, and the stored run compares them. `README.md` says how rows are written.
+//! from the rules, by hand or by a Python script that shares nothing with the crates, and the stored
+//! run compares them. `README.md` says how rows are written.
 #![tactic(auto)]
 
 mod configurations;
@@ -8,6 +9,7 @@ mod examples;
 mod expiries;
 mod fault;
 mod packets;
+mod quantities;
 mod quotes;
 mod repeated;
 mod routes;
@@ -19,6 +21,7 @@ use cuts::print_cuts;
 use examples::print_examples;
 use expiries::print_expiries;
 use packets::print_packets;
+use quantities::print_quantities;
 use quotes::print_quotes;
 use routes::print_routes;
 use scripts::print_scripts;
@@ -32,5 +35,6 @@ fn main(rt: HostRuntime) -> io::Result<()> {
     print_examples(&rt)?;
     print_expiries(&rt)?;
     print_quotes(&rt)?;
-    print_routes(&rt)
+    print_routes(&rt)?;
+    print_quantities(&rt)
 }
