@@ -1,7 +1,7 @@
-//! What stands under a number, and which entry answers a hold.
+//! What stands under a number, and which entry ends it.
 
 ghost use Rattle.std.specs.Prelude.{◌≡◌, ◌^◌, ◌≤◌, length};
-ghost use Rattle.ilp_journal.specs.Journal.{answer_of, hold_at, ask_at};
+ghost use Rattle.ilp_journal.specs.Journal.{answer_of, closing_of, hold_at, ask_at};
 
 use crate::entry::{Ask, Entry, Hold, What};
 
@@ -32,6 +32,19 @@ pub(crate) fn first_answer(entries: &[Entry], hold: u32) -> Option<u32>
 {
     for (number, entry) in entries.iter().enumerate() {
         if entry.what.answered() == Some(hold) {
+            return Some(number as u32);
+        }
+    }
+    None
+}
+
+/// The number of the first entry that closes the settlement.
+pub(crate) fn first_closing(entries: &[Entry], ask: u32) -> Option<u32>
+    requires { length entries.now ≤ 2 ^ 32 }
+    ensures { result ≡ closing_of entries.now ask }
+{
+    for (number, entry) in entries.iter().enumerate() {
+        if entry.what.closed() == Some(ask) {
             return Some(number as u32);
         }
     }

@@ -3,10 +3,10 @@
 ghost use Rattle.std.specs.Prelude.{◌≡◌, ◌+◌, ◌^◌, ◌<◌, ◌≤◌, pos, ◌+ℤ◌, ◌≤ℤ◌, [], ◌∷◌, ◌++◌, ◌↔◌, length, IsTrue, IsOk, IfOk, OnOk, OnErr, slice_get};
 ghost use Rattle.std.specs.Option.{option_copied};
 ghost use Rattle.ilp_journal.specs.Booked.{Booked, most_sum};
-ghost use Rattle.ilp_journal.specs.Journal.{answer_of, hold_at, ask_at};
+ghost use Rattle.ilp_journal.specs.Journal.{answer_of, closing_of, hold_at, ask_at};
 ghost use Rattle.ilp_journal.specs.Balance.{balance};
 
-use crate::answers::{ask_at, first_answer, hold_at};
+use crate::answers::{ask_at, first_answer, first_closing, hold_at};
 use crate::balances::owed;
 use crate::entry::{Ask, Entry, Hold};
 use std::alloc::{AllocError, Allocator, Global};
@@ -84,6 +84,14 @@ impl<A: Allocator> Journal<A> {
         self.entries.get(number as usize)
     }
 
+    /// The entries, in the order of their numbers.
+    pub fn entries(&self) -> &[Entry]
+        ensures value { result.now ≡ self.now.entries }
+        ensures few { length self.now.entries < 2 ^ 32 }
+    {
+        &self.entries
+    }
+
     /// The hold under this number: `None` where the entry is of another kind, or there is none.
     pub fn hold(&self, number: u32) -> Option<Hold>
         ensures { result ≡ hold_at self.now.entries number }
@@ -144,5 +152,12 @@ impl<A: Allocator> Journal<A> {
         ensures { result ≡ answer_of self.now.entries hold }
     {
         first_answer(&self.entries, hold)
+    }
+
+    /// The number of the first entry that confirms or undoes the settlement of this number.
+    pub fn closing_of(&self, ask: u32) -> Option<u32>
+        ensures { result ≡ closing_of self.now.entries ask }
+    {
+        first_closing(&self.entries, ask)
     }
 }
