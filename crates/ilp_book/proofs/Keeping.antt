@@ -1,14 +1,13 @@
 -- What a book keeps as its journal grows.
 use Rattle.std.proofs.Common.{◌≡◌, ℕ, zero, suc, ◌+◌, ◌-◌, ◌<◌, ◌≤◌, ℤ, pos, [], ◌∷◌, ◌++◌, length, List, Some, None, refl, sym, subst, ap, ◌∙◌, arith}
-use Rattle.std.specs.Prelude.{slice_get, fold, IsSome, Result, ◌≤ℤ◌}
+use Rattle.std.specs.Prelude.{slice_get, fold}
 use Rattle.ilp_accounts.specs.Configuration.{Configuration}
 use Rattle.ilp_accounts.specs.Valid.{IsValid}
 use Rattle.ilp_journal.specs.declared.entry.Entry.{Entry}
 use Rattle.ilp_journal.specs.declared.entry.What.{What}
 use Rattle.ilp_journal.specs.declared.entry.What.TheVariants as what
-use Rattle.ilp_journal.specs.declared.entry.Hold.{Hold}
 use Rattle.ilp_journal.specs.Booked.{Booked}
-use Rattle.ilp_journal.specs.Journal.{Entries, AnswersOnce, ClosesOnce, answered, open_count, opening, closing, last_moment}
+use Rattle.ilp_journal.specs.Journal.{Entries, AnswersOnce, ClosesOnce, open_count, opening, closing, last_moment}
 use Rattle.ilp_journal.proofs.Sums.{Each-parts}
 use Rattle.ilp_journal.proofs.Growth.{open_count-push}
 use Rattle.ilp_journal.proofs.Bases.{base_zero, base-push}
@@ -48,40 +47,39 @@ last_entry_stands (x ∷ xs) none = absurd (from x xs (length (x ∷ xs) - 1) (o
   from y (z ∷ zs) zero size none = omega arith
   from y (z ∷ zs) (suc k) size none = from z zs k (omega arith) none
 
--- ---- answers
+-- ---- what ends
 
--- an answer closes one hold and opens nothing
-answer_parts : (w : What) → IsSome (answered w) → (closing w ≡ 1) × (opening w ≡ 0)
-answer_parts (what.Hold h) some = absurd cc
-answer_parts (what.Fulfilled hold preimage) some = (refl, refl)
-answer_parts (what.Released hold cause) some = (refl, refl)
-answer_parts (what.Credited c) some = absurd cc
-answer_parts (what.Asked a) some = absurd cc
-answer_parts (what.Confirmed ask) some = absurd cc
-answer_parts (what.Undone ask) some = absurd cc
+-- what ends something opens nothing
+ends_alone : (w : What) → closing w ≡ 1 → opening w ≡ 0
+ends_alone (what.Hold h) one = cc
+ends_alone (what.Fulfilled hold preimage) one = refl
+ends_alone (what.Released hold cause) one = refl
+ends_alone (what.Credited c) one = refl
+ends_alone (what.Asked a) one = cc
+ends_alone (what.Confirmed ask) one = refl
+ends_alone (what.Undone ask) one = refl
 
--- an answer leaves one open less
-pub answer_frees : (book : PlainBook) (e : Entry) → IsLawful book → IsLawful (pushed book e) → IsSome (answered e.what) → open_count (book.entries ++ e ∷ []) + 1 ≡ open_count book.entries
-answer_frees book e before after some =
+-- it leaves one open less
+pub end_frees : (book : PlainBook) (e : Entry) → IsLawful book → IsLawful (pushed book e) → closing e.what ≡ 1 → open_count (book.entries ++ e ∷ []) + 1 ≡ open_count book.entries
+end_frees book e before after one =
     let answers = Each-parts AnswersOnce book.entries e after.answers in
     let closes = Each-parts ClosesOnce book.entries e after.closings in
-    let parts = answer_parts e.what some in
-    omega (arith, open_count-push book.entries e before.answers before.closings answers.1 closes.1, parts.0, parts.1)
+    omega (arith, open_count-push book.entries e before.answers before.closings answers.1 closes.1, one, ends_alone e.what one)
 
 -- so one more entry fits
-pub answer_fits : (C : Configuration) (base : ℕ) (journal : Booked) (open_now : ℕ) (e : Entry) → AreParts C base journal open_now → IsLawful (pushed (book_of C base journal) e) → IsSome (answered e.what)
+pub end_fits : (C : Configuration) (base : ℕ) (journal : Booked) (open_now : ℕ) (e : Entry) → AreParts C base journal open_now → IsLawful (pushed (book_of C base journal) e) → closing e.what ≡ 1
     → (1 ≤ open_now) × (1 ≤ journal.spare) × (length journal.entries < journal.limit)
-answer_fits C base journal open_now e parts after some =
+end_fits C base journal open_now e parts after one =
     let book = book_of C base journal in
-    let frees = answer_frees book e parts.lawful after some in
+    let frees = end_frees book e parts.lawful after one in
     let limits = (limits_now book parts.lawful).room in
     (omega (arith, frees, parts.counted), omega (arith, frees, parts.counted, parts.room), omega (arith, frees, limits, parts.limited))
 
--- the parts of the book after an answer
-pub parts_closed : (C : Configuration) (base : ℕ) (before after : Booked) (open_now : ℕ) (e : Entry) → AreParts C base before open_now → IsLawful (pushed (book_of C base before) e) → IsSome (answered e.what)
+-- the parts of the book after what ended
+pub parts_closed : (C : Configuration) (base : ℕ) (before after : Booked) (open_now : ℕ) (e : Entry) → AreParts C base before open_now → IsLawful (pushed (book_of C base before) e) → closing e.what ≡ 1
     → after.entries ≡ before.entries ++ e ∷ [] → after.spare + 1 ≡ before.spare → after.limit ≡ before.limit → AreParts C base after (open_now - 1)
-parts_closed C base before after open_now e parts lawful some grown used limit =
-    let frees = answer_frees (book_of C base before) e parts.lawful lawful some in
+parts_closed C base before after open_now e parts lawful one grown used limit =
+    let frees = end_frees (book_of C base before) e parts.lawful lawful one in
     record {
       valid = parts.valid;
       lawful = rw grown lawful;
@@ -91,19 +89,18 @@ parts_closed C base before after open_now e parts lawful some grown used limit =
       room = omega (arith, used, parts.room);
     }
 
--- ---- holds
+-- ---- what does not end anything
 
--- the parts of the book after a hold
-pub parts_held : (C : Configuration) (base : ℕ) (before after : Booked) (open_now : ℕ) (e : Entry) (h : Hold) → e.what ≡ what.Hold h → AreParts C base before open_now → Admits (book_of C base before) e
-    → after.entries ≡ before.entries ++ e ∷ [] → open_now + 1 ≤ after.spare → after.limit ≡ before.limit → AreParts C base after (open_now + 1)
-parts_held C base before after open_now e h is parts admits grown room limit =
+-- the parts of the book after an entry that ends nothing: what it opens is counted, and has its room
+pub parts_grown : (C : Configuration) (base : ℕ) (before after : Booked) (open_now : ℕ) (e : Entry) → closing e.what ≡ 0 → AreParts C base before open_now → Admits (book_of C base before) e
+    → after.entries ≡ before.entries ++ e ∷ [] → open_now + opening e.what ≤ after.spare → after.limit ≡ before.limit → AreParts C base after (open_now + opening e.what)
+parts_grown C base before after open_now e none parts admits grown room limit =
     let opens = open_count-push before.entries e parts.lawful.answers parts.lawful.closings admits.answers admits.closings in
-    let opened : (opening e.what ≡ 1) × (closing e.what ≡ 0) = rw is (refl, refl) in
     record {
       valid = parts.valid;
       lawful = rw grown (lawful_push (book_of C base before) e parts.lawful admits);
       opened = rw grown (base-push before.entries e base parts.opened);
       limited = limit ∙ parts.limited;
-      counted = rw grown (omega (arith, opens, opened.0, opened.1, parts.counted));
+      counted = rw grown (omega (arith, opens, none, parts.counted));
       room = room;
     }

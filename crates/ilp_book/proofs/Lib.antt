@@ -8,7 +8,7 @@ pub mod Runs
 pub mod FirstAnswer
 pub mod Keeping
 pub mod Earliest
-pub mod Answered
+pub mod Ended
 pub mod Prefixes
 pub mod KeptOnce
 pub mod RowProofs

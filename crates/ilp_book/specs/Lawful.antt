@@ -1,8 +1,10 @@
 -- Which journals a configuration allows. Each rule is one of an entry and the entries before it.
-use Rattle.std.specs.Prelude.{◌≡◌, ◌≢◌, ℕ, ◌+◌, ◌*◌, ◌^◌, ◌≤◌, ◌<◌, ℤ, pos, ◌+ℤ◌, ◌-ℤ◌, ◌<ℤ◌, ◌≤ℤ◌, ◌↔◌, IsTrue, IsNone, IfSome, IsSomeAnd, IsOkAnd, length, ⊤, []}
+use Rattle.std.specs.Prelude.{◌≡◌, ◌≢◌, ℕ, ◌+◌, ◌≤◌, ◌<◌, ℤ, pos, ◌+ℤ◌, ◌-ℤ◌, ◌<ℤ◌, ◌≤ℤ◌, ◌↔◌, IsTrue, IsNone, IfSome, IsSomeAnd, IsOkAnd, length, ⊤, []}
 use Rattle.std.specs.Int.{int_min}
 use Rattle.ilp_assets.specs.declared.quote.Quote.{Quote}
-use Rattle.ilp_assets.specs.Quote.{floor, most}
+use Rattle.ilp_assets.specs.Quote.{most}
+use Rattle.ilp_settlement.specs.declared.quantity.Quantity.{Quantity}
+use Rattle.ilp_settlement.specs.Quantity.{credited_at}
 use Rattle.ilp_accounts.specs.declared.peer.Levels.{Levels}
 use Rattle.ilp_accounts.specs.Configuration.{Configuration, peer_at}
 use Rattle.ilp_journal.specs.declared.entry.Entry.{Entry}
@@ -57,11 +59,15 @@ IsGoodHold C before e = IsHold C e.moment e.what
 
 -- ---- settlements
 
+-- the quantity that a credit named
+abbrev pub quantity_named : Credited → Quantity
+quantity_named c = record { amount = c.named; scale = c.scale }
+
 -- A credit has a key that its peer has not used, and its quantity at the scale of the peer's balance, rounded down.
 pub record IsFreshCredit (C : Configuration) (before : Entries) (c : Credited) : Type 0 where
   pub known : IsKnown C c.peer
   pub named : IsKey c.key
-  pub rounded : c.credited ≡ floor (c.named * 10 ^ scale_at C c.peer) (10 ^ c.scale)
+  pub rounded : c.credited ≡ credited_at (quantity_named c) (scale_at C c.peer)
   pub fresh : IsNone (kept_at before c.peer c.key)
 
 abbrev pub IsCredit : Configuration → Entries → What → Type 0

@@ -21,3 +21,4 @@ pub use Rattle.ilp_journal.specs.Journal
 pub use Rattle.ilp_journal.specs.Keys
 pub use Rattle.ilp_journal.specs.Balance
 pub use Rattle.ilp_journal.specs.TrialBalance
+pub use Rattle.ilp_settlement.specs.Quantity

@@ -45,11 +45,13 @@ open_with_number j n = option_map (λ (h : Hold). (n, h)) (open_hold_at j n)
 abbrev pub is_ask_of : ℕ → What → Bool
 is_ask_of peer w = unwrap_or (option_map (λ (a : Ask). a.peer == peer) (as_ask w)) false
 
+-- the least number of an open settlement to a peer
+abbrev pub first_open_number : Entries → ℕ → Option ℕ
+first_open_number j peer = first_from (λ n (e : Entry). is_ask_of peer e.what && is_unclosed j n) 0 j
+
 -- the open settlement to a peer that has the least number, with that number
 abbrev pub first_open_ask : Entries → ℕ → Option (ℕ × Ask)
-first_open_ask j peer =
-    option_and_then (λ n. option_map (λ (a : Ask). (n, a)) (ask_at j n))
-    (first_from (λ n (e : Entry). is_ask_of peer e.what && is_unclosed j n) 0 j)
+first_open_ask j peer = option_and_then (λ n. option_map (λ (a : Ask). (n, a)) (ask_at j n)) (first_open_number j peer)
 
 -- ---- settlements from peers
 

@@ -1,7 +1,9 @@
 -- Settlements from peers, which are credited, and to peers, which are asked for and closed. Refusals stand in their order.
-use Rattle.std.specs.Prelude.{ℕ, ◌*◌, ◌^◌, ℤ, int_le, nat_abs, Bool, true, false, not, ◌&&◌, ◌==◌, List, length, nat_lt, Option, Some, None, Result, Ok, Err, option_and_then, option_map, if◌then◌else◌}
+use Rattle.std.specs.Prelude.{ℕ, ℤ, int_le, nat_abs, Bool, true, false, not, ◌&&◌, ◌==◌, List, length, nat_lt, Option, Some, None, Result, Ok, Err, option_and_then, option_map, if◌then◌else◌}
 use Rattle.ilp_order.specs.Refusals.{◌>>=◌, refuse_if, refuse_some, found_or}
-use Rattle.ilp_assets.specs.Quote.{floor, most}
+use Rattle.ilp_assets.specs.Quote.{most}
+use Rattle.ilp_settlement.specs.declared.quantity.Quantity.{Quantity}
+use Rattle.ilp_settlement.specs.Quantity.{credited_at}
 use Rattle.ilp_accounts.specs.declared.peer.Levels.{Levels}
 use Rattle.ilp_accounts.specs.Configuration.{Configuration, peer_at}
 use Rattle.ilp_journal.specs.declared.entry.What.{What}
@@ -24,15 +26,6 @@ use Rattle.ilp_book.specs.Lawful.{most_open_asks, owed_above}
 
 -- ---- credits
 
--- what a settlement is said to be: amount times 10 to the power of minus scale
-pub record Quantity : Type 0 where
-  pub amount : ℕ
-  pub scale : ℕ
-
--- the quantity at a balance's scale, rounded down
-abbrev pub credited_at : Quantity → ℕ → ℕ
-credited_at q scale = floor (q.amount * 10 ^ scale) (10 ^ q.scale)
-
 -- the credit of a peer that is kept under a key, with its number
 abbrev pub kept : Entries → ℕ → List ℕ → Option (ℕ × Credited)
 kept j peer key = option_and_then (λ n. option_map (λ (c : Credited). (n, c)) (credit_at j n)) (kept_at j peer key)
@@ -49,22 +42,38 @@ pub record Payment : Type 0 where
   pub key : List ℕ
   pub quantity : Quantity
 
+abbrev pub payment : ℕ → List ℕ → Quantity → Payment
+payment peer key quantity = record { peer = peer; key = key; quantity = quantity }
+
 -- what a payment adds to its peer's balance
 abbrev pub amount_of : Configuration → Payment → ℕ
 amount_of C p = credited_at p.quantity (scale_at C p.peer)
 
--- the new credit, if none is kept and there is room
+-- the credit of a payment
+abbrev pub credit_of : Configuration → Payment → Credited
+credit_of C p = record { peer = p.peer; key = p.key; named = p.quantity.amount; scale = p.quantity.scale; credited = amount_of C p }
+
+-- a new credit, if the book has room for it
+abbrev pub credit_fitted : PlainBook → Credited → Result Credited (Result Kept CreditFault)
+credit_fitted book c = do
+  _ ← refuse_if (not (has_room book 1)) (Err credit_fault.Full)
+  Ok c
+
+-- the new credit, if none is kept
 abbrev pub credit_fresh : PlainBook → Payment → Option (ℕ × Credited) → Result Credited (Result Kept CreditFault)
 credit_fresh book p (Some c) = Err (credit_kept p.quantity c)
-credit_fresh book p None = do
-  _ ← refuse_if (not (has_room book 1)) (Err credit_fault.Full)
-  Ok (record { peer = p.peer; key = p.key; named = p.quantity.amount; scale = p.quantity.scale; credited = amount_of book.config p })
+credit_fresh book p None = credit_fitted book (credit_of book.config p)
 
 -- the new credit, or the reply where none is made
 unfoldable pub credit_checked : PlainBook → Payment → Result Credited (Result Kept CreditFault)
 credit_checked book p = do
   _ ← refuse_if (nat_lt most (amount_of book.config p)) (Err credit_fault.TooLarge)
   credit_fresh book p (kept book.entries p.peer p.key)
+
+-- whether memory was denied, by a reply
+abbrev pub credit_growth : Result Kept CreditFault → Growth
+credit_growth (Err credit_fault.Memory) = denied
+credit_growth _ = granted
 
 -- Want of memory comes last, and only where an entry would have been appended.
 abbrev pub credit_booked : PlainBook → By → Growth → Result Credited (Result Kept CreditFault) → Made (Result Kept CreditFault)
@@ -90,14 +99,24 @@ abbrev pub due_amount : ℤ → Option Levels → Option ℕ
 due_amount balance None = None
 due_amount balance (Some l) = if int_le l.threshold balance then Some (nat_abs (owed_above balance l.settle_to)) else None
 
+-- a settlement that is due, if the book has room for it
+abbrev pub ask_fitted : PlainBook → Ask → Result Ask AskFault
+ask_fitted book a = do
+  _ ← refuse_if (not (has_room book 2)) ask_fault.Full
+  Ok a
+
 -- the settlement that is asked for, or the first refusal
 unfoldable pub ask_checked : PlainBook → ℕ → Result Ask AskFault
 ask_checked book peer = do
   let owed = balance book.entries peer
   _ ← refuse_some (still_open book.entries peer)
   amount ← found_or (due_amount owed (peer_at book.config peer).levels) (ask_fault.NotDue owed)
-  _ ← refuse_if (not (has_room book 2)) ask_fault.Full
-  Ok (record { peer = peer; amount = amount })
+  ask_fitted book (record { peer = peer; amount = amount })
+
+-- whether memory was denied, by a reply
+abbrev pub ask_growth : Result Asked AskFault → Growth
+ask_growth (Err ask_fault.Memory) = denied
+ask_growth _ = granted
 
 -- Want of memory comes last, and only where an entry would have been appended.
 abbrev pub ask_booked : PlainBook → By → Growth → Result Ask AskFault → Made (Result Asked AskFault)
@@ -116,6 +135,11 @@ ask_step book caller peer growth = ask_booked book caller growth (ask_checked bo
 pub data EngineVerdict : Type 0 where
   accepted : EngineVerdict
   rejected : EngineVerdict
+
+-- the verdict by which an engine accepted a settlement, or did not
+abbrev pub verdict_of : Bool → EngineVerdict
+verdict_of true = accepted
+verdict_of false = rejected
 
 -- what is booked of an engine's verdict on the settlement n
 abbrev pub closing_of_verdict : ℕ → EngineVerdict → What

@@ -1,12 +1,14 @@
 //! The book: what was booked by a configuration, and the calls that book more.
-ghost use Rattle.std.specs.Prelude.{◌≡◌, ℕ, ◌^◌, ◌<◌, ◌≤◌, pos, ◌≤ℤ◌, ◌+ℤ◌, ◌-ℤ◌, int_lt, length, Option, IfOk, OnErr, IsSome, slice_get};
+mod settling;
+
+ghost use Rattle.std.specs.Prelude.{◌≡◌, ℕ, ◌^◌, ◌<◌, ◌≤◌, pos, ◌≤ℤ◌, ◌+ℤ◌, ◌-ℤ◌, int_lt, length, Option, IfOk, OnErr, slice_get};
 ghost use Rattle.std.specs.Option.{option_copied};
 ghost use Rattle.ilp_terms.specs.Expiry.{last_of_all};
 ghost use Rattle.ilp_lookup.specs.Route.{IsRoute};
 ghost use Rattle.ilp_packet.specs.Packet.{plain_prepare};
 ghost use Rattle.ilp_accounts.specs.Configuration.{peer_at};
 ghost use Rattle.ilp_accounts.specs.Valid.{IsValid};
-ghost use Rattle.ilp_journal.specs.Journal.{answered, last_moment, open_holds, open_hold_at, IsBase};
+ghost use Rattle.ilp_journal.specs.Journal.{closing, last_moment, open_holds, open_hold_at, IsBase};
 ghost use Rattle.ilp_journal.specs.Balance.{balance};
 ghost use Rattle.ilp_journal.specs.Booked.{most_sum};
 ghost use Rattle.ilp_journal.specs.TrialBalance.{held, fees, taken, bought, sold, settled, total_in, total_out, IsBalanced};
@@ -411,9 +413,9 @@ impl<A: Allocator> Book<A> {
         })
     }
 
-    // Books the entry that ends an open hold, and tells its number.
+    // Books the entry that ends what is open, a hold or a settlement, and tells its number.
     fn close(&mut self, entry: Entry) -> u32
-        requires answer { IsSome (answered entry.what) }
+        requires ends { closing entry.what ≡ 1 }
         requires lawful { IsLawful (pushed self.old entry) }
         ensures number { result ≡ length self.old.entries }
         ensures book { self.new ≡ pushed self.old entry }

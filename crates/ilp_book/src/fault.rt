@@ -6,6 +6,7 @@ ghost use Rattle.ilp_book.specs.declared.fault.AskFault.TheVariants as ask_fault
 ghost use Rattle.ilp_book.specs.RejectCode.{reject_code};
 
 use ilp_assets::QuoteFault;
+use ilp_settlement::TooLarge;
 use std::alloc::AllocError;
 use thiserror::Error;
 
@@ -111,6 +112,14 @@ impl From<AllocError> for CreditFault {
 
     fn from(_e: AllocError) -> CreditFault {
         CreditFault::Memory
+    }
+}
+
+impl From<TooLarge> for CreditFault {
+    ghost from_gives = { λ _ e. e ≡ credit_fault.TooLarge };
+
+    fn from(_e: TooLarge) -> CreditFault {
+        CreditFault::TooLarge
     }
 }
 

@@ -3,8 +3,10 @@
 #![tactic(auto)]
 
 mod answers;
+mod asks;
 mod book;
 mod calls;
+mod credits;
 mod fault;
 pub mod laws;
 mod moments;

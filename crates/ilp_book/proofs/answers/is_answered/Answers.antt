@@ -1,5 +1,5 @@
 use Rattle.std.proofs.Common.{arith, sym}
-use Rattle.ilp_book.proofs.Answered.{answered_at, unanswered_at}
+use Rattle.ilp_book.proofs.Ended.{answered_at, unanswered_at}
 use Rattle.ilp_book.proofs.answers.is_answered.Goals as goal
 
 pub returns-then-answers : goal.returns-then-answers

@@ -1,6 +1,6 @@
 use Rattle.std.proofs.Common.{◌≡◌, ℕ, ◌<◌, ◌≤◌, false}
 use Rattle.ilp_journal.specs.Journal.{is_number}
-use Rattle.ilp_book.proofs.Answered.{answered_by}
+use Rattle.ilp_book.proofs.Ended.{answered_by}
 use Rattle.ilp_book.proofs.answers.is_answered.Given as goal
 
 -- no entry between the hold and the place answers it

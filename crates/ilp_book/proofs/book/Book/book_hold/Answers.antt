@@ -12,7 +12,7 @@ use Rattle.ilp_book.specs.Lawful.{HasTerms}
 use Rattle.ilp_book.specs.Parts.{book_of}
 use Rattle.ilp_book.specs.HoldStep.{has_total}
 use Rattle.ilp_book.proofs.HoldSteps.{fitted_admitted}
-use Rattle.ilp_book.proofs.Keeping.{parts_held}
+use Rattle.ilp_book.proofs.Keeping.{parts_grown}
 use Rattle.ilp_book.proofs.book.Book.book_hold.Goals as goal
 
 -- the hold fits, since nothing refused it
@@ -43,7 +43,7 @@ invariant_of-self-2 g c =
     let grown : c.push_reserved.new.self.entries ≡ j ++ e ∷ [] = c.push_reserved.ensures.entries
     ∙ ap (λ (t : ℤ). c.reserve.new.self.entries ++ record { moment = t; actor = c.args.actor; what = what.Hold h } ∷ []) moment
     ∙ ap (λ (es : Entries). es ++ e ∷ []) c.in-Ok.ensures.entries in
-    parts_held C c.self.inside.base journal c.push_reserved.new.self c.self.inside.open_count e h refl c.self.invariant
+    parts_grown C c.self.inside.base journal c.push_reserved.new.self c.self.inside.open_count e refl c.self.invariant
     (fitted_admitted book caller h c.self.invariant.lawful (subst Terms back c.requires.terms) room total covered)
     grown (omega (arith, c.in-Ok.ensures.ok, c.push_reserved.ensures.used)) (c.push_reserved.ensures.limit ∙ c.in-Ok.ensures.limit)
 

@@ -1,0 +1,113 @@
+//! Settlements to peers: which are open, and what is asked for.
+ghost use Rattle.std.specs.Prelude.{◌≡◌, ◌≤ℤ◌, ◌<ℤ◌, ◌+ℤ◌, pos, slice_get, option_and_then, is_some, IfSome};
+ghost use Rattle.ilp_accounts.specs.declared.peer.Levels.{Levels};
+ghost use Rattle.ilp_journal.specs.declared.entry.Entry.{Entry};
+ghost use Rattle.ilp_journal.specs.Places.{Each};
+ghost use Rattle.ilp_journal.specs.Booked.{most_sum};
+ghost use Rattle.ilp_journal.specs.Journal.{ClosesOnce, closed, closing_of, is_number, open_ask_at};
+ghost use Rattle.ilp_book.specs.Open as opens;
+ghost use Rattle.ilp_book.specs.SettleStep as settles;
+
+use crate::fault::AskFault;
+use ilp_accounts::Levels;
+use ilp_journal::{Ask, Journal, What};
+use std::alloc::Allocator;
+
+/// The settlement under a number, if it is open.
+pub(crate) fn open_ask_at<A: Allocator>(journal: &Journal<A>, number: u32) -> Option<Ask>
+    requires { Each ClosesOnce journal.now.entries }
+    ensures { result ≡ open_ask_at journal.now.entries number }
+{
+    let ask = journal.ask(number)?;
+    if is_closed(journal, number) {
+        return None;
+    }
+    Some(ask)
+}
+
+/// The refusal where a settlement to the peer is open, of which there may be one at a time.
+pub(crate) fn still_open<A: Allocator>(journal: &Journal<A>, peer: u32) -> Option<AskFault>
+    requires { Each ClosesOnce journal.now.entries }
+    ensures { result ≡ settles.still_open journal.now.entries peer }
+{
+    let (number, ask) = first_open_ask(journal, peer)?;
+    Some(AskFault::StillOpen {
+        number,
+        amount: ask.amount,
+    })
+}
+
+// The open settlement to a peer that has the least number, with that number.
+fn first_open_ask<A: Allocator>(journal: &Journal<A>, peer: u32) -> Option<(u32, Ask)>
+    requires { Each ClosesOnce journal.now.entries }
+    ensures { result ≡ opens.first_open_ask journal.now.entries peer }
+{
+    let number = first_open_number(journal, peer)?;
+    let ask = journal.ask(number)?;
+    Some((number, ask))
+}
+
+// The least number of an open settlement to a peer.
+fn first_open_number<A: Allocator>(journal: &Journal<A>, peer: u32) -> Option<u32>
+    requires { Each ClosesOnce journal.now.entries }
+    ensures { result ≡ opens.first_open_number journal.now.entries peer }
+{
+    for (number, entry) in journal.entries().iter().enumerate() {
+        if is_ask_of(peer, &entry.what) && !is_closed(journal, number as u32) {
+            return Some(number as u32);
+        }
+    }
+    None
+}
+
+// Whether an entry asks for a settlement to the peer.
+fn is_ask_of(peer: u32, what: &What) -> bool
+    ensures { result ≡ opens.is_ask_of peer what.now }
+{
+    match what {
+        What::Asked(ask) => ask.peer == peer,
+        _ => false,
+    }
+}
+
+// Whether an entry closes the settlement of a number. Such an entry stands after the settlement.
+fn is_closed<A: Allocator>(journal: &Journal<A>, number: u32) -> bool
+    requires { Each ClosesOnce journal.now.entries }
+    ensures { result ≡ is_some (closing_of journal.now.entries number) }
+{
+    for place in number..journal.len() {
+        if closes(journal, place, number) {
+            return true;
+        }
+    }
+    false
+}
+
+// Whether the entry at a place closes the settlement of a number.
+fn closes<A: Allocator>(journal: &Journal<A>, place: u32, number: u32) -> bool
+    ensures { result ≡ is_number number
+        (option_and_then (λ (e : Entry). closed e.what) (slice_get journal.now.entries place)) }
+{
+    match journal.get(place) {
+        Some(entry) => match entry.what.closed() {
+            Some(ask) => number == ask,
+            None => false,
+        },
+        None => false,
+    }
+}
+
+/// What is asked for, where the balance is at the peer's threshold or above it.
+pub(crate) fn due_amount(balance: i128, levels: Option<Levels>) -> Option<u64>
+    requires low { pos 0 ≤ℤ (balance +ℤ pos most_sum) }
+    requires high { balance ≤ℤ pos most_sum }
+    requires ordered { IfSome levels (λ (l : Levels). l.settle_to <ℤ l.threshold) }
+    ensures { result ≡ settles.due_amount balance levels }
+{
+    let levels = levels?;
+    if balance < i128::from(levels.threshold) {
+        return None;
+    }
+    let above = balance - i128::from(levels.settle_to);
+    Some(above.min(i128::from(u64::MAX)) as u64)
+}

@@ -1,0 +1,175 @@
+//! Settlements: credits from peers, asks to peers, and what becomes of those.
+ghost use Rattle.std.specs.Prelude.{◌≡◌, OnErr};
+ghost use Rattle.ilp_journal.specs.Journal.{open_ask_at};
+ghost use Rattle.ilp_book.specs.Book.{by, Does};
+ghost use Rattle.ilp_book.specs.Configured.{IsKnown};
+ghost use Rattle.ilp_book.specs.Lawful.{IsLawful, IsFreshCredit, IsDueAsk};
+ghost use Rattle.ilp_book.specs.SettleStep.{payment, verdict_of, credit_fitted, credit_booked, credit_growth, credit_step, ask_fitted, ask_booked, ask_growth, ask_step, close_step};
+
+use crate::asks::{due_amount, open_ask_at, still_open};
+use crate::book::Book;
+use crate::calls::{Asked, Kept};
+use crate::credits::kept_reply;
+use crate::fault::{AskFault, CreditFault, NotOpen};
+use ilp_journal::{Ask, Credited, Entry, Key, What};
+use ilp_settlement::{Quantity, credited};
+use std::alloc::Allocator;
+
+impl<A: Allocator> Book<A> {
+    /// Credits a settlement that came from a peer (RFC 0038), once for each of the peer's keys: the
+    /// quantity at the scale of the peer's asset, rounded down. A key that is kept with an equal
+    /// amount and scale is answered as it was, with `fresh` false, and books nothing. The refusals
+    /// come in the order of `CreditFault`; each leaves the book as it was.
+    #[tactic(auto, unfolding(crate::specs::SettleStep::credit_step, crate::specs::SettleStep::credit_checked))]
+    pub fn credit(
+        &mut self,
+        actor: u32,
+        peer: u32,
+        key: Key,
+        quantity: &Quantity,
+        now: i64,
+    ) -> Result<Kept, CreditFault>
+        requires known { IsKnown self.old.config peer }
+        ensures step { Does self.old self.new result (credit_step self.old (by actor now)
+            (payment peer key quantity.now) (credit_growth result)) }
+        ensures lawful { IsLawful self.new }
+        ensures err { OnErr result (self.new ≡ self.old) }
+    {
+        let amount = credited(quantity, self.config.scale(peer))?;
+        if let Some(reply) = kept_reply(&self.journal, peer, &key, quantity) {
+            return reply;
+        }
+        let credit = Credited {
+            peer,
+            key,
+            named: quantity.amount,
+            scale: quantity.scale,
+            credited: amount,
+        };
+        self.book_credit(actor, now, credit)
+    }
+
+    /// Asks for a settlement to a peer, where none to it is open and its balance has reached its
+    /// threshold: for what lies above `settle_to`, but no more than 18446744073709551615 units of
+    /// its asset. It takes the memory for the entry that closes it too. The refusals come in the
+    /// order of `AskFault`; each leaves the book as it was.
+    #[tactic(auto, unfolding(crate::specs::SettleStep::ask_step, crate::specs::SettleStep::ask_checked))]
+    pub fn ask(&mut self, actor: u32, peer: u32, now: i64) -> Result<Asked, AskFault>
+        requires known { IsKnown self.old.config peer }
+        ensures step { Does self.old self.new result
+            (ask_step self.old (by actor now) peer (ask_growth result)) }
+        ensures lawful { IsLawful self.new }
+        ensures err { OnErr result (self.new ≡ self.old) }
+    {
+        if let Some(fault) = still_open(&self.journal, peer) {
+            return Err(fault);
+        }
+        let balance = self.journal.balance(peer);
+        let Some(amount) = due_amount(balance, self.config.levels(peer)) else {
+            return Err(AskFault::NotDue { balance });
+        };
+        self.book_ask(actor, now, Ask { peer, amount })
+    }
+
+    /// Books what the peer's engine said of a settlement, if it is open: where it was accepted that
+    /// is all, else the peer gets the amount back. Answers the number of the entry. The ask has made
+    /// room, so no memory is taken. A refusal names the entry that closed the settlement, if one
+    /// did, and leaves the book as it was.
+    #[tactic(auto, unfolding(crate::specs::SettleStep::close_step))]
+    pub fn settle_close(
+        &mut self,
+        actor: u32,
+        number: u32,
+        accepted: bool,
+        now: i64,
+    ) -> Result<u32, NotOpen>
+        ensures step { Does self.old self.new result
+            (close_step self.old (by actor now) number (verdict_of accepted)) }
+        ensures lawful { IsLawful self.new }
+    {
+        let Some(_ask) = self.open_ask(number) else {
+            return Err(NotOpen {
+                closer: self.journal.closing_of(number),
+            });
+        };
+        let moment = self.moment_at(now);
+        let what = if accepted {
+            What::Confirmed { ask: number }
+        } else {
+            What::Undone { ask: number }
+        };
+        Ok(self.close(Entry {
+            moment,
+            actor,
+            what,
+        }))
+    }
+}
+
+// What the calls are made of.
+impl<A: Allocator> Book<A> {
+    // Books a credit that its rules allow, if there is room for it.
+    fn book_credit(&mut self, actor: u32, now: i64, credit: Credited) -> Result<Kept, CreditFault>
+        requires fresh { IsFreshCredit self.old.config self.old.entries credit }
+        ensures step { Does self.old self.new result (credit_booked self.old (by actor now)
+            (credit_growth result) (credit_fitted self.old credit)) }
+        ensures lawful { IsLawful self.new }
+        ensures err { OnErr result (self.new ≡ self.old) }
+    {
+        if !self.has_room(1) {
+            return Err(CreditFault::Full);
+        }
+        let moment = self.moment_at(now);
+        let number = self.journal.len();
+        let amount = credit.credited;
+        let Ok(()) = self.journal.reserve(self.open_count as usize + 1) else {
+            return Err(CreditFault::Memory);
+        };
+        self.journal.push_reserved(Entry {
+            moment,
+            actor,
+            what: What::Credited(credit),
+        });
+        Ok(Kept {
+            number,
+            amount,
+            fresh: true,
+        })
+    }
+
+    // Books an ask that is due, if there is room for it and what closes it.
+    fn book_ask(&mut self, actor: u32, now: i64, ask: Ask) -> Result<Asked, AskFault>
+        requires due { IsDueAsk self.old.config self.old.entries ask }
+        ensures step { Does self.old self.new result (ask_booked self.old (by actor now)
+            (ask_growth result) (ask_fitted self.old ask)) }
+        ensures lawful { IsLawful self.new }
+        ensures err { OnErr result (self.new ≡ self.old) }
+    {
+        if !self.has_room(2) {
+            return Err(AskFault::Full);
+        }
+        let moment = self.moment_at(now);
+        let number = self.journal.len();
+        let Ok(()) = self.journal.reserve(self.open_count as usize + 2) else {
+            return Err(AskFault::Memory);
+        };
+        self.journal.push_reserved(Entry {
+            moment,
+            actor,
+            what: What::Asked(ask),
+        });
+        self.open_count += 1;
+        Ok(Asked {
+            number,
+            amount: ask.amount,
+        })
+    }
+
+    // The settlement under a number, if it is open.
+    fn open_ask(&self, number: u32) -> Option<Ask>
+        ensures value { result ≡ open_ask_at self.now.entries number }
+        ensures lawful { IsLawful self.now }
+    {
+        open_ask_at(&self.journal, number)
+    }
+}

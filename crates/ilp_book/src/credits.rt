@@ -1,0 +1,67 @@
+//! Settlements from peers: which credit is kept under a key, and what is answered by it.
+ghost use Rattle.std.specs.Prelude.{◌≡◌, option_map};
+ghost use Rattle.std.specs.Option.{option_copied};
+ghost use Rattle.ilp_book.specs.Open as opens;
+ghost use Rattle.ilp_book.specs.SettleStep as settles;
+
+use crate::calls::Kept;
+use crate::fault::CreditFault;
+use ilp_journal::{Credited, Journal, Key, What};
+use ilp_settlement::Quantity;
+use std::alloc::Allocator;
+
+/// What is answered where a credit of the peer is kept under the key.
+pub(crate) fn kept_reply<A: Allocator>(
+    journal: &Journal<A>,
+    peer: u32,
+    key: &Key,
+    quantity: &Quantity,
+) -> Option<Result<Kept, CreditFault>>
+    ensures { result ≡ option_map (settles.credit_kept quantity.now)
+        (settles.kept journal.now.entries peer key.now) }
+{
+    let number = kept_at(journal, peer, key)?;
+    let credited = credit_at(journal, number)?;
+    if credited.named != quantity.amount || credited.scale != quantity.scale {
+        return Some(Err(CreditFault::KeyTaken { kept: number }));
+    }
+    Some(Ok(Kept {
+        number,
+        amount: credited.credited,
+        fresh: false,
+    }))
+}
+
+// The number of the first credit of a peer under a key.
+fn kept_at<A: Allocator>(journal: &Journal<A>, peer: u32, key: &Key) -> Option<u32>
+    ensures { result ≡ opens.kept_at journal.now.entries peer key.now }
+{
+    for (number, entry) in journal.entries().iter().enumerate() {
+        if has_key(peer, key, &entry.what) {
+            return Some(number as u32);
+        }
+    }
+    None
+}
+
+// Whether an entry credits the peer under the key.
+fn has_key(peer: u32, key: &Key, what: &What) -> bool
+    ensures { result ≡ opens.has_key peer key.now what.now }
+{
+    match what {
+        What::Credited(credited) => {
+            credited.peer == peer && credited.key.as_slice() == key.as_slice()
+        }
+        _ => false,
+    }
+}
+
+// The credit under a number.
+fn credit_at<A: Allocator>(journal: &Journal<A>, number: u32) -> Option<&Credited>
+    ensures { option_copied result ≡ opens.credit_at journal.now.entries number }
+{
+    match &journal.get(number)?.what {
+        What::Credited(credited) => Some(credited),
+        _ => None,
+    }
+}
