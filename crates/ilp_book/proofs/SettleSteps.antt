@@ -33,16 +33,7 @@ use Rattle.ilp_book.proofs.Known.{peer_valid, covered}
 use Rattle.ilp_book.proofs.LawfulGrowth.{Admits, lawful_push, limits_now}
 use Rattle.ilp_order.proofs.RefusalLemmas.{refused_not, none_refused, found, ok_same, some_same, not_true, chosen, is_none_at, is_some_at}
 use Rattle.ilp_book.proofs.InTime.{in_time, calm}
-
--- the first place that passes has an element that does
-first_found : {X : Type 0} (test : ℕ → X → Bool) (k n : ℕ) (xs : List X) → first_from test k xs ≡ Some n → (i : ℕ) × (x : X) × (n ≡ k + i) × (slice_get xs i ≡ Some x) × (test n x ≡ true)
-first_found test k n [] e = absurd cc
-first_found {X} test k n (y ∷ ys) e = of_test (test k y) refl (λ e. let r = first_found test (k + 1) n ys e in (suc r.0, r.1, r.2 ∙ omega arith, r.3, r.4)) e
-  where
-    of_test : (b : Bool) → test k y ≡ b → (first_from test (k + 1) ys ≡ Some n → (i : ℕ) × (x : X) × (n ≡ k + i) × (slice_get (y ∷ ys) i ≡ Some x) × (test n x ≡ true))
-        → cond b (Some k) (first_from test (k + 1) ys) ≡ Some n → (i : ℕ) × (x : X) × (n ≡ k + i) × (slice_get (y ∷ ys) i ≡ Some x) × (test n x ≡ true)
-    of_test true t rest e = let same : k ≡ n = some_same k n e in (0, y, omega arith, refl, subst (λ m. test m y ≡ true) same t)
-    of_test false t rest e = rest e
+use Rattle.ilp_book.proofs.OpenAsks.{first_found, few_open}
 
 -- ---- closings
 
@@ -133,70 +124,6 @@ credit_lawful book caller p growth lawful known key =
     of (Ok c) granted h = lawful_push book _ lawful (h c refl)
 
 -- ---- asks
-
--- a sum of nothing but terms that pass no test
-sum_from-none : {X : Type 0} (test : ℕ → X → Bool) (f : ℕ → X → ℕ) (n : ℕ) (xs : List X) → ((k : ℕ) (x : X) → test k x ≡ false → f k x ≡ 0) → first_from test n xs ≡ None → sum_from f n xs ≡ 0
-sum_from-none test f n [] none e = refl
-sum_from-none test f n (x ∷ xs) none e =
-    let failed : (test n x ≡ false) × (first_from test (n + 1) xs ≡ None) = parts (test n x) refl e in
-    omega (arith, none n x failed.0, sum_from-none test f (n + 1) xs none failed.1)
-  where
-    parts : (b : Bool) → test n x ≡ b → cond b (Some n) (first_from test (n + 1) xs) ≡ None → (test n x ≡ false) × (first_from test (n + 1) xs ≡ None)
-    parts true t e = absurd cc
-    parts false t e = (t, e)
-
--- where no open settlement of a peer is found it has none open
-none_open : (j : Entries) (peer : ℕ) → first_open_ask j peer ≡ None → open_asks j peer ≡ 0
-unfolding open_asks
-none_open j peer e =
-    sum_from-none is_its _ 0 j (λ k d failed. uncounted (as_ask d.what) (is_unclosed j k) failed) (of (first_from is_its 0 j) refl e)
-  where
-    is_its : ℕ → Entry → Bool
-    is_its n d = is_ask_of peer d.what && is_unclosed j n
-
-    uncounted : (o : Option Ask) (b : Bool) → (unwrap_or (option_map (λ (a : Ask). a.peer == peer) o) false && b) ≡ false → cond b (unwrap_or (option_map (paid_to peer) o) 0) 0 ≡ 0
-    uncounted None true failed = refl
-    uncounted None false failed = refl
-    uncounted (Some a) false failed = refl
-    uncounted (Some a) true failed = of_peer (a.peer == peer) failed
-      where
-        of_peer : (b : Bool) → (b && true) ≡ false → ◌≡◌ {A = ℕ} (cond b 1 0) 0
-        of_peer true failed = cc
-        of_peer false failed = refl
-
-    is_ask : (w : What) (b : Bool) → (is_ask_of peer w && b) ≡ true → IsSome (as_ask w)
-    is_ask w b t = at (as_ask w) t
-      where
-        at : (o : Option Ask) → (unwrap_or (option_map (λ (a : Ask). a.peer == peer) o) false && b) ≡ true → IsSome o
-        at None t = cc
-        at (Some a) t = refl
-
-    stands : (n : ℕ) → first_from is_its 0 j ≡ Some n → IsSome (ask_at j n)
-    stands n is =
-        let f = first_found is_its 0 n j is in
-        let place : f.0 ≡ n = omega (arith, f.2) in
-        subst (λ k. IsSome (ask_at j k)) place (rw f.3 (is_ask f.1.what (is_unclosed j n) f.4))
-
-    of : (o : Option ℕ) → first_from is_its 0 j ≡ o → option_and_then {U = ℕ × Ask} (λ n. option_map (λ (a : Ask). (n, a)) (ask_at j n)) o ≡ None → first_from is_its 0 j ≡ None
-    of None is e = is
-    of (Some n) is e = absurd (none (ask_at j n) (stands n is) e)
-      where
-        none : (o : Option Ask) → IsSome o → option_map {U = ℕ × Ask} (λ (a : Ask). (n, a)) o ≡ None → ⊥
-        none None s e = cc
-        none (Some c) s e = cc
-
--- where none is told to be open fewer are open than may be
-few_open : (j : Entries) (peer : ℕ) → still_open j peer ≡ None → open_asks j peer < most_open_asks
-few_open j peer e = of_test (nat_lt (open_asks j peer) most_open_asks) refl e
-  where
-    of_test : (b : Bool) → nat_lt (open_asks j peer) most_open_asks ≡ b → cond b None (option_map (λ (x : ℕ × Ask). ask_fault.StillOpen x.0 x.1.amount) (first_open_ask j peer)) ≡ None
-        → open_asks j peer < most_open_asks
-    of_test true t e = ltb-true _ _ t
-    of_test false t e = of (first_open_ask j peer) refl e
-      where
-        of : (o : Option (ℕ × Ask)) → first_open_ask j peer ≡ o → option_map (λ (x : ℕ × Ask). ask_fault.StillOpen x.0 x.1.amount) o ≡ None → open_asks j peer < most_open_asks
-        of None is e = omega (arith, none_open j peer is)
-        of (Some x) is e = cc
 
 -- what an ask that is booked has
 record AskFacts (book : PlainBook) (peer : ℕ) (a : Ask) : Type 0 where
