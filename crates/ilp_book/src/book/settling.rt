@@ -6,7 +6,7 @@ ghost use Rattle.ilp_book.specs.Configured.{IsKnown};
 ghost use Rattle.ilp_book.specs.Lawful.{IsLawful, IsFreshCredit, IsDueAsk};
 ghost use Rattle.ilp_book.specs.SettleStep.{payment, verdict_of, credit_fitted, credit_booked, credit_growth, credit_step, ask_fitted, ask_booked, ask_growth, ask_step, close_step};
 
-use crate::asks::{due_amount, open_ask_at, still_open};
+use crate::asks::{closing, due_amount, open_ask_at, still_open};
 use crate::book::Book;
 use crate::calls::{Asked, Kept};
 use crate::credits::kept_reply;
@@ -93,11 +93,7 @@ impl<A: Allocator> Book<A> {
             });
         };
         let moment = self.moment_at(now);
-        let what = if accepted {
-            What::Confirmed { ask: number }
-        } else {
-            What::Undone { ask: number }
-        };
+        let what = closing(number, accepted);
         Ok(self.close(Entry {
             moment,
             actor,
