@@ -1,11 +1,11 @@
 -- A credit, an ask or a closing that a step appends to a lawful journal is admitted by its rules.
-use Rattle.std.proofs.Common.{◌≡◌, ℕ, suc, ◌+◌, ◌≤◌, ◌<◌, ℤ, pos, negsuc, ◌+ℤ◌, ◌-ℤ◌, Bool, true, false, cond, not, ◌&&◌, List, [], ◌∷◌, length, Option, Some, None, refl, sym, ap, ◌∙◌, subst, arith}
-use Rattle.std.specs.Prelude.{Result, Ok, Err, ◌≤ℤ◌, ◌<ℤ◌, int_le, nat_lt, ◌==◌, slice_get, unwrap_or, option_map, option_and_then, IsSome, IsNone, IfSome, IsSomeAnd, nat_abs}
+use Rattle.std.proofs.Common.{◌≡◌, ℕ, ◌+◌, ◌≤◌, ℤ, pos, negsuc, ◌+ℤ◌, ◌-ℤ◌, true, false, not, ◌&&◌, List, length, Option, Some, None, refl, sym, ap, ◌∙◌, subst, arith}
+use Rattle.std.specs.Prelude.{Result, Ok, Err, ◌≤ℤ◌, ◌<ℤ◌, int_le, nat_lt, ◌==◌, unwrap_or, option_map, option_and_then, IsSome, IsNone, IfSome, IsSomeAnd, nat_abs}
 use Rattle.std.specs.Int.{int_min}
 use Rattle.std.specs.Str.{bytes_eq}
 use Rattle.std.proofs.lemmas.Int.{ints, clamps}
-use Rattle.std.proofs.lemmas.Bool.{leb-true, ltb-true}
-use Rattle.ilp_order.specs.Refusals.{◌>>=◌}
+use Rattle.std.proofs.lemmas.Bool.{leb-true}
+use Rattle.ilp_order.specs.Refusals.{◌>>=◌, refuse_some, found_or}
 use Rattle.ilp_assets.specs.Quote.{most}
 use Rattle.ilp_accounts.specs.declared.peer.Levels.{Levels}
 use Rattle.ilp_accounts.specs.Configuration.{Configuration, PlainPeer, peer_at}
@@ -15,20 +15,20 @@ use Rattle.ilp_journal.specs.declared.entry.What.{What}
 use Rattle.ilp_journal.specs.declared.entry.What.TheVariants as what
 use Rattle.ilp_journal.specs.declared.entry.Ask.{Ask}
 use Rattle.ilp_journal.specs.declared.entry.Credited.{Credited}
-use Rattle.ilp_journal.specs.Places.{sum_from, first_from}
 use Rattle.ilp_journal.specs.Keys.{IsKey}
-use Rattle.ilp_journal.specs.Journal.{Entries, ask_at, as_ask, closing_of, is_unclosed, open_count, open_asks, open_ask_at, paid_to}
+use Rattle.ilp_journal.specs.Journal.{Entries, ask_at, closing_of, is_unclosed, open_count, open_ask_at}
 use Rattle.ilp_journal.specs.Balance.{balance}
+use Rattle.ilp_book.specs.declared.calls.Asked.{Asked}
 use Rattle.ilp_book.specs.declared.calls.Kept.{Kept}
 use Rattle.ilp_book.specs.declared.fault.CreditFault.{CreditFault}
 use Rattle.ilp_book.specs.declared.fault.CreditFault.TheVariants as credit_fault
 use Rattle.ilp_book.specs.declared.fault.AskFault.{AskFault}
 use Rattle.ilp_book.specs.declared.fault.AskFault.TheVariants as ask_fault
-use Rattle.ilp_book.specs.Configured.{IsKnown, scale_at}
-use Rattle.ilp_book.specs.Book.{PlainBook, By, Growth, granted, denied, entry_by, has_room, moment_at, pushed, with_entry}
-use Rattle.ilp_book.specs.Open.{as_credit, credit_at, has_key, is_ask_of, kept_at, first_open_ask}
+use Rattle.ilp_book.specs.Configured.{IsKnown}
+use Rattle.ilp_book.specs.Book.{PlainBook, By, Does, Growth, granted, denied, entry_by, has_room, moment_at, pushed, with_entry}
+use Rattle.ilp_book.specs.Open.{as_credit, credit_at, has_key, kept_at}
 use Rattle.ilp_book.specs.Lawful.{IsLawful, IsWithinLimits, IsFreshCredit, IsDueAsk, owed_above}
-use Rattle.ilp_book.specs.SettleStep.{Payment, EngineVerdict, accepted, rejected, closing_of_verdict, amount_of, credit_of, kept, credit_fresh, credit_checked, credit_booked, credit_step, still_open, due_amount, ask_checked, ask_booked, ask_step, close_booked, close_step}
+use Rattle.ilp_book.specs.SettleStep.{Payment, EngineVerdict, accepted, rejected, closing_of_verdict, amount_of, credit_of, kept, credit_fresh, credit_checked, credit_booked, credit_step, still_open, due_amount, ask_fitted, ask_checked, ask_booked, ask_step, close_booked, close_step}
 use Rattle.ilp_book.proofs.Known.{peer_valid, covered}
 use Rattle.ilp_book.proofs.LawfulGrowth.{Admits, lawful_push, limits_now}
 use Rattle.ilp_order.proofs.RefusalLemmas.{refused_not, none_refused, found, ok_same, some_same, not_true, chosen, is_none_at, is_some_at}
@@ -166,6 +166,17 @@ due_ask C j peer amount valid known none due = record {
   few_open = few_open j peer none;
   due = due_from (peer_at C peer).levels (peer_at C peer) (balance j peer) amount (peer_valid C peer valid known).levels due;
 }
+
+-- where none is open and something is due, the step is what the book has for that
+pub ask_due : (book new : PlainBook) (caller : By) (peer amount : ℕ) (growth : Growth) (result : Result Asked AskFault) → still_open book.entries peer ≡ None
+    → due_amount (balance book.entries peer) (peer_at book.config peer).levels ≡ Some amount
+    → Does book new result (ask_booked book caller growth (ask_fitted book (record { peer = peer; amount = amount }))) → Does book new result (ask_step book caller peer growth)
+unfolding ask_step ask_checked
+ask_due book new caller peer amount growth result none due does =
+    let owed = balance book.entries peer in
+    let Asks : Option AskFault → Option ℕ → Type 0 = λ o d. Does book new result (ask_booked book caller growth
+    (refuse_some o >>= λ _. found_or d (ask_fault.NotDue owed) >>= λ n. ask_fitted book (record { peer = peer; amount = n }))) in
+    subst (λ o. Asks o (due_amount owed (peer_at book.config peer).levels)) (sym none) (subst (Asks None) (sym due) does)
 
 -- a due ask leaves the balance at its least or above
 due_covered : (o : Option Levels) (peer : PlainPeer) (b : ℤ) (amount : ℕ) → IfSome o (AreOrdered peer) → IsSomeAnd o (λ (v : Levels). (v.threshold ≤ℤ b) × (pos amount ≡ owed_above b v.settle_to))

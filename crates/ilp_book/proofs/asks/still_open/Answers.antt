@@ -1,5 +1,4 @@
 use Rattle.std.proofs.Common.{sym, ap, ◌∙◌}
-use Rattle.std.specs.Prelude.{Some}
 use Rattle.ilp_book.proofs.OpenAsks.{still_open_is, told_open}
 use Rattle.ilp_book.proofs.asks.still_open.Goals as goal
 
