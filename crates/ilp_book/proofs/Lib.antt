@@ -12,5 +12,6 @@ pub mod Earliest
 pub mod Ended
 pub mod Prefixes
 pub mod KeptOnce
+pub mod SettledForGood
 pub mod RowProofs
 pub mod RejectCodes

@@ -1,5 +1,5 @@
 -- How a hold ends: by what came back for it, or by its deadline.
-use Rattle.std.specs.Prelude.{◌≡◌, ◌≢◌, ℕ, ◌++◌, ℤ, int_le, not, List, length, Option, Some, None, Result, Ok, Err, option_and_then, if◌then◌else◌}
+use Rattle.std.specs.Prelude.{◌≡◌, ◌≢◌, ℕ, ℤ, int_le, not, List, length, Option, Some, None, Result, Ok, Err, option_and_then, if◌then◌else◌}
 use Rattle.ilp_order.specs.Refusals.{◌>>=◌, refuse_if}
 use Rattle.ilp_journal.specs.declared.entry.What.{What}
 use Rattle.ilp_journal.specs.declared.entry.What.TheVariants as what
@@ -13,7 +13,7 @@ use Rattle.ilp_book.specs.declared.calls.Outcome.{Outcome}
 use Rattle.ilp_book.specs.declared.calls.Outcome.TheVariants as outcome
 use Rattle.ilp_book.specs.declared.fault.NotOpen.{NotOpen}
 use Rattle.ilp_terms.specs.Condition.{meets}
-use Rattle.ilp_book.specs.Book.{PlainBook, By, Made, says, books, moment_at, with_entries}
+use Rattle.ilp_book.specs.Book.{PlainBook, By, Made, says, books, moment_at, extended}
 use Rattle.ilp_book.specs.Open.{earliest}
 
 -- the preimage that a reply has, or why there is none
@@ -68,10 +68,6 @@ unfoldable pub expire_step : PlainBook → By → Made (Option ℕ)
 expire_step book caller = expire_booked book caller (due book.entries (moment_at book.entries caller.now))
 
 -- ---- holds that are over
-
--- the book with more entries
-abbrev pub extended : PlainBook → Entries → PlainBook
-extended book more = with_entries book (book.entries ++ more)
 
 -- The hold n is over by the entry k for good: whatever is appended, each answer is told of that entry and appends nothing, and
 -- no expiry takes the hold.

@@ -29,6 +29,10 @@ with_base book base = record { config = book.config; base = base; entries = book
 abbrev pub pushed : PlainBook → Entry → PlainBook
 pushed book e = with_entries book (book.entries ++ e ∷ [])
 
+-- the book with more entries
+abbrev pub extended : PlainBook → Entries → PlainBook
+extended book more = with_entries book (book.entries ++ more)
+
 -- whether n more entries fit, beside those that end what is open
 abbrev pub has_room : PlainBook → ℕ → Bool
 has_room book n = nat_le (length book.entries + open_count book.entries + n) book.config.settings.journal

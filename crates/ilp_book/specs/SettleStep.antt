@@ -1,5 +1,5 @@
 -- Settlements from peers, which are credited, and to peers, which are asked for and closed. Refusals stand in their order.
-use Rattle.std.specs.Prelude.{ℕ, ℤ, int_le, nat_abs, Bool, true, false, not, ◌&&◌, ◌==◌, List, length, nat_lt, Option, Some, None, Result, Ok, Err, option_and_then, option_map, if◌then◌else◌}
+use Rattle.std.specs.Prelude.{◌≡◌, ℕ, ◌≤◌, ℤ, int_le, nat_abs, Bool, true, false, not, ◌&&◌, ◌==◌, List, length, nat_lt, Option, Some, None, Result, Ok, Err, option_and_then, option_map, if◌then◌else◌}
 use Rattle.ilp_order.specs.Refusals.{◌>>=◌, refuse_if, refuse_some, found_or}
 use Rattle.ilp_assets.specs.Quote.{most}
 use Rattle.ilp_settlement.specs.declared.quantity.Quantity.{Quantity}
@@ -20,7 +20,7 @@ use Rattle.ilp_book.specs.declared.fault.AskFault.{AskFault}
 use Rattle.ilp_book.specs.declared.fault.AskFault.TheVariants as ask_fault
 use Rattle.ilp_book.specs.declared.fault.NotOpen.{NotOpen}
 use Rattle.ilp_book.specs.Configured.{scale_at}
-use Rattle.ilp_book.specs.Book.{PlainBook, By, Growth, granted, denied, Made, says, books, has_room}
+use Rattle.ilp_book.specs.Book.{PlainBook, By, Growth, granted, denied, Made, says, books, extended, has_room}
 use Rattle.ilp_book.specs.Open.{first_open_ask, credit_at, kept_at}
 use Rattle.ilp_book.specs.Lawful.{most_open_asks, owed_above}
 
@@ -154,3 +154,17 @@ close_booked book caller n verdict (Some a) = books book caller (Ok (length book
 -- what became of the settlement n
 unfoldable pub close_step : PlainBook → By → ℕ → EngineVerdict → Made (Result ℕ NotOpen)
 close_step book caller n verdict = close_booked book caller n verdict (open_ask_at book.entries n)
+
+-- ---- what stands for good
+
+-- The settlement n is closed by the entry k for good: whatever is appended, each closing is told of that entry and appends nothing.
+abbrev pub IsClosedBy : PlainBook → ℕ → ℕ → Type 0
+IsClosedBy book n k = (more : Entries) (caller : By) (verdict : EngineVerdict)
+    → close_step (extended book more) caller n verdict ≡ says (Err (record { closer = Some k }))
+
+-- A peer's key is kept for good by a credit with its number: whatever is appended, each settlement of the peer under it that
+-- isn't too large is answered by that credit and appends nothing.
+abbrev pub IsKeptBy : PlainBook → ℕ → List ℕ → ℕ × Credited → Type 0
+IsKeptBy book peer key numbered = (more : Entries) (caller : By) (quantity : Quantity) (growth : Growth)
+    → credited_at quantity (scale_at book.config peer) ≤ most
+    → credit_step (extended book more) caller (payment peer key quantity) growth ≡ says (credit_kept quantity numbered)

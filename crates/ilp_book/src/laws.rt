@@ -1,20 +1,23 @@
 //! What holds of every run of calls, and of every hold. These functions do nothing: their contracts
 //! are the laws.
 
-ghost use Rattle.std.specs.Prelude.{◌≡◌, ℕ, ◌≤◌, ◌≤ℤ◌, ◌<ℤ◌, List, length, replicate, true, Some, None};
+ghost use Rattle.std.specs.Prelude.{◌≡◌, ℕ, ◌≤◌, ◌≤ℤ◌, ◌<ℤ◌, List, length, replicate, true, Some, None, IsNone};
 ghost use Rattle.ilp_terms.specs.Condition.{meets};
 ghost use Rattle.ilp_accounts.specs.Configuration.{Configuration};
 ghost use Rattle.ilp_accounts.specs.Valid.{IsValid};
 ghost use Rattle.ilp_journal.specs.declared.entry.Hold.{Hold};
+ghost use Rattle.ilp_journal.specs.declared.entry.Ask.{Ask};
+ghost use Rattle.ilp_journal.specs.declared.entry.What.TheVariants as What;
 ghost use Rattle.ilp_journal.specs.declared.entry.Credited.{Credited};
-ghost use Rattle.ilp_journal.specs.Journal.{open_hold_at};
+ghost use Rattle.ilp_journal.specs.Journal.{open_hold_at, open_ask_at};
 ghost use Rattle.ilp_journal.specs.TrialBalance.{IsBalanced};
 ghost use Rattle.ilp_book.specs.declared.calls.PeerReply.{PeerReply};
-ghost use Rattle.ilp_book.specs.Book.{PlainBook, By, new_book, with_base, with_entry, moment_at};
+ghost use Rattle.ilp_book.specs.Book.{PlainBook, By, new_book, with_base, with_entry, pushed, entry_by, moment_at};
 ghost use Rattle.ilp_book.specs.Configured.{peer_assets};
-ghost use Rattle.ilp_book.specs.Open.{credit_at, IsEarliest};
+ghost use Rattle.ilp_book.specs.Open.{credit_at, kept_at, IsEarliest};
 ghost use Rattle.ilp_book.specs.Lawful.{IsLawful};
 ghost use Rattle.ilp_book.specs.AnswerStep.{answer_step, expire_step, IsOverBy};
+ghost use Rattle.ilp_book.specs.SettleStep.{EngineVerdict, kept, close_step, IsClosedBy, IsKeptBy};
 ghost use Rattle.ilp_book.specs.Run.{Step, AreAllowed, book_after};
 ghost use Rattle.ilp_book.specs.Rows.{PaidRow, LateRow, ReleasedRow, ExpiredRow, LeastRow, TermsRow, TotalRow, FullRow, OlderRow, CreditedRow, SettledRow};
 
@@ -71,6 +74,23 @@ pub fn first_answer_stands()
     ensures expired { (book : PlainBook) (caller : By) (n : ℕ)
         → (expire_step book caller).reply ≡ Some n
         → IsOverBy (with_entry book (expire_step book caller).entry) n (length book.entries) }
+{}
+
+/// The first closing of an open settlement stands: whatever comes after, each later one is told of
+/// that entry and appends nothing. So does the credit under a key: it is kept when it is booked, and
+/// whatever comes after, it answers each settlement of its peer under that key, which appends
+/// nothing.
+pub fn settlements_stand()
+    ensures closed { (book : PlainBook) (caller : By) (n : ℕ) (a : Ask) (verdict : EngineVerdict)
+        → open_ask_at book.entries n ≡ Some a
+        → IsClosedBy (with_entry book (close_step book caller n verdict).entry) n
+        (length book.entries) }
+    ensures credited { (book : PlainBook) (caller : By) (c : Credited)
+        → IsNone (kept_at book.entries c.peer c.key)
+        → kept (pushed book (entry_by book caller (What.Credited c))).entries c.peer c.key
+        ≡ Some (length book.entries, c) }
+    ensures kept { (book : PlainBook) (peer : ℕ) (key : List ℕ) (credit : ℕ × Credited)
+        → kept book.entries peer key ≡ Some credit → IsKeptBy book peer key credit }
 {}
 
 /// Worked runs of calls, and what they are answered. Where a preimage is looked at, they hold for
