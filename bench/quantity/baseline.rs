@@ -509,7 +509,7 @@ fn print_quantities(out: &mut Vec<u8>, turns: u32) -> u64 {
     for turn in 0..turns {
         state = next(state);
         out.clear();
-        print(state >> (state % 61), (state >> 52) as u8, out);
+        print(state >> (state % 61), (state >> 56) as u8, out);
         let front = out.len().min(turn as usize % ROOM);
         sum = sum.wrapping_add(u64::from(out[..front].last().copied().unwrap_or(0)));
     }
