@@ -19,7 +19,7 @@ pub enum AssetFault {
     DoublePrice,
     /// The scales of a price's assets differ by more than 9.
     ScaleGap,
-    /// Memory was refused.
+    /// Memory was denied.
     Memory,
 }
 

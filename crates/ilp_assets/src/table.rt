@@ -53,7 +53,7 @@ impl<A: Allocator + Copy> AssetTable<A> {
     ///
     /// The first fault is answered: `DoubleAsset` over the assets, and then for each price in order
     /// `NoSuchAsset`, `ZeroPrice`, `DoublePrice`, `ScaleGap`. `Memory` may come in place of any
-    /// answer, where memory was refused.
+    /// answer, where memory was denied.
     #[tactic(auto, unfolding(crate::specs::Faults::fault_of))]
     pub fn new(
         alloc: A,

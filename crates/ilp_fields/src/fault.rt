@@ -138,7 +138,7 @@ pub enum ConfigFault {
     /// `least <= settle_to < threshold`.
     #[error("the levels of a peer are out of order")]
     BadLevels,
-    /// Memory was refused.
+    /// Memory was denied.
     #[error("memory is short")]
     Memory,
 }

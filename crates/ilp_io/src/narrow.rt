@@ -72,7 +72,7 @@ impl<A: Allocator> Sink for Narrow<A> {
         ensures piece { self.new.piece ≡ self.old.piece }
         ensures when_full { self.new.when_full ≡ self.old.when_full }
 
-        // Where there is room, it fails only where memory for the piece is refused.
+        // Where there is room, it fails only where memory for the piece is denied.
         ensures enough { 0 < self.old.room → vec_len self.old.recording.octets + length octets.now
             ≤ vec_capacity self.old.recording.octets → IsOk result }
         ensures full { self.old.room ≡ 0

@@ -40,7 +40,7 @@ const PIECE: usize = 4096;
 /// the first `limit + 1` is read.
 ///
 /// Refusals: `Failed` where a read failed, an interrupted one too; `TooLong` where more than
-/// `limit` octets came; `Memory` where the list that is answered was refused its growth. The octets
+/// `limit` octets came; `Memory` where the list that is answered was denied its growth. The octets
 /// that were read by then are lost.
 pub fn read_to_limit<S: Source, A: Allocator>(
     alloc: A,

@@ -8,7 +8,7 @@ use crate::sink::Sink;
 use std::alloc::{Allocator, Global};
 use std::io;
 
-/// Takes all that is put, and keeps it. A write fails only where memory for it is refused.
+/// Takes all that is put, and keeps it. A write fails only where memory for it is denied.
 ///
 /// The count stops at `u64::MAX`, which stands for so many or more: from there on the number of
 /// failures is not known.

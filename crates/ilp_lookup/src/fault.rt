@@ -11,7 +11,7 @@ use std::fmt;
 pub enum LookupFault {
     /// The text, or a route of that prefix, is there already.
     Double,
-    /// Memory was refused.
+    /// Memory was denied.
     Memory,
 }
 

@@ -7,7 +7,7 @@ use std::fmt;
 pub enum OerFault {
     /// Octets are missing: of the prefix or of the content.
     Truncated,
-    /// The prefix is not the shortest that tells the length.
+    /// The prefix is not the shortest that tells the length, or is `80`.
     BadPrefix,
     /// The prefix is for a length of more than two octets.
     TooLong,

@@ -9,6 +9,4 @@ mod strings;
 pub use fault::OerFault;
 pub use laws::{faulty_exactly_where_unspelled, one_spelling};
 pub use octets::Octets;
-pub use strings::{
-    MAX_CONTENT, octets_len, put_octets, put_prefix, read_octets, write_octets, write_prefix,
-};
+pub use strings::{MAX_CONTENT, octets_len, put_octets, put_prefix, read_octets, write_octets};

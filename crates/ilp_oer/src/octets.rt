@@ -63,7 +63,7 @@ impl<A: Allocator> Octets<A> {
 
     /// Makes room for `additional` more octets, if there is less.
     ///
-    /// It is refused only where room is missing and memory for it is refused. Then all is as
+    /// It is refused only where room is missing and memory for it is denied. Then all is as
     /// before.
     pub fn reserve(&mut self, additional: usize) -> Result<(), AllocError>
         ensures octets { self.new.octets ≡ self.old.octets }
@@ -97,7 +97,7 @@ impl<A: Allocator> Octets<A> {
 
     /// Appends the octets.
     ///
-    /// It is refused only where room is missing and memory for it is refused. Then all is as
+    /// It is refused only where room is missing and memory for it is denied. Then all is as
     /// before.
     pub fn append(&mut self, octets: &[u8]) -> Result<(), AllocError>
         ensures ok { OnOk result (self.new.octets ≡ self.old.octets ++ octets.now) }
@@ -114,7 +114,7 @@ impl<A: Allocator> Octets<A> {
         Ok(())
     }
 
-    /// Appends the octets, for which there is room.
+    /// Appends the octets into room that is there: it takes no memory and can't fail.
     pub fn append_reserved(&mut self, octets: &[u8])
         requires { length octets.now ≤ self.old.spare }
         ensures octets { self.new.octets ≡ self.old.octets ++ octets.now }

@@ -7,7 +7,8 @@ use crate::fault::OerFault;
 use crate::octets::Octets;
 use std::alloc::{AllocError, Allocator};
 
-/// The most octets of a content. A longer one has no spelling here.
+/// The most octets of a content, which is a limit of this project: RFC 0030 has none. A longer
+/// content has no spelling here.
 pub const MAX_CONTENT: usize = 65_535;
 
 /// Reads the octet string at the front of the input: its content, and the rest of the input.
@@ -60,7 +61,7 @@ fn read_len(input: &[u8]) -> Result<(usize, &[u8]), OerFault>
 
 /// Appends the octet string of the content, which has at most `MAX_CONTENT` octets.
 ///
-/// It is refused only where room for it is missing and memory for that is refused. Then the list is
+/// It is refused only where room for it is missing and memory for that is denied. Then the list is
 /// as before.
 #[inline]
 pub fn write_octets<A: Allocator>(out: &mut Octets<A>, content: &[u8]) -> Result<(), AllocError>
@@ -79,8 +80,8 @@ pub fn write_octets<A: Allocator>(out: &mut Octets<A>, content: &[u8]) -> Result
     Ok(())
 }
 
-/// Appends the octet string of the content, which has at most `MAX_CONTENT` octets, and for which
-/// there is room.
+/// Appends the octet string of the content, which has at most `MAX_CONTENT` octets, into room that
+/// is there: it takes no memory and can't fail.
 #[inline]
 pub fn put_octets<A: Allocator>(out: &mut Octets<A>, content: &[u8])
     requires within { length content.now ≤ MAX_CONTENT }
@@ -93,29 +94,7 @@ pub fn put_octets<A: Allocator>(out: &mut Octets<A>, content: &[u8])
 }
 
 /// Appends the prefix of an octet string whose content, of at most `MAX_CONTENT` octets, is to
-/// follow.
-///
-/// It is refused only where room for it is missing and memory for that is refused. Then the list is
-/// as before.
-#[inline]
-pub fn write_prefix<A: Allocator>(out: &mut Octets<A>, len: usize) -> Result<(), AllocError>
-    requires { len ≤ MAX_CONTENT }
-    ensures ok { OnOk result (out.new.octets ≡ out.old.octets ++ prefix len) }
-
-    // Enough room is used up octet by octet; a refusal leaves all as it was.
-    ensures enough { length (prefix len) ≤ out.old.spare → IsOk result }
-    ensures used { length (prefix len) ≤ out.old.spare
-        → out.new.spare + length (prefix len) ≡ out.old.spare }
-    ensures refused { OnErr result (out.old.spare < length (prefix len)) }
-    ensures err { OnErr result (out.new ≡ out.old) }
-{
-    out.reserve(octets_len(len) - len)?;
-    put_prefix(out, len);
-    Ok(())
-}
-
-/// Appends the prefix of an octet string whose content, of at most `MAX_CONTENT` octets, is to
-/// follow. There is room for the prefix.
+/// follow, into room that is there: it takes no memory and can't fail.
 #[inline]
 pub fn put_prefix<A: Allocator>(out: &mut Octets<A>, len: usize)
     requires within { len ≤ MAX_CONTENT }

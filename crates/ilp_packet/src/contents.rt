@@ -1,8 +1,8 @@
 //! The contents of the three packets (RFC 0027): their fields in order, each read and checked at
 //! once.
 //!
-//! What reads a field is inlined, so that fields are passed on in registers, and so are the readers
-//! of the two small packets. A Prepare's is one piece of code.
+//! What reads an octet string of any octets is inlined, so that its content and the rest are passed
+//! on in registers, and so are the readers of the two small packets. A Prepare's is one piece of code.
 ghost use Rattle.std.specs.Prelude.{◌≡◌, Ok, Err};
 ghost use Rattle.ilp_packet.specs.Packet.{plain_prepare, plain_fulfill, plain_reject};
 ghost use Rattle.ilp_packet.specs.Reading.{Gives, prepare_in, fulfill_in, reject_in, payload_in, content_at, prepare_at, fulfill_at, reject_at};

@@ -11,7 +11,8 @@ use std::fmt;
 pub enum PacketFault {
     /// Octets are missing.
     Truncated,
-    /// The length of an octet string is not told by its shortest prefix (RFC 0030).
+    /// The length of an octet string is not told by its shortest prefix (RFC 0030), or its prefix is
+    /// `80`.
     BadPrefix,
     /// The length of an octet string is told by more than two octets.
     TooLong,

@@ -18,8 +18,11 @@ pub(crate) const REJECT: u8 = 14;
 /// A packet, whose fields are slices of the octets that it was read from.
 #[derive(Clone, Copy, Debug, PartialEq, Eq)]
 pub enum Packet<'a> {
+    /// Asks for an amount to be passed on (type octet 12).
     Prepare(Prepare<'a>),
+    /// Says that the receiver took it (type octet 13).
     Fulfill(Fulfill<'a>),
+    /// Says that it was not passed on (type octet 14).
     Reject(Reject<'a>),
 }
 

@@ -20,7 +20,7 @@ const REJECT_FIXED: usize = 3;
 /// the years 0 to 9999, its destination is an address (RFC 0015), and its data has at most 32,767
 /// octets.
 ///
-/// It is refused only where room is missing and memory for it is refused. Then the list is as
+/// It is refused only where room is missing and memory for it is denied. Then the list is as
 /// before.
 pub fn write_prepare<A: Allocator>(
     out: &mut Octets<A>,
@@ -66,7 +66,7 @@ fn put_prepare<A: Allocator>(out: &mut Octets<A>, packet: &Prepare<'_>, expiry: 
 
 /// Appends the octets of a Fulfill (RFC 0027), whose data has at most 32,767 octets.
 ///
-/// It is refused only where room is missing and memory for it is refused. Then the list is as
+/// It is refused only where room is missing and memory for it is denied. Then the list is as
 /// before.
 pub fn write_fulfill<A: Allocator>(
     out: &mut Octets<A>,
@@ -108,7 +108,7 @@ fn put_fulfill<A: Allocator>(out: &mut Octets<A>, packet: &Fulfill<'_>)
 /// Appends the octets of a Reject (RFC 0027). The address that triggered it has at most 1,023
 /// octets, its message 8,191 and its data 32,767. All of them, and the code, may be any octets.
 ///
-/// It is refused only where room is missing and memory for it is refused. Then the list is as
+/// It is refused only where room is missing and memory for it is denied. Then the list is as
 /// before.
 pub fn write_reject<A: Allocator>(
     out: &mut Octets<A>,

@@ -36,11 +36,10 @@ pub enum QuantityFault {
 impl Quantity {
     ghost use Rattle.ilp_settlement.specs.Quantity.{most_digits, quantity_in};
 
-    /// Reads a quantity from the octets of a JSON object (RFC 0038, "Units and
-    /// Quantities"). Members other than `amount` and `scale` are ignored, and of members of one name
-    /// the last counts. A number
-    /// counts where it is written as a whole one, so `5.0` and `1e3` are refused; a text may begin
-    /// with zeros.
+    /// Reads a quantity from the octets of a JSON object (RFC 0038, "Units and Quantities"). Members
+    /// other than `amount` and `scale` are ignored, and of members of one name the last counts. A
+    /// number counts where it is written as a whole one, so `5.0` and `1e3` are refused; a text may
+    /// begin with zeros.
     ///
     /// The first fault is answered, in the order of `QuantityFault`. `Memory` may come in place of
     /// any answer, where a growth of memory was denied.

@@ -1,4 +1,4 @@
--- The calendar of this crate gives jiff's day numbers, from the year 0 on.
+-- The calendar of this crate gives jiff_core's day numbers, from the year 0 on.
 use Rattle.std.proofs.Common.{◌≡◌, ℕ, zero, suc, ◌+◌, ◌-◌, ◌≤◌, ◌<◌, to_z, of_z, ◌^◌, refl, sym, ap, subst, ◌∙◌, arith, ℤ, pos, negsuc, neg_ℤ, ◌≤ℤ◌}
 use Rattle.std.proofs.lemmas.Int.{by_lt_z, to_z_pos}
 use Rattle.jiff_core.specs.Calendar.{IsCivilDate, days_from_civil, day_count, days_of_years, days_of_months as jiff_days_of_months, days_in_month as jiff_days_in_month}
@@ -12,7 +12,7 @@ use Rattle.jiff_core.proofs.CalendarLemmas.{days_from_civil-day_count, day_count
 use Rattle.jiff_core.proofs.DateLemmas.{civil, epoch_day_injective, epoch_day_range}
 use Rattle.ilp_terms.specs.Calendar.{IsDate, IsDayNumber, days_in_month, days_before_year, days_of_months, days_before, day_number}
 
--- jiff counts years from -10000, a multiple of 400
+-- jiff_core counts years from -10000, a multiple of 400
 pub days_of_years-shift : (y : ℕ) → days_of_years (y + 10000) ≡ days_of_years 10000 + days_before_year y
 unfolding days_before_year
 days_of_years-shift zero = omega arith
@@ -36,13 +36,13 @@ unfolding days_from_civil day_number
 same_day_number y m d first =
     omega (arith, signed_arith, day_count-days_before y m d first, day_count-days_before 1970 1 1 (omega arith))
 
--- a date of jiff's from the first day of the year 0 on has no negative year
+-- a date of jiff_core's from the first day of the year 0 on has no negative year
 pub year_from_zero : (d : Date) → neg_ℤ (pos 719_528) ≤ℤ epoch_day d → pos 0 ≤ℤ d.year
 year_from_zero d h = by_lt_z d.year (pos 0)
     (λ lt. absurd (omega (arith, signed_arith, days_from_civil-day_count, day_count-lt_year d.year d.month d.day (pos 0) 1 1 (civil d) (omega arith) lt, day_count-early (pos 0) 9999 1 1 refl (omega arith) (omega arith) (omega arith))))
     (λ le. le)
 
--- a date of the calendar is one of jiff's
+-- a date of the calendar is one of jiff_core's
 pub civil_date : (y m d : ℕ) → IsDate y m d → IsCivilDate (pos y) m d
 civil_date y m d h = ((omega (arith, signed_arith), omega (arith, signed_arith, h.year_in)), h.month_in, h.day_in)
 
@@ -54,7 +54,7 @@ pub day_number_least : (y m d : ℕ) → neg_ℤ (pos 719_528) ≤ℤ day_number
 unfolding day_number
 day_number_least y m d = rw days_before_epoch (omega (arith, signed_arith))
 
--- what a date of jiff's from the year 0 on is here
+-- what a date of jiff_core's from the year 0 on is here
 pub date_parts : (date : Date) (y m d : ℕ) → date.year ≡ pos y → date.month ≡ m → date.day ≡ d → IsDate y m d × (epoch_day date ≡ day_number y m d) × IsDayNumber (epoch_day date)
 date_parts date y m d year month day =
     let in_month : IsInRange 1 (jiff_days_in_month (pos y) m) d =
@@ -72,7 +72,7 @@ pub natural_from : (z : ℤ) → pos 0 ≤ℤ z → (n : ℕ) × (z ≡ pos n)
 natural_from (pos n) h = (n, refl)
 natural_from (negsuc n) h = absurd (omega (arith, signed_arith))
 
--- a date of jiff's with a day number of these years
+-- a date of jiff_core's with a day number of these years
 pub date_with : (date : Date) (n : ℤ) → IsDayNumber n → epoch_day date ≡ n → (y : ℕ) × (date.year ≡ pos y) × (y ≤ 9999) × (day_number y date.month date.day ≡ n) × IsDate y date.month date.day
 date_with date n h e =
     let low = natural_from date.year (year_from_zero date (rw e h.0)) in
@@ -83,7 +83,7 @@ date_with date n h e =
 pub back_at : (w : Width) (z : ℤ) (n : ℕ) → z ≡ pos n → n < 2 ^ hbits w → to_z w (of_z w z) ≡ pos n
 back_at w z n e h = rw e (to_z_pos w n h)
 
--- the day number that jiff gives to a date, and the length of a month, at a year that was cast
+-- the day number that jiff_core gives to a date, and the length of a month, at a year that was cast
 pub counted_from : (number : ℤ) (y m d : ℕ) → y ≤ 9999 → 1 ≤ d → number ≡ days_from_civil (to_z w16 y) m d → number ≡ day_number y m d
 counted_from number y m d year_in first e =
     e ∙ ap (λ (a : ℤ). days_from_civil a m d) (to_z_pos w16 y (omega arith)) ∙ same_day_number y m d first

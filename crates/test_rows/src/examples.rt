@@ -11,9 +11,10 @@ use std::{fs, io};
 const CONFIGURATIONS: [&str; 3] = ["two_peers.toml", "three_assets.toml", "settlement.toml"];
 
 // Scripts, with the configuration that each runs over.
-const SCRIPTS: [(&str, &str); 2] = [
+const SCRIPTS: [(&str, &str); 3] = [
     ("two_peers.script", "two_peers.toml"),
     ("three_assets.script", "three_assets.toml"),
+    ("settlement.script", "settlement.toml"),
 ];
 
 /// Prints a line of each configuration, and then what each script prints.

@@ -7,7 +7,7 @@ use std::rt::Runtime;
 use std::{fs, io};
 
 // The names of the configurations, each of which has a file of scripts beside it.
-const CONFIGURATIONS: [&str; 7] = [
+const CONFIGURATIONS: [&str; 10] = [
     "two_peers",
     "dear_peer",
     "short_journal",
@@ -15,6 +15,9 @@ const CONFIGURATIONS: [&str; 7] = [
     "deep_credit_short_journal",
     "small_packets",
     "three_assets",
+    "settlements",
+    "settlements_short_journal",
+    "settlements_scales",
 ];
 
 /// Prints what each script prints, under its name.

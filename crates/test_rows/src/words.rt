@@ -28,7 +28,7 @@ const LAST_MOMENT: i64 = 253_402_300_799_999;
 /// `{prepare AMOUNT ADDRESS}` and `{prepare AMOUNT ADDRESS until MILLISECONDS}` are Prepares without
 /// data, whose condition is the digest of 32 zero octets. `{fulfill zeros}` and `{fulfill ones}`
 /// are Fulfills of 32 octets `00` and `01`, and `{reject CODE}` is a Reject of which all else is
-/// empty. `{}` stands for itself, and no other words are understood.
+/// empty. A brace before other words stands for itself.
 pub(crate) fn in_hexadecimal(alloc: Global, text: &str) -> Result<String, RowFault> {
     let mut written = String::new(alloc);
     for (place, part) in text.split("{").enumerate() {
@@ -43,6 +43,11 @@ pub(crate) fn in_hexadecimal(alloc: Global, text: &str) -> Result<String, RowFau
 
 // Adds what stands behind a brace: the packet of the words up to the closing one, and what follows.
 fn push_part(alloc: Global, written: &mut String, part: &str) -> Result<(), RowFault> {
+    if !is_packet(part) {
+        written.push_str("{")?;
+        written.push_str(part)?;
+        return Ok(());
+    }
     let Some((words, after)) = part.split_once('}') else {
         return Err(RowFault::NotUnderstood);
     };
@@ -51,11 +56,12 @@ fn push_part(alloc: Global, written: &mut String, part: &str) -> Result<(), RowF
     Ok(())
 }
 
+// Whether what stands behind a brace begins with the words of a packet.
+fn is_packet(part: &str) -> bool {
+    part.starts_with("prepare ") || part.starts_with("fulfill ") || part.starts_with("reject ")
+}
+
 fn push_packet(alloc: Global, written: &mut String, words: &str) -> Result<(), RowFault> {
-    if words.is_empty() {
-        written.push_str("{}")?;
-        return Ok(());
-    }
     let mut octets = Octets::new(alloc);
     match words.split_once(' ') {
         Some(("prepare", words)) => put_prepare(&mut octets, words)?,

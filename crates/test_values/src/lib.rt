@@ -1,5 +1,5 @@
-//! Values from outside for the calls of the lower crates: a standard's vectors, what a Python script
-//! worked out, and what was worked out by hand.
+//! Values from outside for the calls of the lower crates and of `test_allocator`: a standard's vectors,
+//! what a Python script worked out, and what was worked out by hand.
 #![tactic(auto)]
 
 #[cfg(test)]
