@@ -44,6 +44,9 @@ pub(crate) fn run_line<A: Allocator + Copy>(
             packet: None,
         } => Ok(answer(book, now, number, PeerReply::NoReply)),
         Form::Expire { now } => Ok(expire(book, now)),
+        Form::Credit { .. } => Ok(LineReply::BadLine),
+        Form::Ask { .. } => Ok(LineReply::BadLine),
+        Form::Close { .. } => Ok(LineReply::BadLine),
         Form::Report => Ok(LineReply::Report),
         Form::Silent => Ok(LineReply::Silent),
         Form::Bad => Ok(LineReply::BadLine),
@@ -115,10 +118,7 @@ fn answer<A: Allocator>(book: &mut Book<A>, now: i64, number: u32, reply: PeerRe
             hold: number,
             outcome,
         },
-        Err(NotOpen { closer }) => LineReply::NotOpen {
-            hold: number,
-            closer,
-        },
+        Err(NotOpen { closer }) => LineReply::NotOpen { number, closer },
     }
 }
 
