@@ -3,7 +3,7 @@ use Rattle.std.proofs.Common.{◌≡◌, ℕ, ◌+◌, ◌≤◌, ℤ, pos, ◌+
 use Rattle.std.specs.Prelude.{Result, Ok, Err, ◌≤ℤ◌, ◌<ℤ◌, int_le, int_lt, nat_lt, nat_le, ◌==◌}
 use Rattle.std.specs.Int.{int_min}
 use Rattle.std.proofs.lemmas.Int.{ints, clamps}
-use Rattle.std.proofs.lemmas.Bool.{eqb-true, eqb-false, ltb-false, leb-true, and_parts}
+use Rattle.std.proofs.lemmas.Bool.{eqb-false, ltb-false, leb-true, and_parts}
 use Rattle.ilp_order.specs.Refusals.{◌>>=◌}
 use Rattle.ilp_lookup.specs.Route.{IsRoute}
 use Rattle.ilp_assets.specs.declared.quote.Quote.{Quote}
@@ -11,10 +11,9 @@ use Rattle.ilp_assets.specs.declared.quote.QuoteFault.{QuoteFault}
 use Rattle.ilp_assets.specs.Quote.{most}
 use Rattle.ilp_accounts.specs.Configuration.{Configuration, peer_at}
 use Rattle.ilp_accounts.specs.Valid.{IsValid}
-use Rattle.ilp_journal.specs.declared.entry.Entry.{Entry}
 use Rattle.ilp_journal.specs.declared.entry.What.TheVariants as what
 use Rattle.ilp_journal.specs.declared.entry.Hold.{Hold}
-use Rattle.ilp_journal.specs.Journal.{Entries, open_count}
+use Rattle.ilp_journal.specs.Journal.{open_count}
 use Rattle.ilp_journal.specs.Balance.{balance}
 use Rattle.ilp_journal.specs.TrialBalance.{total_in, total_out, has_asset}
 use Rattle.ilp_packet.specs.Packet.{PlainPrepare}
@@ -24,7 +23,7 @@ use Rattle.ilp_book.specs.declared.calls.Held.{Held}
 use Rattle.ilp_book.specs.declared.fault.HoldFault.{HoldFault}
 use Rattle.ilp_book.specs.declared.fault.HoldFault.TheVariants as hold_fault
 use Rattle.ilp_book.specs.Configured.{IsKnown, peer_assets, asset_of, quote_between}
-use Rattle.ilp_book.specs.Lawful.{IsLawful, IsWithinLimits, HasTerms, IsInTime}
+use Rattle.ilp_book.specs.Lawful.{IsLawful, IsWithinLimits, HasTerms}
 use Rattle.ilp_book.specs.Book.{PlainBook, By, Growth, granted, denied, moment_at, entry_by, has_room, with_entry, Does}
 use Rattle.ilp_book.specs.HoldStep.{Incoming, given_route, incoming, with_quote_fault, latest_answer, has_total, hold_terms, hold_fitted, hold_checked, hold_booked, hold_step}
 use Rattle.ilp_book.proofs.Known.{route_known, asset_is, covered}

@@ -1,5 +1,5 @@
 -- No two credits have one peer and one key.
-use Rattle.std.proofs.Common.{◌≡◌, ℕ, zero, suc, ◌+◌, Bool, true, false, cond, List, [], ◌∷◌, ◌++◌, length, Option, Some, None, refl, sym, ap, ◌∙◌, subst, arith, zero-add, add-zero}
+use Rattle.std.proofs.Common.{◌≡◌, ℕ, zero, suc, ◌+◌, Bool, true, false, cond, List, [], ◌∷◌, ◌++◌, length, Option, Some, None, refl, sym, ap, ◌∙◌, subst}
 use Rattle.std.specs.Prelude.{slice_get, option_and_then, option_map, unwrap_or, ◌==◌, ◌&&◌, IsNone}
 use Rattle.std.specs.Str.{bytes_eq}
 use Rattle.std.proofs.lemmas.Bool.{eqb-true, eq-eqb}
@@ -15,7 +15,7 @@ use Rattle.ilp_journal.proofs.Sums.{by_push, Each-parts}
 use Rattle.ilp_journal.proofs.Naming.{stands_at-push}
 use Rattle.ilp_book.specs.Book.{PlainBook}
 use Rattle.ilp_book.specs.Open.{as_credit, credit_at, has_key, kept_at}
-use Rattle.ilp_book.specs.Lawful.{IsLawful, IsFreshCredit, IsCredit, IsGoodCredit}
+use Rattle.ilp_book.specs.Lawful.{IsLawful, IsCredit, IsGoodCredit}
 use Rattle.ilp_order.proofs.RefusalLemmas.{some_same}
 
 -- where no place passes no element does

@@ -3,6 +3,7 @@ pub mod LawfulGrowth
 pub mod InTime
 pub mod HoldSteps
 pub mod AnswerSteps
+pub mod OpenAsks
 pub mod SettleSteps
 pub mod Runs
 pub mod FirstAnswer

@@ -1,11 +1,11 @@
 -- A credit, an ask or a closing that a step appends to a lawful journal is admitted by its rules.
-use Rattle.std.proofs.Common.{◌≡◌, ℕ, suc, ◌+◌, ◌≤◌, ◌<◌, ℤ, pos, negsuc, ◌+ℤ◌, ◌-ℤ◌, Bool, true, false, cond, not, ◌&&◌, List, [], ◌∷◌, length, Option, Some, None, refl, sym, ap, ◌∙◌, subst, arith}
-use Rattle.std.specs.Prelude.{Result, Ok, Err, ◌≤ℤ◌, ◌<ℤ◌, int_le, nat_lt, ◌==◌, slice_get, unwrap_or, option_map, option_and_then, IsSome, IsNone, IfSome, IsSomeAnd, nat_abs}
+use Rattle.std.proofs.Common.{◌≡◌, ℕ, ◌+◌, ◌≤◌, ℤ, pos, negsuc, ◌+ℤ◌, ◌-ℤ◌, true, false, not, ◌&&◌, List, length, Option, Some, None, refl, sym, ap, ◌∙◌, subst, arith}
+use Rattle.std.specs.Prelude.{Result, Ok, Err, ◌≤ℤ◌, ◌<ℤ◌, int_le, nat_lt, ◌==◌, unwrap_or, option_map, option_and_then, IsSome, IsNone, IfSome, IsSomeAnd, nat_abs}
 use Rattle.std.specs.Int.{int_min}
 use Rattle.std.specs.Str.{bytes_eq}
 use Rattle.std.proofs.lemmas.Int.{ints, clamps}
-use Rattle.std.proofs.lemmas.Bool.{leb-true, ltb-true}
-use Rattle.ilp_order.specs.Refusals.{◌>>=◌}
+use Rattle.std.proofs.lemmas.Bool.{leb-true}
+use Rattle.ilp_order.specs.Refusals.{◌>>=◌, refuse_some, found_or}
 use Rattle.ilp_assets.specs.Quote.{most}
 use Rattle.ilp_accounts.specs.declared.peer.Levels.{Levels}
 use Rattle.ilp_accounts.specs.Configuration.{Configuration, PlainPeer, peer_at}
@@ -15,57 +15,58 @@ use Rattle.ilp_journal.specs.declared.entry.What.{What}
 use Rattle.ilp_journal.specs.declared.entry.What.TheVariants as what
 use Rattle.ilp_journal.specs.declared.entry.Ask.{Ask}
 use Rattle.ilp_journal.specs.declared.entry.Credited.{Credited}
-use Rattle.ilp_journal.specs.Places.{sum_from, first_from}
 use Rattle.ilp_journal.specs.Keys.{IsKey}
-use Rattle.ilp_journal.specs.Journal.{Entries, ask_at, as_ask, closing_of, is_unclosed, open_count, open_asks, open_ask_at, paid_to}
+use Rattle.ilp_journal.specs.Journal.{Entries, ask_at, closing_of, is_unclosed, open_count, open_ask_at}
 use Rattle.ilp_journal.specs.Balance.{balance}
+use Rattle.ilp_book.specs.declared.calls.Asked.{Asked}
 use Rattle.ilp_book.specs.declared.calls.Kept.{Kept}
 use Rattle.ilp_book.specs.declared.fault.CreditFault.{CreditFault}
 use Rattle.ilp_book.specs.declared.fault.CreditFault.TheVariants as credit_fault
 use Rattle.ilp_book.specs.declared.fault.AskFault.{AskFault}
 use Rattle.ilp_book.specs.declared.fault.AskFault.TheVariants as ask_fault
-use Rattle.ilp_book.specs.Configured.{IsKnown, scale_at}
-use Rattle.ilp_book.specs.Book.{PlainBook, By, Growth, granted, denied, entry_by, has_room, with_entry}
-use Rattle.ilp_book.specs.Open.{as_credit, credit_at, has_key, is_ask_of, kept_at, first_open_ask}
-use Rattle.ilp_book.specs.Lawful.{IsLawful, IsWithinLimits, most_open_asks, owed_above}
-use Rattle.ilp_book.specs.SettleStep.{Payment, EngineVerdict, accepted, rejected, amount_of, kept, credit_fresh, credit_checked, credit_booked, credit_step, still_open, due_amount, ask_checked, ask_booked, ask_step, close_booked, close_step}
+use Rattle.ilp_book.specs.Configured.{IsKnown}
+use Rattle.ilp_book.specs.Book.{PlainBook, By, Does, Growth, granted, denied, entry_by, has_room, moment_at, pushed, with_entry}
+use Rattle.ilp_book.specs.Open.{as_credit, credit_at, has_key, kept_at}
+use Rattle.ilp_book.specs.Lawful.{IsLawful, IsWithinLimits, IsFreshCredit, IsDueAsk, owed_above}
+use Rattle.ilp_book.specs.SettleStep.{Payment, EngineVerdict, accepted, rejected, closing_of_verdict, amount_of, credit_of, kept, credit_fresh, credit_checked, credit_booked, credit_step, still_open, due_amount, ask_fitted, ask_checked, ask_booked, ask_step, close_booked, close_step}
 use Rattle.ilp_book.proofs.Known.{peer_valid, covered}
 use Rattle.ilp_book.proofs.LawfulGrowth.{Admits, lawful_push, limits_now}
 use Rattle.ilp_order.proofs.RefusalLemmas.{refused_not, none_refused, found, ok_same, some_same, not_true, chosen, is_none_at, is_some_at}
 use Rattle.ilp_book.proofs.InTime.{in_time, calm}
-
--- the first place that passes has an element that does
-first_found : {X : Type 0} (test : ℕ → X → Bool) (k n : ℕ) (xs : List X) → first_from test k xs ≡ Some n → (i : ℕ) × (x : X) × (n ≡ k + i) × (slice_get xs i ≡ Some x) × (test n x ≡ true)
-first_found test k n [] e = absurd cc
-first_found {X} test k n (y ∷ ys) e = of_test (test k y) refl (λ e. let r = first_found test (k + 1) n ys e in (suc r.0, r.1, r.2 ∙ omega arith, r.3, r.4)) e
-  where
-    of_test : (b : Bool) → test k y ≡ b → (first_from test (k + 1) ys ≡ Some n → (i : ℕ) × (x : X) × (n ≡ k + i) × (slice_get (y ∷ ys) i ≡ Some x) × (test n x ≡ true))
-        → cond b (Some k) (first_from test (k + 1) ys) ≡ Some n → (i : ℕ) × (x : X) × (n ≡ k + i) × (slice_get (y ∷ ys) i ≡ Some x) × (test n x ≡ true)
-    of_test true t rest e = let same : k ≡ n = some_same k n e in (0, y, omega arith, refl, subst (λ m. test m y ≡ true) same t)
-    of_test false t rest e = rest e
+use Rattle.ilp_book.proofs.OpenAsks.{first_found, few_open}
 
 -- ---- closings
 
+-- the entry of a closing keeps the book lawful
+pub close_keeps : (book : PlainBook) (caller : By) (n : ℕ) (verdict : EngineVerdict) (a : Ask) → IsLawful book → open_ask_at book.entries n ≡ Some a
+    → IsLawful (pushed book (entry_by book caller (closing_of_verdict n verdict)))
+close_keeps book caller n verdict a lawful is = of verdict
+  where
+    closes : IsSome (ask_at book.entries n) × IsNone (closing_of book.entries n)
+    closes =
+        let open_ask : (is_unclosed book.entries n ≡ true) × (ask_at book.entries n ≡ Some a) = chosen (is_unclosed book.entries n) (ask_at book.entries n) a is in
+        (is_some_at (ask_at book.entries n) a open_ask.1, is_none_at (closing_of book.entries n) open_ask.0)
+
+    of : (v : EngineVerdict) → IsLawful (pushed book (entry_by book caller (closing_of_verdict n v)))
+    of accepted = let r = (limits_now book lawful).room in lawful_push book _ lawful (calm book (entry_by book caller (what.Confirmed n)) lawful tt closes tt tt tt tt
+        (in_time book caller (what.Confirmed n) lawful) (λ _. refl) (λ _. refl) (omega (arith, r)))
+    of rejected = let r = (limits_now book lawful).room in lawful_push book _ lawful (calm book (entry_by book caller (what.Undone n)) lawful tt closes tt tt tt tt
+        (in_time book caller (what.Undone n) lawful) (λ _. refl) (λ _. refl) (omega (arith, r)))
+
+-- the same, where its moment and what it says are known by equations
+pub close_keeps_at : (book : PlainBook) (caller : By) (n : ℕ) (verdict : EngineVerdict) (a : Ask) (m : ℤ) (w : What) → IsLawful book → open_ask_at book.entries n ≡ Some a
+    → m ≡ moment_at book.entries caller.now → w ≡ closing_of_verdict n verdict → IsLawful (pushed book (record { moment = m; actor = caller.actor; what = w }))
+close_keeps_at book caller n verdict a m w lawful is at_moment said =
+    let Keeps : ℤ → What → Type 0 = λ t x. IsLawful (pushed book (record { moment = t; actor = caller.actor; what = x })) in
+    subst (Keeps m) (sym said) (subst (λ t. Keeps t (closing_of_verdict n verdict)) (sym at_moment) (close_keeps book caller n verdict a lawful is))
+
 pub close_lawful : (book : PlainBook) (caller : By) (n : ℕ) (verdict : EngineVerdict) → IsLawful book → IsLawful (with_entry book (close_step book caller n verdict).entry)
 unfolding close_step
-close_lawful book caller n verdict lawful = of (open_ask_at book.entries n) verdict (λ a e. chosen (is_unclosed book.entries n) (ask_at book.entries n) a e)
+close_lawful book caller n verdict lawful = of (open_ask_at book.entries n) (λ a. close_keeps book caller n verdict a lawful)
   where
-    j : Entries
-    j = book.entries
-
-    closes : (a : Ask) → (is_unclosed j n ≡ true) × (ask_at j n ≡ Some a) → IsSome (ask_at j n) × IsNone (closing_of j n)
-    closes a h = (is_some_at (ask_at j n) a h.1, is_none_at (closing_of j n) h.0)
-
-    room : length j + open_count j ≤ book.config.settings.journal
-    room = (limits_now book lawful).room
-
-    of : (o : Option Ask) (v : EngineVerdict) → ((a : Ask) → o ≡ Some a → (is_unclosed j n ≡ true) × (ask_at j n ≡ Some a))
-        → IsLawful (with_entry book (close_booked book caller n v o).entry)
-    of None v is = lawful
-    of (Some a) accepted is = let r = room in lawful_push book _ lawful (calm book (entry_by book caller (what.Confirmed n)) lawful tt (closes a (is a refl)) tt tt tt tt
-        (in_time book caller (what.Confirmed n) lawful) (λ _. refl) (λ _. refl) (omega (arith, r)))
-    of (Some a) rejected is = let r = room in lawful_push book _ lawful (calm book (entry_by book caller (what.Undone n)) lawful tt (closes a (is a refl)) tt tt tt tt
-        (in_time book caller (what.Undone n) lawful) (λ _. refl) (λ _. refl) (omega (arith, r)))
+    of : (o : Option Ask) → ((a : Ask) → o ≡ Some a → IsLawful (pushed book (entry_by book caller (closing_of_verdict n verdict)))) → IsLawful (with_entry book (close_booked book caller n verdict o).entry)
+    of None keeps = lawful
+    of (Some a) keeps = keeps a refl
 
 -- ---- credits
 
@@ -94,37 +95,36 @@ none_kept j peer key e = of_test (kept_at j peer key) refl e
         none None s e = cc
         none (Some c) s e = absurd cc
 
--- what a credit that is booked has
-record CreditFacts (book : PlainBook) (p : Payment) (c : Credited) : Type 0 where
-  is : c ≡ record { peer = p.peer; key = p.key; named = p.quantity.amount; scale = p.quantity.scale; credited = amount_of book.config p }
-  fresh : IsNone (kept_at book.entries p.peer p.key)
-  room : not (has_room book 1) ≡ false
+-- a payment whose key is not kept is a fresh credit
+pub fresh_credit : (C : Configuration) (j : Entries) (p : Payment) → IsKnown C p.peer → IsKey p.key → kept j p.peer p.key ≡ None → IsFreshCredit C j (credit_of C p)
+fresh_credit C j p known key none = record { known = known; named = key; rounded = refl; fresh = none_kept j p.peer p.key none }
 
-credit_facts : (book : PlainBook) (p : Payment) (c : Credited) → credit_checked book p ≡ Ok c → CreditFacts book p c
+-- a fresh credit is admitted where there is room
+pub credit_admitted : (book : PlainBook) (caller : By) (c : Credited) → IsLawful book → IsFreshCredit book.config book.entries c → has_room book 1 ≡ true
+    → Admits book (entry_by book caller (what.Credited c))
+credit_admitted book caller c lawful fresh fits =
+    let room : length book.entries + open_count book.entries + 1 ≤ book.config.settings.journal = leb-true _ _ fits in
+    calm book _ lawful tt tt tt tt fresh tt (in_time book caller _ lawful) (λ _. refl) (λ _. refl) (omega (arith, room))
+
+-- what is booked of a payment is a fresh credit that has room
+credit_facts : (book : PlainBook) (p : Payment) (c : Credited) → IsKnown book.config p.peer → IsKey p.key → credit_checked book p ≡ Ok c
+    → IsFreshCredit book.config book.entries c × (has_room book 1 ≡ true)
 unfolding credit_checked
-credit_facts book p c e =
+credit_facts book p c known key e =
     let a = refused_not (nat_lt most (amount_of book.config p)) (Err credit_fault.TooLarge) (credit_fresh book p (kept book.entries p.peer p.key)) c e in
     of (kept book.entries p.peer p.key) refl a.1
   where
-    of : (o : Option (ℕ × Credited)) → kept book.entries p.peer p.key ≡ o → credit_fresh book p o ≡ Ok c → CreditFacts book p c
+    of : (o : Option (ℕ × Credited)) → kept book.entries p.peer p.key ≡ o → credit_fresh book p o ≡ Ok c → IsFreshCredit book.config book.entries c × (has_room book 1 ≡ true)
     of (Some x) is e = absurd cc
     of None is e =
         let a = refused_not (not (has_room book 1)) (Err credit_fault.Full) _ c e in
-        record { is = sym (ok_same _ c a.1); fresh = none_kept book.entries p.peer p.key is; room = a.0 }
-
-credit_admitted : (book : PlainBook) (caller : By) (p : Payment) (c : Credited) → IsLawful book → IsKnown book.config p.peer → IsKey p.key → CreditFacts book p c
-    → Admits book (entry_by book caller (what.Credited c))
-credit_admitted book caller p c lawful known key facts =
-    let room : length book.entries + open_count book.entries + 1 ≤ book.config.settings.journal = leb-true _ _ (not_true _ facts.room) in
-    subst (λ x. Admits book (entry_by book caller (what.Credited x))) (sym facts.is)
-    (calm book _ lawful tt tt tt tt (record { known = known; named = key; rounded = refl; fresh = facts.fresh }) tt
-    (in_time book caller _ lawful) (λ _. refl) (λ _. refl) (omega (arith, room)))
+        (subst (IsFreshCredit book.config book.entries) (ok_same _ c a.1) (fresh_credit book.config book.entries p known key is), not_true _ a.0)
 
 pub credit_lawful : (book : PlainBook) (caller : By) (p : Payment) (growth : Growth) → IsLawful book → IsKnown book.config p.peer → IsKey p.key
     → IsLawful (with_entry book (credit_step book caller p growth).entry)
 unfolding credit_step
 credit_lawful book caller p growth lawful known key =
-    of (credit_checked book p) growth (λ c e. credit_admitted book caller p c lawful known key (credit_facts book p c e))
+    of (credit_checked book p) growth (λ c e. let facts = credit_facts book p c known key e in credit_admitted book caller c lawful facts.0 facts.1)
   where
     of : (r : Result Credited (Result Kept CreditFault)) (g : Growth) → ((c : Credited) → r ≡ Ok c → Admits book (entry_by book caller (what.Credited c)))
         → IsLawful (with_entry book (credit_booked book caller g r).entry)
@@ -134,98 +134,16 @@ credit_lawful book caller p growth lawful known key =
 
 -- ---- asks
 
--- a sum of nothing but terms that pass no test
-sum_from-none : {X : Type 0} (test : ℕ → X → Bool) (f : ℕ → X → ℕ) (n : ℕ) (xs : List X) → ((k : ℕ) (x : X) → test k x ≡ false → f k x ≡ 0) → first_from test n xs ≡ None → sum_from f n xs ≡ 0
-sum_from-none test f n [] none e = refl
-sum_from-none test f n (x ∷ xs) none e =
-    let failed : (test n x ≡ false) × (first_from test (n + 1) xs ≡ None) = parts (test n x) refl e in
-    omega (arith, none n x failed.0, sum_from-none test f (n + 1) xs none failed.1)
-  where
-    parts : (b : Bool) → test n x ≡ b → cond b (Some n) (first_from test (n + 1) xs) ≡ None → (test n x ≡ false) × (first_from test (n + 1) xs ≡ None)
-    parts true t e = absurd cc
-    parts false t e = (t, e)
-
--- where no open settlement of a peer is found it has none open
-none_open : (j : Entries) (peer : ℕ) → first_open_ask j peer ≡ None → open_asks j peer ≡ 0
-unfolding open_asks
-none_open j peer e =
-    sum_from-none is_its _ 0 j (λ k d failed. uncounted (as_ask d.what) (is_unclosed j k) failed) (of (first_from is_its 0 j) refl e)
-  where
-    is_its : ℕ → Entry → Bool
-    is_its n d = is_ask_of peer d.what && is_unclosed j n
-
-    uncounted : (o : Option Ask) (b : Bool) → (unwrap_or (option_map (λ (a : Ask). a.peer == peer) o) false && b) ≡ false → cond b (unwrap_or (option_map (paid_to peer) o) 0) 0 ≡ 0
-    uncounted None true failed = refl
-    uncounted None false failed = refl
-    uncounted (Some a) false failed = refl
-    uncounted (Some a) true failed = of_peer (a.peer == peer) failed
-      where
-        of_peer : (b : Bool) → (b && true) ≡ false → ◌≡◌ {A = ℕ} (cond b 1 0) 0
-        of_peer true failed = cc
-        of_peer false failed = refl
-
-    is_ask : (w : What) (b : Bool) → (is_ask_of peer w && b) ≡ true → IsSome (as_ask w)
-    is_ask w b t = at (as_ask w) t
-      where
-        at : (o : Option Ask) → (unwrap_or (option_map (λ (a : Ask). a.peer == peer) o) false && b) ≡ true → IsSome o
-        at None t = cc
-        at (Some a) t = refl
-
-    stands : (n : ℕ) → first_from is_its 0 j ≡ Some n → IsSome (ask_at j n)
-    stands n is =
-        let f = first_found is_its 0 n j is in
-        let place : f.0 ≡ n = omega (arith, f.2) in
-        subst (λ k. IsSome (ask_at j k)) place (rw f.3 (is_ask f.1.what (is_unclosed j n) f.4))
-
-    of : (o : Option ℕ) → first_from is_its 0 j ≡ o → option_and_then {U = ℕ × Ask} (λ n. option_map (λ (a : Ask). (n, a)) (ask_at j n)) o ≡ None → first_from is_its 0 j ≡ None
-    of None is e = is
-    of (Some n) is e = absurd (none (ask_at j n) (stands n is) e)
-      where
-        none : (o : Option Ask) → IsSome o → option_map {U = ℕ × Ask} (λ (a : Ask). (n, a)) o ≡ None → ⊥
-        none None s e = cc
-        none (Some c) s e = cc
-
--- where none is told to be open fewer are open than may be
-few_open : (j : Entries) (peer : ℕ) → still_open j peer ≡ None → open_asks j peer < most_open_asks
-few_open j peer e = of_test (nat_lt (open_asks j peer) most_open_asks) refl e
-  where
-    of_test : (b : Bool) → nat_lt (open_asks j peer) most_open_asks ≡ b → cond b None (option_map (λ (x : ℕ × Ask). ask_fault.StillOpen x.0 x.1.amount) (first_open_ask j peer)) ≡ None
-        → open_asks j peer < most_open_asks
-    of_test true t e = ltb-true _ _ t
-    of_test false t e = of (first_open_ask j peer) refl e
-      where
-        of : (o : Option (ℕ × Ask)) → first_open_ask j peer ≡ o → option_map (λ (x : ℕ × Ask). ask_fault.StillOpen x.0 x.1.amount) o ≡ None → open_asks j peer < most_open_asks
-        of None is e = omega (arith, none_open j peer is)
-        of (Some x) is e = cc
-
--- what an ask that is booked has
-record AskFacts (book : PlainBook) (peer : ℕ) (a : Ask) : Type 0 where
-  peer_is : a.peer ≡ peer
-  few_open : open_asks book.entries peer < most_open_asks
-  due : due_amount (balance book.entries peer) (peer_at book.config peer).levels ≡ Some a.amount
-  room : not (has_room book 2) ≡ false
-
-ask_facts : (book : PlainBook) (peer : ℕ) (ask : Ask) → ask_checked book peer ≡ Ok ask → AskFacts book peer ask
-unfolding ask_checked
-ask_facts book peer ask e =
-    let owed = balance book.entries peer in
-    let a = none_refused (still_open book.entries peer) _ ask e in
-    let b = found (due_amount owed (peer_at book.config peer).levels) (ask_fault.NotDue owed) _ ask a.1 in
-    let c = refused_not (not (has_room book 2)) ask_fault.Full _ ask b.2 in
-    subst (AskFacts book peer) (ok_same _ ask c.1) (record { peer_is = refl; few_open = few_open book.entries peer a.0; due = b.1; room = c.0 })
-
--- what is due is asked for from the threshold on, and leaves the balance at its least or above
-due_kept : (o : Option Levels) (peer : PlainPeer) (b : ℤ) (amount : ℕ) → IfSome o (AreOrdered peer) → due_amount b o ≡ Some amount
-    → IsSomeAnd o (λ (v : Levels). (v.threshold ≤ℤ b) × (pos amount ≡ owed_above b v.settle_to)) × ((peer.least +ℤ pos amount) ≤ℤ b)
-due_kept None peer b amount v e = absurd cc
-due_kept (Some v) peer b amount h e =
+-- what is due is asked for from the threshold on
+due_from : (o : Option Levels) (peer : PlainPeer) (b : ℤ) (amount : ℕ) → IfSome o (AreOrdered peer) → due_amount b o ≡ Some amount
+    → IsSomeAnd o (λ (v : Levels). (v.threshold ≤ℤ b) × (pos amount ≡ owed_above b v.settle_to))
+due_from None peer b amount v e = absurd cc
+due_from (Some v) peer b amount h e =
     let t : (int_le v.threshold b ≡ true) × (◌≡◌ {A = Option ℕ} (Some (nat_abs (owed_above b v.settle_to))) (Some amount))
     = chosen (int_le v.threshold b) (Some (nat_abs (owed_above b v.settle_to))) amount e in
-    let same : nat_abs (owed_above b v.settle_to) ≡ amount = some_same _ amount t.1 in
     let reached : v.threshold ≤ℤ b = late v.threshold b t.0 in
     let whole : pos (nat_abs (owed_above b v.settle_to)) ≡ owed_above b v.settle_to = natural (owed_above b v.settle_to) (above b v.threshold v.settle_to reached h.settle_to) in
-    let is : pos amount ≡ owed_above b v.settle_to = ap pos (sym same) ∙ whole in
-    ((reached, is), bounded b peer.least v.settle_to amount is h.least)
+    (reached, ap pos (sym (some_same _ amount t.1)) ∙ whole)
   where
     late : (a b : ℤ) → int_le a b ≡ true → a ≤ℤ b
     late a b e = omega (arith, ints)
@@ -240,36 +158,73 @@ due_kept (Some v) peer b amount h e =
     above : (b t s : ℤ) → t ≤ℤ b → s <ℤ t → pos 0 ≤ℤ int_min (b -ℤ s) (pos most)
     above b t s h k = omega (arith, ints, clamps)
 
+-- an ask of what is due, where none is told to be open, is one that the rules know
+pub due_ask : (C : Configuration) (j : Entries) (peer amount : ℕ) → IsValid C → IsKnown C peer → still_open j peer ≡ None → due_amount (balance j peer) (peer_at C peer).levels ≡ Some amount
+    → IsDueAsk C j (record { peer = peer; amount = amount })
+due_ask C j peer amount valid known none due = record {
+  known = known;
+  few_open = few_open j peer none;
+  due = due_from (peer_at C peer).levels (peer_at C peer) (balance j peer) amount (peer_valid C peer valid known).levels due;
+}
+
+-- where none is open and something is due, the step is what the book has for that
+pub ask_due : (book new : PlainBook) (caller : By) (peer amount : ℕ) (growth : Growth) (result : Result Asked AskFault) → still_open book.entries peer ≡ None
+    → due_amount (balance book.entries peer) (peer_at book.config peer).levels ≡ Some amount
+    → Does book new result (ask_booked book caller growth (ask_fitted book (record { peer = peer; amount = amount }))) → Does book new result (ask_step book caller peer growth)
+unfolding ask_step ask_checked
+ask_due book new caller peer amount growth result none due does =
+    let owed = balance book.entries peer in
+    let Asks : Option AskFault → Option ℕ → Type 0 = λ o d. Does book new result (ask_booked book caller growth
+    (refuse_some o >>= λ _. found_or d (ask_fault.NotDue owed) >>= λ n. ask_fitted book (record { peer = peer; amount = n }))) in
+    subst (λ o. Asks o (due_amount owed (peer_at book.config peer).levels)) (sym none) (subst (Asks None) (sym due) does)
+
+-- a due ask leaves the balance at its least or above
+due_covered : (o : Option Levels) (peer : PlainPeer) (b : ℤ) (amount : ℕ) → IfSome o (AreOrdered peer) → IsSomeAnd o (λ (v : Levels). (v.threshold ≤ℤ b) × (pos amount ≡ owed_above b v.settle_to))
+    → (peer.least +ℤ pos amount) ≤ℤ b
+due_covered None peer b amount h due = absurd due
+due_covered (Some v) peer b amount h due = bounded b peer.least v.settle_to amount due.1 h.least
+  where
     bounded : (b l s : ℤ) (n : ℕ) → pos n ≡ int_min (b -ℤ s) (pos most) → l ≤ℤ s → (l +ℤ pos n) ≤ℤ b
     bounded b l s n e h = omega (arith, ints, clamps)
 
-ask_admitted : (book : PlainBook) (caller : By) (peer : ℕ) (a : Ask) → IsValid book.config → IsKnown book.config peer → IsLawful book → AskFacts book peer a
+-- a due ask is admitted where there is room
+pub ask_admitted : (book : PlainBook) (caller : By) (a : Ask) → IsValid book.config → IsLawful book → IsDueAsk book.config book.entries a → has_room book 2 ≡ true
     → Admits book (entry_by book caller (what.Asked a))
-ask_admitted book caller peer a valid known lawful facts =
+ask_admitted book caller a valid lawful due fits =
     let limits : IsWithinLimits book = limits_now book lawful in
-    let room : length book.entries + open_count book.entries + 2 ≤ book.config.settings.journal = leb-true _ _ (not_true _ facts.room) in
-    let its : a.peer ≡ peer = facts.peer_is in
-    let p = peer_at book.config peer in
-    let terms = due_kept p.levels p (balance book.entries peer) a.amount (peer_valid book.config peer valid known).levels facts.due in
+    let room : length book.entries + open_count book.entries + 2 ≤ book.config.settings.journal = leb-true _ _ fits in
+    let p = peer_at book.config a.peer in
     record {
       answers = tt;
       closings = tt;
       outcomes = tt;
       holds = tt;
       credits = tt;
-      asks = record { known = rw its known; few_open = rw its facts.few_open; due = rw its terms.0 };
+      asks = due;
       moments = in_time book caller (what.Asked a) lawful;
-      cover = λ q q_known. covered book.config book.entries a.peer a.amount q (limits.least q q_known) (rw its terms.1);
+      cover = λ q q_known. covered book.config book.entries a.peer a.amount q (limits.least q q_known)
+          (due_covered p.levels p (balance book.entries a.peer) a.amount (peer_valid book.config a.peer valid due.known).levels due.due);
       room = omega (arith, room);
       totals_in = λ x. omega (arith, limits.totals_in x);
       totals_out = λ x. omega (arith, limits.totals_out x);
     }
 
+-- what is booked of an ask is due and has room
+ask_facts : (book : PlainBook) (peer : ℕ) (ask : Ask) → IsValid book.config → IsKnown book.config peer → ask_checked book peer ≡ Ok ask
+    → IsDueAsk book.config book.entries ask × (has_room book 2 ≡ true)
+unfolding ask_checked
+ask_facts book peer ask valid known e =
+    let owed = balance book.entries peer in
+    let a = none_refused (still_open book.entries peer) _ ask e in
+    let b = found (due_amount owed (peer_at book.config peer).levels) (ask_fault.NotDue owed) _ ask a.1 in
+    let c = refused_not (not (has_room book 2)) ask_fault.Full _ ask b.2 in
+    (subst (IsDueAsk book.config book.entries) (ok_same _ ask c.1) (due_ask book.config book.entries peer b.0 valid known a.0 b.1), not_true _ c.0)
+
 pub ask_lawful : (book : PlainBook) (caller : By) (peer : ℕ) (growth : Growth) → IsValid book.config → IsKnown book.config peer → IsLawful book
     → IsLawful (with_entry book (ask_step book caller peer growth).entry)
 unfolding ask_step
 ask_lawful book caller peer growth valid known lawful =
-    of (ask_checked book peer) growth (λ a e. ask_admitted book caller peer a valid known lawful (ask_facts book peer a e))
+    of (ask_checked book peer) growth (λ a e. let facts = ask_facts book peer a valid known e in ask_admitted book caller a valid lawful facts.0 facts.1)
   where
     of : (r : Result Ask AskFault) (g : Growth) → ((a : Ask) → r ≡ Ok a → Admits book (entry_by book caller (what.Asked a)))
         → IsLawful (with_entry book (ask_booked book caller g r).entry)

@@ -1,11 +1,12 @@
 //! Settlements to peers: which are open, and what is asked for.
-ghost use Rattle.std.specs.Prelude.{◌≡◌, ◌≤ℤ◌, ◌<ℤ◌, ◌+ℤ◌, pos, slice_get, option_and_then, is_some, IfSome};
+ghost use Rattle.std.specs.Prelude.{◌≡◌, ◌≤ℤ◌, ◌<ℤ◌, pos, slice_get, option_and_then, is_some, IfSome};
 ghost use Rattle.ilp_accounts.specs.declared.peer.Levels.{Levels};
 ghost use Rattle.ilp_journal.specs.declared.entry.Entry.{Entry};
 ghost use Rattle.ilp_journal.specs.Places.{Each};
 ghost use Rattle.ilp_journal.specs.Booked.{most_sum};
 ghost use Rattle.ilp_journal.specs.Journal.{ClosesOnce, closed, closing_of, is_number, open_ask_at};
 ghost use Rattle.ilp_book.specs.Open as opens;
+ghost use Rattle.ilp_book.specs.Lawful.{owed_above};
 ghost use Rattle.ilp_book.specs.SettleStep as settles;
 
 use crate::fault::AskFault;
@@ -99,7 +100,6 @@ fn closes<A: Allocator>(journal: &Journal<A>, place: u32, number: u32) -> bool
 
 /// What is asked for, where the balance is at the peer's threshold or above it.
 pub(crate) fn due_amount(balance: i128, levels: Option<Levels>) -> Option<u64>
-    requires low { pos 0 ≤ℤ (balance +ℤ pos most_sum) }
     requires high { balance ≤ℤ pos most_sum }
     requires ordered { IfSome levels (λ (l : Levels). l.settle_to <ℤ l.threshold) }
     ensures { result ≡ settles.due_amount balance levels }
@@ -108,6 +108,28 @@ pub(crate) fn due_amount(balance: i128, levels: Option<Levels>) -> Option<u64>
     if balance < i128::from(levels.threshold) {
         return None;
     }
-    let above = balance - i128::from(levels.settle_to);
-    Some(above.min(i128::from(u64::MAX)) as u64)
+    Some(owed_above(balance, levels.settle_to))
+}
+
+// What lies above a level, as far as one packet can carry it.
+fn owed_above(balance: i128, settle_to: i64) -> u64
+    requires above { settle_to ≤ℤ balance }
+    requires high { balance ≤ℤ pos most_sum }
+    ensures { pos result ≡ owed_above balance settle_to }
+{
+    match u64::try_from(balance - i128::from(settle_to)) {
+        Ok(amount) => amount,
+        Err(_) => u64::MAX,
+    }
+}
+
+/// What is booked of an engine's verdict on a settlement: that it was made, or that it is undone.
+pub(crate) fn closing(ask: u32, accepted: bool) -> What
+    ensures { result ≡ settles.closing_of_verdict ask (settles.verdict_of accepted) }
+{
+    if accepted {
+        What::Confirmed { ask }
+    } else {
+        What::Undone { ask }
+    }
 }

@@ -1,6 +1,7 @@
 //! Settlements from peers: which credit is kept under a key, and what is answered by it.
 ghost use Rattle.std.specs.Prelude.{◌≡◌, option_map};
 ghost use Rattle.std.specs.Option.{option_copied};
+ghost use Rattle.ilp_journal.specs.Keys.{IsKey};
 ghost use Rattle.ilp_book.specs.Open as opens;
 ghost use Rattle.ilp_book.specs.SettleStep as settles;
 
@@ -17,10 +18,11 @@ pub(crate) fn kept_reply<A: Allocator>(
     key: &Key,
     quantity: &Quantity,
 ) -> Option<Result<Kept, CreditFault>>
-    ensures { result ≡ option_map (settles.credit_kept quantity.now)
+    ensures value { result ≡ option_map (settles.credit_kept quantity.now)
         (settles.kept journal.now.entries peer key.now) }
+    ensures key { IsKey key.now }
 {
-    let number = kept_at(journal, peer, key)?;
+    let number = kept_at(journal, peer, key.as_slice())?;
     let credited = credit_at(journal, number)?;
     if credited.named != quantity.amount || credited.scale != quantity.scale {
         return Some(Err(CreditFault::KeyTaken { kept: number }));
@@ -33,7 +35,7 @@ pub(crate) fn kept_reply<A: Allocator>(
 }
 
 // The number of the first credit of a peer under a key.
-fn kept_at<A: Allocator>(journal: &Journal<A>, peer: u32, key: &Key) -> Option<u32>
+fn kept_at<A: Allocator>(journal: &Journal<A>, peer: u32, key: &[u8]) -> Option<u32>
     ensures { result ≡ opens.kept_at journal.now.entries peer key.now }
 {
     for (number, entry) in journal.entries().iter().enumerate() {
@@ -45,13 +47,11 @@ fn kept_at<A: Allocator>(journal: &Journal<A>, peer: u32, key: &Key) -> Option<u
 }
 
 // Whether an entry credits the peer under the key.
-fn has_key(peer: u32, key: &Key, what: &What) -> bool
+fn has_key(peer: u32, key: &[u8], what: &What) -> bool
     ensures { result ≡ opens.has_key peer key.now what.now }
 {
     match what {
-        What::Credited(credited) => {
-            credited.peer == peer && credited.key.as_slice() == key.as_slice()
-        }
+        What::Credited(credited) => credited.peer == peer && credited.key.as_slice() == key,
         _ => false,
     }
 }

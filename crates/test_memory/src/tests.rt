@@ -1,16 +1,10 @@
 //! Each growth denied in turn, crate by crate.
 
-use ilp_accounts::Config;
-use std::alloc::Global;
-use std::test::Fail;
-
 mod assets;
-mod books;
-mod configurations;
 mod journals;
 mod lookups;
 mod octet_strings;
-mod replaying;
+mod quantities;
 mod writing_packets;
 
 // More growths than any of these calls makes.
@@ -21,40 +15,3 @@ const GROWTHS: u64 = 1_000;
 // hashlib).
 const PREPARE: &str =
     "0c430000000000000064323032353031303130303030333030303066687aadf862bd776c8fc18b8e9f8e20089714856ee233b3902a591d0d5f292508746573742e626f6200";
-
-// A Prepare of 100 to test.alice, with the same expiry and condition as `PREPARE`.
-const PREPARE_BACK: &str =
-    "0c450000000000000064323032353031303130303030333030303066687aadf862bd776c8fc18b8e9f8e20089714856ee233b3902a591d0d5f29250a746573742e616c69636500";
-
-// Two peers in one asset, each of which may owe 10,000 units.
-const LENDING: &str = r#"address = "test.hub"
-run = "r1"
-[[asset]]
-code = "USD"
-scale = 2
-[[peer]]
-name = "alice"
-asset = "USD/2"
-token = "a-token"
-out_token = "to-alice"
-host = "127.0.0.1:7001"
-least = -10000
-[[peer]]
-name = "bob"
-asset = "USD/2"
-token = "b-token"
-out_token = "to-bob"
-host = "127.0.0.1:7002"
-least = -10000
-[[route]]
-prefix = "test.alice"
-peer = "alice"
-[[route]]
-prefix = "test.bob"
-peer = "bob"
-"#;
-
-fn lending(alloc: Global) -> Result<Config, Fail> {
-    let config = Config::read(alloc, LENDING.as_bytes())?;
-    Ok(config)
-}

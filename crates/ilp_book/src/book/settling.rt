@@ -6,7 +6,7 @@ ghost use Rattle.ilp_book.specs.Configured.{IsKnown};
 ghost use Rattle.ilp_book.specs.Lawful.{IsLawful, IsFreshCredit, IsDueAsk};
 ghost use Rattle.ilp_book.specs.SettleStep.{payment, verdict_of, credit_fitted, credit_booked, credit_growth, credit_step, ask_fitted, ask_booked, ask_growth, ask_step, close_step};
 
-use crate::asks::{due_amount, open_ask_at, still_open};
+use crate::asks::{closing, due_amount, open_ask_at, still_open};
 use crate::book::Book;
 use crate::calls::{Asked, Kept};
 use crate::credits::kept_reply;
@@ -36,17 +36,19 @@ impl<A: Allocator> Book<A> {
         ensures err { OnErr result (self.new ≡ self.old) }
     {
         let amount = credited(quantity, self.config.scale(peer))?;
-        if let Some(reply) = kept_reply(&self.journal, peer, &key, quantity) {
-            return reply;
+        match kept_reply(&self.journal, peer, &key, quantity) {
+            Some(reply) => reply,
+            None => {
+                let credit = Credited {
+                    peer,
+                    key,
+                    named: quantity.amount,
+                    scale: quantity.scale,
+                    credited: amount,
+                };
+                self.book_credit(actor, now, credit)
+            }
         }
-        let credit = Credited {
-            peer,
-            key,
-            named: quantity.amount,
-            scale: quantity.scale,
-            credited: amount,
-        };
-        self.book_credit(actor, now, credit)
     }
 
     /// Asks for a settlement to a peer, where none to it is open and its balance has reached its
@@ -61,14 +63,14 @@ impl<A: Allocator> Book<A> {
         ensures lawful { IsLawful self.new }
         ensures err { OnErr result (self.new ≡ self.old) }
     {
-        if let Some(fault) = still_open(&self.journal, peer) {
-            return Err(fault);
-        }
         let balance = self.journal.balance(peer);
-        let Some(amount) = due_amount(balance, self.config.levels(peer)) else {
-            return Err(AskFault::NotDue { balance });
-        };
-        self.book_ask(actor, now, Ask { peer, amount })
+        match still_open(&self.journal, peer) {
+            Some(fault) => Err(fault),
+            None => match due_amount(balance, self.config.levels(peer)) {
+                Some(amount) => self.book_ask(actor, now, Ask { peer, amount }),
+                None => Err(AskFault::NotDue { balance }),
+            },
+        }
     }
 
     /// Books what the peer's engine said of a settlement, if it is open: where it was accepted that
@@ -93,11 +95,7 @@ impl<A: Allocator> Book<A> {
             });
         };
         let moment = self.moment_at(now);
-        let what = if accepted {
-            What::Confirmed { ask: number }
-        } else {
-            What::Undone { ask: number }
-        };
+        let what = closing(number, accepted);
         Ok(self.close(Entry {
             moment,
             actor,

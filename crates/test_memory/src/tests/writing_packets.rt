@@ -1,7 +1,6 @@
-//! Packets written and described.
+//! Packets written.
 
 use super::{GROWTHS, PREPARE};
-use ilp_connector::{Refusal, describe_packet};
 use ilp_oer::Octets;
 use ilp_packet::{Packet, write_fulfill, write_prepare, write_reject};
 use std::alloc::{AllocError, Allocator};
@@ -61,34 +60,6 @@ fn write_behind(rt: &(impl Abort + AllocGlobal), octets: &[u8]) -> Result<(), Fa
         assert_eq!(rt; out.as_slice().strip_prefix(b"held"), Some(octets));
         assert!(rt; granted > 1);
         return Ok(());
-    }
-    assert!(rt; false, "some growth was always denied");
-    Ok(())
-}
-
-#[test]
-fn each_description(rt: HostRuntime) -> Result<(), Fail> {
-    for packet in [PREPARE, FULFILL, REJECT] {
-        describe(&rt, packet)?;
-    }
-    Ok(())
-}
-
-// Describes a packet with each growth denied in turn.
-fn describe(rt: &(impl Abort + AllocGlobal), packet: &str) -> Result<(), Fail> {
-    for granted in 0..GROWTHS {
-        let heap = DenyingAllocator::after(rt.alloc(), granted);
-        let outcome = describe_packet(&heap, packet);
-        if !heap.has_denied() {
-            assert!(rt; outcome.is_ok());
-            assert!(rt; granted > 1);
-            return Ok(());
-        }
-        assert_eq!(rt;
-            outcome.err(),
-            Some(Refusal::Memory),
-            "after {granted} growths"
-        );
     }
     assert!(rt; false, "some growth was always denied");
     Ok(())

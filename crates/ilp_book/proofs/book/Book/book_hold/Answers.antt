@@ -1,4 +1,4 @@
-use Rattle.std.proofs.Common.{◌≡◌, ◌+◌, true, false, [], ◌∷◌, ◌++◌, ℤ, arith, sym, ap, ◌∙◌, subst, rules, refl, to_z, of_z}
+use Rattle.std.proofs.Common.{◌≡◌, true, false, [], ◌∷◌, ◌++◌, ℤ, arith, sym, ap, ◌∙◌, subst, rules, refl, to_z, of_z}
 use Rattle.std.specs.Prelude.{int_lt, pos, ◌-ℤ◌, FitsSigned}
 use Rattle.std.specs.Int.{w64, w128}
 use Rattle.std.proofs.lemmas.Int.{to_z-of_z}

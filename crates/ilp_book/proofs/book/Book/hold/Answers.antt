@@ -1,4 +1,4 @@
-use Rattle.std.proofs.Common.{ℕ, ℤ, sym, ap, ◌∙◌, subst, rules, to_z, of_z}
+use Rattle.std.proofs.Common.{ℤ, ap, ◌∙◌, subst, rules}
 use Rattle.std.specs.Prelude.{FitsSigned}
 use Rattle.std.specs.Int.{w64}
 use Rattle.std.proofs.lemmas.Int.{to_z-of_z}

@@ -1,4 +1,4 @@
-use Rattle.std.proofs.Common.{ℤ, pos, sym, subst, ◌∙◌, rules, to_z, of_z, to_z-of_z}
+use Rattle.std.proofs.Common.{pos, sym, subst, ◌∙◌, rules, to_z, of_z, to_z-of_z}
 use Rattle.std.specs.Prelude.{◌≤ℤ◌, FitsSigned}
 use Rattle.std.specs.Int.{w64}
 use Rattle.ilp_terms.specs.Expiry.{last_of_all}

@@ -11,7 +11,7 @@ use std::test::Fail;
 use test_allocator::DenyingAllocator;
 
 // 2025-01-01T00:00:00Z.
-const START: i64 = 1_735_689_600_000;
+pub(super) const START: i64 = 1_735_689_600_000;
 
 // The SHA-256 digest of 32 zero octets (by Python's hashlib).
 const CONDITION: [u8; 32] = [
@@ -33,7 +33,7 @@ const DEADLINE: i64 = START + 29_000;
 const HOLDS: u32 = 20;
 
 // A hold of alice; where it is denied memory it changes nothing, and succeeds when asked again.
-fn hold<A: Allocator>(rt: &impl Abort, book: &mut Book<A>) {
+pub(super) fn hold<A: Allocator>(rt: &impl Abort, book: &mut Book<A>) {
     let number = book.len();
     let owed = book.balance(0);
     assert!(rt; book.config().peers() == 2);

@@ -48,6 +48,18 @@ fn each_form(alloc: Global) -> Result<String, AllocError> {
          hold 1735689629000 alice {PREPARE}\n\
          expire 1735689629000\n\
          hold 1735689630000 alice {PREPARE}\n\
+         credit 1735689630000 bob k-1 {{\"amount\":\"1000\",\"scale\":2}}\n\
+         credit 1735689630000 bob k-1 {{\"scale\":2,\"amount\":1000}}\n\
+         credit 1735689630000 bob k-1 {{\"amount\":\"10\",\"scale\":0}}\n\
+         credit 1735689630000 bob k-2 5\n\
+         ask 1735689630000 bob\n\
+         ask 1735689630000 bob\n\
+         ask 1735689630000 alice\n\
+         close 1735689630000 11 no\n\
+         close 1735689630000 11 yes\n\
+         close 1735689630000 0 yes\n\
+         ask 1735689630000 bob\n\
+         close 1735689630000 13 yes\n\
          report"
     )
 }
@@ -71,8 +83,20 @@ const EACH_TEXT: &str = "held 0 to bob out 100\n\
     reject R02 TooShort\n\
     none due\n\
     reject R00 Expired\n\
+    entry 10 credited 1000\n\
+    kept 10 credited 1000\n\
+    refused 46 KeyTaken 10\n\
+    refused 31 NotJson\n\
+    entry 11 asked 900\n\
+    refused 48 StillOpen 11 900\n\
+    refused 47 NotDue -100\n\
+    entry 12 undone 11\n\
+    not open 11 by 12\n\
+    not open 0\n\
+    entry 13 asked 900\n\
+    entry 14 confirmed 13\n\
     balance   alice                                         -100\n\
-    balance   bob                                            100\n";
+    balance   bob                                            200\n";
 
 #[test]
 fn lines_of_each_form(rt: HostRuntime) -> Result<(), Fail> {

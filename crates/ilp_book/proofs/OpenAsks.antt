@@ -1,0 +1,135 @@
+-- Which settlements to a peer are open: their count, and the first of them.
+use Rattle.std.proofs.Common.{◌≡◌, ℕ, suc, ◌+◌, ◌≤◌, ◌<◌, Bool, true, false, cond, ◌&&◌, List, [], ◌∷◌, Option, Some, None, refl, ap, ◌∙◌, subst, arith}
+use Rattle.std.specs.Prelude.{nat_lt, ◌==◌, slice_get, unwrap_or, option_map, option_and_then, IsSome}
+use Rattle.std.proofs.lemmas.Bool.{ltb-true, le-ltb}
+use Rattle.ilp_journal.specs.declared.entry.Entry.{Entry}
+use Rattle.ilp_journal.specs.declared.entry.What.{What}
+use Rattle.ilp_journal.specs.declared.entry.Ask.{Ask}
+use Rattle.ilp_journal.specs.Places.{sum_from, first_from}
+use Rattle.ilp_journal.specs.Journal.{Entries, ask_at, as_ask, is_unclosed, open_asks, paid_to}
+use Rattle.ilp_book.specs.declared.fault.AskFault.{AskFault}
+use Rattle.ilp_book.specs.declared.fault.AskFault.TheVariants as ask_fault
+use Rattle.ilp_book.specs.Open.{is_ask_of, first_open_number, first_open_ask}
+use Rattle.ilp_book.specs.Lawful.{most_open_asks}
+use Rattle.ilp_book.specs.SettleStep.{still_open}
+use Rattle.ilp_order.proofs.RefusalLemmas.{some_same}
+
+-- the first place that passes has an element that does
+pub first_found : {X : Type 0} (test : ℕ → X → Bool) (k n : ℕ) (xs : List X) → first_from test k xs ≡ Some n → (i : ℕ) × (x : X) × (n ≡ k + i) × (slice_get xs i ≡ Some x) × (test n x ≡ true)
+first_found test k n [] e = absurd cc
+first_found {X} test k n (y ∷ ys) e = of_test (test k y) refl (λ e. let r = first_found test (k + 1) n ys e in (suc r.0, r.1, r.2 ∙ omega arith, r.3, r.4)) e
+  where
+    of_test : (b : Bool) → test k y ≡ b → (first_from test (k + 1) ys ≡ Some n → (i : ℕ) × (x : X) × (n ≡ k + i) × (slice_get (y ∷ ys) i ≡ Some x) × (test n x ≡ true))
+        → cond b (Some k) (first_from test (k + 1) ys) ≡ Some n → (i : ℕ) × (x : X) × (n ≡ k + i) × (slice_get (y ∷ ys) i ≡ Some x) × (test n x ≡ true)
+    of_test true t rest e = let same : k ≡ n = some_same k n e in (0, y, omega arith, refl, subst (λ m. test m y ≡ true) same t)
+    of_test false t rest e = rest e
+
+-- a sum of nothing but terms that pass no test
+sum_from-none : {X : Type 0} (test : ℕ → X → Bool) (f : ℕ → X → ℕ) (n : ℕ) (xs : List X) → ((k : ℕ) (x : X) → test k x ≡ false → f k x ≡ 0) → first_from test n xs ≡ None → sum_from f n xs ≡ 0
+sum_from-none test f n [] none e = refl
+sum_from-none test f n (x ∷ xs) none e =
+    let failed : (test n x ≡ false) × (first_from test (n + 1) xs ≡ None) = parts (test n x) refl e in
+    omega (arith, none n x failed.0, sum_from-none test f (n + 1) xs none failed.1)
+  where
+    parts : (b : Bool) → test n x ≡ b → cond b (Some n) (first_from test (n + 1) xs) ≡ None → (test n x ≡ false) × (first_from test (n + 1) xs ≡ None)
+    parts true t e = absurd cc
+    parts false t e = (t, e)
+
+-- a sum with a term that passes a test
+sum_from-some : {X : Type 0} (test : ℕ → X → Bool) (f : ℕ → X → ℕ) (n k : ℕ) (xs : List X) → ((i : ℕ) (x : X) → test i x ≡ true → 1 ≤ f i x) → first_from test n xs ≡ Some k → 1 ≤ sum_from f n xs
+sum_from-some test f n k [] counted e = absurd cc
+sum_from-some test f n k (x ∷ xs) counted e = of_test (test n x) refl (λ later. sum_from-some test f (n + 1) k xs counted later) e
+  where
+    of_test : (b : Bool) → test n x ≡ b → (first_from test (n + 1) xs ≡ Some k → 1 ≤ sum_from f (n + 1) xs) → cond b (Some n) (first_from test (n + 1) xs) ≡ Some k → 1 ≤ f n x + sum_from f (n + 1) xs
+    of_test true t rest e = omega (arith, counted n x t)
+    of_test false t rest e = omega (arith, rest e)
+
+-- where an open settlement of a peer is found it has one open
+some_open : (j : Entries) (peer n : ℕ) → first_open_number j peer ≡ Some n → 1 ≤ open_asks j peer
+unfolding open_asks
+some_open j peer n e = sum_from-some (λ k (d : Entry). is_ask_of peer d.what && is_unclosed j k) _ 0 n j (λ k d passed. counted (as_ask d.what) (is_unclosed j k) passed) e
+  where
+    counted : (o : Option Ask) (b : Bool) → (unwrap_or (option_map (λ (a : Ask). a.peer == peer) o) false && b) ≡ true → 1 ≤ cond b (unwrap_or (option_map (paid_to peer) o) 0) 0
+    counted None b passed = cc
+    counted (Some a) false passed = of_peer (a.peer == peer) passed
+      where
+        of_peer : (b : Bool) → (b && false) ≡ true → 1 ≤ 0
+        of_peer true passed = cc
+        of_peer false passed = cc
+    counted (Some a) true passed = of_peer (a.peer == peer) passed
+      where
+        of_peer : (b : Bool) → (b && true) ≡ true → 1 ≤ cond b 1 0
+        of_peer true passed = omega arith
+        of_peer false passed = cc
+
+-- where no open settlement of a peer is found it has none open
+none_open : (j : Entries) (peer : ℕ) → first_open_ask j peer ≡ None → open_asks j peer ≡ 0
+unfolding open_asks
+none_open j peer e =
+    sum_from-none is_its _ 0 j (λ k d failed. uncounted (as_ask d.what) (is_unclosed j k) failed) (of (first_from is_its 0 j) refl e)
+  where
+    is_its : ℕ → Entry → Bool
+    is_its n d = is_ask_of peer d.what && is_unclosed j n
+
+    uncounted : (o : Option Ask) (b : Bool) → (unwrap_or (option_map (λ (a : Ask). a.peer == peer) o) false && b) ≡ false → cond b (unwrap_or (option_map (paid_to peer) o) 0) 0 ≡ 0
+    uncounted None true failed = refl
+    uncounted None false failed = refl
+    uncounted (Some a) false failed = refl
+    uncounted (Some a) true failed = of_peer (a.peer == peer) failed
+      where
+        of_peer : (b : Bool) → (b && true) ≡ false → ◌≡◌ {A = ℕ} (cond b 1 0) 0
+        of_peer true failed = cc
+        of_peer false failed = refl
+
+    is_ask : (w : What) (b : Bool) → (is_ask_of peer w && b) ≡ true → IsSome (as_ask w)
+    is_ask w b t = at (as_ask w) t
+      where
+        at : (o : Option Ask) → (unwrap_or (option_map (λ (a : Ask). a.peer == peer) o) false && b) ≡ true → IsSome o
+        at None t = cc
+        at (Some a) t = refl
+
+    stands : (n : ℕ) → first_from is_its 0 j ≡ Some n → IsSome (ask_at j n)
+    stands n is =
+        let f = first_found is_its 0 n j is in
+        let place : f.0 ≡ n = omega (arith, f.2) in
+        subst (λ k. IsSome (ask_at j k)) place (rw f.3 (is_ask f.1.what (is_unclosed j n) f.4))
+
+    of : (o : Option ℕ) → first_from is_its 0 j ≡ o → option_and_then {U = ℕ × Ask} (λ n. option_map (λ (a : Ask). (n, a)) (ask_at j n)) o ≡ None → first_from is_its 0 j ≡ None
+    of None is e = is
+    of (Some n) is e = absurd (none (ask_at j n) (stands n is) e)
+      where
+        none : (o : Option Ask) → IsSome o → option_map {U = ℕ × Ask} (λ (a : Ask). (n, a)) o ≡ None → ⊥
+        none None s e = cc
+        none (Some c) s e = cc
+
+-- where none is told to be open fewer are open than may be
+pub few_open : (j : Entries) (peer : ℕ) → still_open j peer ≡ None → open_asks j peer < most_open_asks
+few_open j peer e = of_test (nat_lt (open_asks j peer) most_open_asks) refl e
+  where
+    of_test : (b : Bool) → nat_lt (open_asks j peer) most_open_asks ≡ b → cond b None (option_map (λ (x : ℕ × Ask). ask_fault.StillOpen x.0 x.1.amount) (first_open_ask j peer)) ≡ None
+        → open_asks j peer < most_open_asks
+    of_test true t e = ltb-true _ _ t
+    of_test false t e = of (first_open_ask j peer) refl e
+      where
+        of : (o : Option (ℕ × Ask)) → first_open_ask j peer ≡ o → option_map (λ (x : ℕ × Ask). ask_fault.StillOpen x.0 x.1.amount) o ≡ None → open_asks j peer < most_open_asks
+        of None is e = omega (arith, none_open j peer is)
+        of (Some x) is e = cc
+
+-- what is told of the first that is open
+abbrev pub told_open : Option (ℕ × Ask) → Option AskFault
+told_open o = option_map (λ (x : ℕ × Ask). ask_fault.StillOpen x.0 x.1.amount) o
+
+-- as long as one may be open, the first that is open is told
+pub still_open_is : (j : Entries) (peer : ℕ) → still_open j peer ≡ told_open (first_open_ask j peer)
+still_open_is j peer = of (first_open_number j peer) refl
+  where
+    found : ℕ → Option (ℕ × Ask)
+    found n = option_map (λ (a : Ask). (n, a)) (ask_at j n)
+
+    of : (o : Option ℕ) → first_open_number j peer ≡ o → cond (nat_lt (open_asks j peer) most_open_asks) None (told_open (option_and_then found o)) ≡ told_open (option_and_then found o)
+    of None is = either (nat_lt (open_asks j peer) most_open_asks)
+      where
+        either : (b : Bool) → ◌≡◌ {A = Option AskFault} (cond b None None) None
+        either true = refl
+        either false = refl
+    of (Some n) is = ap (λ b. cond b None (told_open (found n))) (le-ltb (open_asks j peer) most_open_asks (some_open j peer n is))

@@ -1,0 +1,209 @@
+//! Settlements in books.
+
+use super::books::{START, hold};
+use super::{GROWTHS, lending};
+use ilp_accounts::Config;
+use ilp_book::{AskFault, Asked, Book, CreditFault, Kept, NotOpen, PeerReply};
+use ilp_journal::Key;
+use ilp_settlement::Quantity;
+use std::alloc::Allocator;
+use std::process::Abort;
+use std::test::Fail;
+use test_allocator::DenyingAllocator;
+
+// The peers, both of which settle.
+const ALICE: u32 = 0;
+
+const BOB: u32 = 1;
+
+// How often bob is credited and settled with.
+const ROUNDS: u8 = 12;
+
+// 2,000 units of the peers' asset.
+const QUANTITY: Quantity = Quantity {
+    amount: 2_000,
+    scale: 2,
+};
+
+// The key of a round.
+fn key(rt: &impl Abort, round: u8) -> Key {
+    Key::new(&[b'k', round]).expect(rt, "a key of two octets")
+}
+
+// A credit of a peer; where it is denied memory it changes nothing, and succeeds when asked again.
+fn credit<A: Allocator>(rt: &impl Abort, book: &mut Book<A>, peer: u32, round: u8) {
+    let number = book.len();
+    let owed = book.balance(peer);
+    assert!(rt; peer < book.config().peers());
+    let mut outcome = book.credit(0, peer, key(rt, round), &QUANTITY, START);
+    if outcome == Err(CreditFault::Memory) {
+        assert_eq!(rt; (book.len(), book.balance(peer)), (number, owed));
+        assert!(rt; peer < book.config().peers());
+        outcome = book.credit(0, peer, key(rt, round), &QUANTITY, START);
+    }
+    let kept = Kept {
+        number,
+        amount: 2_000,
+        fresh: true,
+    };
+    assert_eq!(rt; outcome, Ok(kept));
+}
+
+// The same key and quantity once more.
+fn credit_again<A: Allocator>(rt: &impl Abort, book: &mut Book<A>, round: u8, number: u32) {
+    assert!(rt; book.config().peers() == 2);
+    let outcome = book.credit(0, BOB, key(rt, round), &QUANTITY, START);
+    let kept = Kept {
+        number,
+        amount: 2_000,
+        fresh: false,
+    };
+    assert_eq!(rt; outcome, Ok(kept));
+}
+
+// An ask to a peer; where it is denied memory it changes nothing, and succeeds when asked again.
+fn ask<A: Allocator>(rt: &impl Abort, book: &mut Book<A>, peer: u32, amount: u64) {
+    let number = book.len();
+    let owed = book.balance(peer);
+    assert!(rt; peer < book.config().peers());
+    let mut outcome = book.ask(0, peer, START);
+    if outcome == Err(AskFault::Memory) {
+        assert_eq!(rt; (book.len(), book.balance(peer)), (number, owed));
+        assert!(rt; peer < book.config().peers());
+        outcome = book.ask(0, peer, START);
+    }
+    assert_eq!(rt; outcome, Ok(Asked { number, amount }));
+}
+
+#[test]
+fn settling(rt: HostRuntime) -> Result<(), Fail> {
+    let config = lending(rt.alloc())?;
+    settle_over_each(&rt, &config)
+}
+
+fn settle_over_each(rt: &(impl Abort + AllocGlobal), config: &Config) -> Result<(), Fail> {
+    for granted in 0..GROWTHS {
+        let heap = DenyingAllocator::after(rt.alloc(), granted);
+        settle_over(rt, config, &heap)?;
+        if !heap.has_denied() {
+            assert!(rt; granted > 1);
+            return Ok(());
+        }
+    }
+    assert!(rt; false, "some growth was always denied");
+    Ok(())
+}
+
+// In each round bob is credited, asked for what lies above 200 units, and paid.
+fn settle_over<A: Allocator>(rt: &impl Abort, config: &Config, heap: A) -> Result<(), Fail> {
+    let mut book = Book::new(heap, config)?;
+    let mut amount = 1_800;
+    for round in 0..ROUNDS {
+        let number = book.len();
+        credit(rt, &mut book, BOB, round);
+        credit_again(rt, &mut book, round, number);
+        ask(rt, &mut book, BOB, amount);
+        close(rt, &mut book, number.saturating_add(1), true);
+        assert_eq!(rt; book.balance(BOB), 200);
+        amount = 2_000;
+    }
+    assert_eq!(rt; book.len(), 3 * u32::from(ROUNDS));
+    Ok(())
+}
+
+// Closes a settlement, and finds it closed when asked again.
+fn close<A: Allocator>(rt: &impl Abort, book: &mut Book<A>, number: u32, accepted: bool) {
+    let entry = book.len();
+    assert_eq!(rt; book.settle_close(0, number, accepted, START), Ok(entry));
+    let closed = NotOpen {
+        closer: Some(entry),
+    };
+    assert_eq!(rt; book.settle_close(0, number, accepted, START), Err(closed));
+}
+
+// The entry after which a settlement is closed.
+#[derive(Clone, Copy)]
+enum Last {
+    Asked,
+    Credited,
+    Held,
+    Fulfilled,
+    Released,
+    Confirmed,
+    Undone,
+}
+
+const EACH_LAST: [Last; 7] = [
+    Last::Asked,
+    Last::Credited,
+    Last::Held,
+    Last::Fulfilled,
+    Last::Released,
+    Last::Confirmed,
+    Last::Undone,
+];
+
+#[test]
+fn closing_takes_no_memory(rt: HostRuntime) -> Result<(), Fail> {
+    let config = lending(rt.alloc())?;
+    for last in EACH_LAST {
+        close_over_each(&rt, &config, last)?;
+    }
+    Ok(())
+}
+
+fn close_over_each(
+    rt: &(impl Abort + AllocGlobal),
+    config: &Config,
+    last: Last,
+) -> Result<(), Fail> {
+    for granted in 0..GROWTHS {
+        let heap = DenyingAllocator::after(rt.alloc(), granted);
+        close_over(rt, config, &heap, last)?;
+        if !heap.has_denied() {
+            return Ok(());
+        }
+    }
+    assert!(rt; false, "some growth was always denied");
+    Ok(())
+}
+
+// Once the entries are made, the next growth is denied, unless one was: so where the last of them
+// was granted, the closing makes none.
+fn close_over<B: Allocator>(
+    rt: &impl Abort,
+    config: &Config,
+    heap: &DenyingAllocator<B>,
+    last: Last,
+) -> Result<(), Fail> {
+    let mut book = Book::new(heap, config)?;
+    hold(rt, &mut book);
+    credit(rt, &mut book, ALICE, 0);
+    ask(rt, &mut book, ALICE, 1_700);
+    credit(rt, &mut book, BOB, 0);
+    ask(rt, &mut book, BOB, 1_800);
+    end_with(rt, &mut book, last);
+    let had_denied = heap.has_denied();
+    close(rt, &mut book, 4, true);
+    assert_eq!(rt; heap.has_denied(), had_denied);
+    Ok(())
+}
+
+// Makes the last entry. The hold has the number 0, the settlement to alice the number 2.
+fn end_with<A: Allocator>(rt: &impl Abort, book: &mut Book<A>, last: Last) {
+    match last {
+        Last::Asked => {}
+        Last::Credited => credit(rt, book, ALICE, 1),
+        Last::Held => hold(rt, book),
+        Last::Fulfilled => {
+            let outcome = book.answer(0, 0, PeerReply::Fulfil([0; 32]), START);
+            assert!(rt; outcome.is_ok());
+        }
+        Last::Released => {
+            let outcome = book.answer(0, 0, PeerReply::NoReply, START);
+            assert!(rt; outcome.is_ok());
+        }
+        Last::Confirmed => close(rt, book, 2, true),
+        Last::Undone => close(rt, book, 2, false),
+    }
+}
