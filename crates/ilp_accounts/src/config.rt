@@ -114,13 +114,18 @@ impl Config {
     pub fn copy(&self) -> Result<Config, AllocError>
         ensures { IfOk result (λ c. c ≡ self.now) }
     {
-        let alloc = self.peers.allocator();
+        let alloc = self.allocator();
         Ok(Config {
             settings: self.settings.fields().owned(alloc)?,
             assets: self.assets.copy()?,
             peers: self.peers.copy()?,
             routes: self.routes.copy()?,
         })
+    }
+
+    /// The heap that it lies on.
+    pub fn allocator(&self) -> Global {
+        self.peers.allocator()
     }
 }
 

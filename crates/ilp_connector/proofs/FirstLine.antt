@@ -1,8 +1,9 @@
 -- The first line of a text, and the first field of a line.
-use Rattle.std.proofs.Common.{refl, ◌≡◌, ◌≢◌, ℕ, zero, suc, ◌+◌, ◌<◌, List, [], ◌∷◌, length, take, drop, arith}
-use Rattle.std.specs.List.{slice_split}
+use Rattle.std.proofs.Common.{refl, ap, ◌∙◌, ◌≡◌, ◌≢◌, ℕ, zero, suc, ◌+◌, ◌<◌, List, [], ◌∷◌, length, take, drop, arith}
+use Rattle.std.specs.List.{slice_split, join_with_byte}
 use Rattle.std.proofs.lemmas.Bool.Decides.{nat_tests}
-use Rattle.ilp_connector.specs.Script.{lines_of, is_space, StandsFirst, HasNoneBelow}
+use Rattle.std.proofs.lemmas.List.Splits.{length-slice_split, join_with_byte-slice_split}
+use Rattle.ilp_connector.specs.Script.{lines_of, is_space, with_rest, fields_of, StandsFirst, HasNoneBelow}
 
 -- the line before the first LF, and the lines after it
 pub lines_of-ended : (xs : List ℕ) (end : ℕ) → StandsFirst 10 xs end → lines_of xs ≡ take end xs ∷ lines_of (drop (end + 1) xs)
@@ -43,3 +44,16 @@ fields-whole (x ∷ xs) none =
     let other : x ≢ 32 = none 0 (omega arith) in
     let rest : slice_split is_space xs ≡ xs ∷ [] = fields-whole xs (λ k below. none (suc k) (omega arith)) in
     grind (arith, nat_tests, other, rest)
+
+-- four fields and more: the fifth joins what was parted
+pub with_rest-more : (a b c d : List ℕ) (parts : List (List ℕ)) → 0 < length parts → with_rest (a ∷ b ∷ c ∷ d ∷ parts) ≡ a ∷ b ∷ c ∷ d ∷ join_with_byte 32 parts ∷ []
+with_rest-more a b c d [] some = absurd (omega arith)
+with_rest-more a b c d (part ∷ parts) some = refl
+
+-- after four spaces the rest of the line is the fifth field
+pub fields_of-rest : (line a b c d rest : List ℕ) → slice_split is_space line ≡ a ∷ b ∷ c ∷ d ∷ slice_split is_space rest → fields_of line ≡ a ∷ b ∷ c ∷ d ∷ rest ∷ []
+fields_of-rest line a b c d rest parted =
+    let parts = length-slice_split is_space rest in
+    let some : 0 < length (slice_split is_space rest) = omega (arith, parts) in
+    ap with_rest parted ∙ with_rest-more a b c d (slice_split is_space rest) some
+    ∙ ap (λ (last : List ℕ). a ∷ b ∷ c ∷ d ∷ last ∷ []) (join_with_byte-slice_split 32 rest)

@@ -1,8 +1,9 @@
 -- The lines of a script book what their calls book, and each call is one that the book allows.
 use Rattle.std.proofs.Common.{◌≡◌, ℕ, ◌<◌, ℤ, Bool, true, false, cond, List, [], ◌∷◌, ◌++◌, length, Option, Some, None, refl, sym, ap, ◌∙◌, subst, arith}
 use Rattle.std.specs.Prelude.{Result, Ok, Err, IfSome, ⊤, All, ◌==◌, codes}
-use Rattle.std.specs.List.{list_all, slice_split}
+use Rattle.std.specs.List.{list_all}
 use Rattle.std.specs.Str.{bytes_eq}
+use Rattle.std.proofs.lemmas.Bool.Decides.{nat_tests}
 use Rattle.std.proofs.lemmas.List.{length-map}
 use Rattle.std.proofs.lemmas.List.Quantifiers.{position-Some}
 use Rattle.hex.specs.Hex.{decode_of}
@@ -10,17 +11,22 @@ use Rattle.hex.specs.declared.error.FromHexError.{FromHexError}
 use Rattle.ilp_packet.specs.declared.fault.PacketFault.{PacketFault}
 use Rattle.ilp_packet.specs.Packet.{PlainPacket, prepare, fulfill, reject}
 use Rattle.ilp_packet.specs.Reading.{reading}
+use Rattle.ilp_settlement.specs.declared.quantity.Quantity.{Quantity}
+use Rattle.ilp_settlement.specs.declared.quantity.QuantityFault.{QuantityFault}
+use Rattle.ilp_settlement.specs.Quantity.{quantity_in}
+use Rattle.ilp_journal.specs.Keys.{IsKey}
 use Rattle.ilp_accounts.specs.Configuration.{Configuration, peer_names, place_named}
 use Rattle.ilp_accounts.specs.Valid.{IsValid}
 use Rattle.ilp_book.specs.Book.{PlainBook, new_book, with_entry}
+use Rattle.ilp_book.specs.SettleStep.{EngineVerdict}
 use Rattle.ilp_book.specs.Lawful.{IsLawful}
 use Rattle.ilp_book.specs.Run as run
 use Rattle.ilp_book.specs.Run.{book_after, AreAllowed}
 use Rattle.ilp_book.proofs.HoldSteps.{own_route}
 use Rattle.ilp_book.proofs.Runs.{runs_lawful}
-use Rattle.ilp_connector.specs.Script.{Form, hold, answer, expire, report, silent, bad, is_printable, is_space, moment_in, entry_in, hold_form, answer_form, expire_form, form_of_fields, form_of}
-use Rattle.ilp_connector.specs.Replay.{hold_packet, hold_text, answer_text, form_step, line_step, after_line, after_lines}
-use Rattle.ilp_connector.specs.Calls.{called, calls_of_packet, calls_of_hold, calls_of_answer, calls_of_form, calls_of}
+use Rattle.ilp_connector.specs.Script.{Form, hold, answer, expire, credit, ask, close, report, silent, bad, is_printable, moment_in, entry_in, key_in, verdict_in, hold_form, answer_form, expire_form, credit_form, ask_form, close_form, form_of_fields, fields_of, form_of}
+use Rattle.ilp_connector.specs.Replay.{hold_packet, hold_text, answer_text, credit_json, form_step, line_step, after_line, after_lines}
+use Rattle.ilp_connector.specs.Calls.{called, calls_of_packet, calls_of_hold, calls_of_answer, calls_of_credit, calls_of_form, calls_of}
 
 -- ---- what lines book
 
@@ -45,11 +51,19 @@ answer_books : (book : PlainBook) (now : ℤ) (number : ℕ) (r : Result (List �
 answer_books book now number (Ok octets) = refl
 answer_books book now number (Err fault) = refl
 
+credit_books : (book : PlainBook) (now : ℤ) (peer : ℕ) (key : List ℕ) (r : Result Quantity QuantityFault)
+    → with_entry book (credit_json book now peer key r).entry ≡ book_after book (calls_of_credit now peer key r)
+credit_books book now peer key (Ok quantity) = refl
+credit_books book now peer key (Err fault) = refl
+
 form_books : (book : PlainBook) (form : Form) → with_entry book (form_step book form).entry ≡ book_after book (calls_of_form book.config form)
 form_books book (hold now peer packet) = hold_books book now peer (decode_of packet)
 form_books book (answer now number (Some packet)) = answer_books book now number (decode_of packet)
 form_books book (answer now number None) = refl
 form_books book (expire now) = refl
+form_books book (credit now peer key json) = credit_books book now peer key (quantity_in json)
+form_books book (ask now peer) = refl
+form_books book (close now number verdict) = refl
 form_books book report = refl
 form_books book silent = refl
 form_books book bad = refl
@@ -71,11 +85,14 @@ AreAllowed-append : (C : Configuration) (xs ys : List run.Step) → AreAllowed C
 AreAllowed-append C [] ys x y = y
 AreAllowed-append C (s ∷ xs) ys x y = (x.0, AreAllowed-append C xs ys x.1 y)
 
--- a form of so many peers: a hold is of one of them
+-- a form of so many peers: the peer that it names is one of them, and its key is one
 abbrev IsOf : ℕ → Form → Type 0
 IsOf peers (hold now peer packet) = peer < peers
 IsOf peers (answer now number packet) = ⊤
 IsOf peers (expire now) = ⊤
+IsOf peers (credit now peer key json) = (peer < peers) × IsKey key
+IsOf peers (ask now peer) = peer < peers
+IsOf peers (close now number verdict) = ⊤
 IsOf peers report = ⊤
 IsOf peers silent = ⊤
 IsOf peers bad = ⊤
@@ -100,6 +117,27 @@ expire_is_of : (n : ℕ) (now : Option ℕ) → IsOf n (expire_form now)
 expire_is_of n None = tt
 expire_is_of n (Some now) = tt
 
+-- the key of a line is one
+key_in_is : (text : List ℕ) → IfSome (key_in text) IsKey
+key_in_is text = grind (arith, nat_tests)
+
+credit_is_of : (n : ℕ) (now peer : Option ℕ) (key : Option (List ℕ)) (json : List ℕ) → IfSome peer (λ p. p < n) → IfSome key IsKey → IsOf n (credit_form now peer key json)
+credit_is_of n None peer key json known is = tt
+credit_is_of n (Some now) None key json known is = tt
+credit_is_of n (Some now) (Some peer) None json known is = tt
+credit_is_of n (Some now) (Some peer) (Some key) json known is = (known, is)
+
+ask_is_of : (n : ℕ) (now peer : Option ℕ) → IfSome peer (λ p. p < n) → IsOf n (ask_form now peer)
+ask_is_of n None peer known = tt
+ask_is_of n (Some now) None known = tt
+ask_is_of n (Some now) (Some peer) known = known
+
+close_is_of : (n : ℕ) (now number : Option ℕ) (verdict : Option EngineVerdict) → IsOf n (close_form now number verdict)
+close_is_of n None number verdict = tt
+close_is_of n (Some now) None verdict = tt
+close_is_of n (Some now) (Some number) None = tt
+close_is_of n (Some now) (Some number) (Some verdict) = tt
+
 -- the place of a name is one of them
 named_within : (names : List (List ℕ)) (name : List ℕ) → IfSome (place_named names name) (λ p. p < length names)
 named_within names name = of (place_named names name) (λ place is. (position-Some (bytes_eq name) names place name is).0)
@@ -112,17 +150,22 @@ fields_are_of : (names : List (List ℕ)) (fields : List (List ℕ)) → IsOf (l
 fields_are_of names [] = tt
 fields_are_of names (word ∷ []) = chosen_is_of (length names) (bytes_eq word (codes "report")) report bad tt tt
 fields_are_of names (word ∷ now ∷ []) = chosen_is_of (length names) (bytes_eq word (codes "expire")) (expire_form (moment_in now)) bad (expire_is_of (length names) (moment_in now)) tt
-fields_are_of names (word ∷ now ∷ third ∷ []) = tt
-fields_are_of names (word ∷ now ∷ third ∷ packet ∷ []) =
-    chosen_is_of (length names) (bytes_eq word (codes "hold")) _ _ (hold_is_of (length names) (moment_in now) (place_named names third) packet (named_within names third))
-    (chosen_is_of (length names) (bytes_eq word (codes "answer")) _ bad (answer_is_of (length names) (moment_in now) (entry_in third) packet) tt)
-fields_are_of names (word ∷ now ∷ third ∷ packet ∷ more ∷ rest) = tt
+fields_are_of names (word ∷ now ∷ peer ∷ []) =
+    chosen_is_of (length names) (bytes_eq word (codes "ask")) _ bad (ask_is_of (length names) (moment_in now) (place_named names peer) (named_within names peer)) tt
+fields_are_of names (word ∷ now ∷ third ∷ fourth ∷ []) =
+    chosen_is_of (length names) (bytes_eq word (codes "hold")) _ _ (hold_is_of (length names) (moment_in now) (place_named names third) fourth (named_within names third))
+    (chosen_is_of (length names) (bytes_eq word (codes "answer")) _ _ (answer_is_of (length names) (moment_in now) (entry_in third) fourth)
+    (chosen_is_of (length names) (bytes_eq word (codes "close")) _ bad (close_is_of (length names) (moment_in now) (entry_in third) (verdict_in fourth)) tt))
+fields_are_of names (word ∷ now ∷ peer ∷ key ∷ json ∷ []) =
+    chosen_is_of (length names) (bytes_eq word (codes "credit")) _ bad
+    (credit_is_of (length names) (moment_in now) (place_named names peer) (key_in key) json (named_within names peer) (key_in_is key)) tt
+fields_are_of names (word ∷ now ∷ peer ∷ key ∷ json ∷ more ∷ rest) = tt
 
 form_is_of : (names : List (List ℕ)) (line : List ℕ) → IsOf (length names) (form_of names line)
 form_is_of names [] = tt
 form_is_of names (octet ∷ octets) =
     chosen_is_of (length names) (octet == 35) silent _ tt
-    (chosen_is_of (length names) (list_all is_printable (octet ∷ octets)) _ bad (fields_are_of names (slice_split is_space (octet ∷ octets))) tt)
+    (chosen_is_of (length names) (list_all is_printable (octet ∷ octets)) _ bad (fields_are_of names (fields_of (octet ∷ octets))) tt)
 
 packet_allowed : (C : Configuration) (now : ℤ) (peer : ℕ) (r : Result PlainPacket PacketFault) → peer < length C.peers → AreAllowed C (calls_of_packet C now peer r)
 packet_allowed C now peer (Ok (prepare p)) known = ((known, own_route C peer p), tt)
@@ -138,11 +181,18 @@ answer_allowed : (C : Configuration) (now : ℤ) (number : ℕ) (r : Result (Lis
 answer_allowed C now number (Ok octets) = (tt, tt)
 answer_allowed C now number (Err fault) = tt
 
+credit_allowed : (C : Configuration) (now : ℤ) (peer : ℕ) (key : List ℕ) (r : Result Quantity QuantityFault) → peer < length C.peers → IsKey key → AreAllowed C (calls_of_credit now peer key r)
+credit_allowed C now peer key (Ok quantity) known is = ((known, is), tt)
+credit_allowed C now peer key (Err fault) known is = tt
+
 form_allowed : (C : Configuration) (form : Form) → IsOf (length C.peers) form → AreAllowed C (calls_of_form C form)
 form_allowed C (hold now peer packet) known = hold_allowed C now peer (decode_of packet) known
 form_allowed C (answer now number (Some packet)) known = answer_allowed C now number (decode_of packet)
 form_allowed C (answer now number None) known = (tt, tt)
 form_allowed C (expire now) known = (tt, tt)
+form_allowed C (credit now peer key json) known = credit_allowed C now peer key (quantity_in json) known.0 known.1
+form_allowed C (ask now peer) known = (known, tt)
+form_allowed C (close now number verdict) known = (tt, tt)
 form_allowed C report known = tt
 form_allowed C silent known = tt
 form_allowed C bad known = tt

@@ -5,12 +5,16 @@ use Rattle.hex.specs.declared.error.FromHexError.{FromHexError}
 use Rattle.ilp_packet.specs.declared.fault.PacketFault.{PacketFault}
 use Rattle.ilp_packet.specs.Packet.{PlainPacket, prepare, fulfill, reject}
 use Rattle.ilp_packet.specs.Reading.{reading}
+use Rattle.ilp_settlement.specs.declared.quantity.Quantity.{Quantity}
+use Rattle.ilp_settlement.specs.declared.quantity.QuantityFault.{QuantityFault}
+use Rattle.ilp_settlement.specs.Quantity.{quantity_in}
 use Rattle.ilp_accounts.specs.Configuration.{Configuration, peer_names}
 use Rattle.ilp_book.specs.declared.calls.PeerReply.TheVariants as peer_reply
 use Rattle.ilp_book.specs.Book.{by, granted}
 use Rattle.ilp_book.specs.HoldStep.{incoming}
+use Rattle.ilp_book.specs.SettleStep.{payment}
 use Rattle.ilp_book.specs.Run as run
-use Rattle.ilp_connector.specs.Script.{Form, hold, answer, expire, report, silent, bad, form_of}
+use Rattle.ilp_connector.specs.Script.{Form, hold, answer, expire, credit, ask, close, report, silent, bad, form_of}
 use Rattle.ilp_connector.specs.Replay.{came_back}
 
 -- a call by the actor 0, with memory granted
@@ -31,12 +35,19 @@ abbrev pub calls_of_answer : ℤ → ℕ → Result (List ℕ) FromHexError → 
 calls_of_answer now number (Ok octets) = called now (run.answer number (came_back (reading octets)))
 calls_of_answer now number (Err fault) = []
 
+abbrev pub calls_of_credit : ℤ → ℕ → List ℕ → Result Quantity QuantityFault → List run.Step
+calls_of_credit now peer key (Ok quantity) = called now (run.credit (payment peer key quantity))
+calls_of_credit now peer key (Err fault) = []
+
 -- the call that a line makes, if it makes one
 abbrev pub calls_of_form : Configuration → Form → List run.Step
 calls_of_form C (hold now peer packet) = calls_of_hold C now peer (decode_of packet)
 calls_of_form C (answer now number (Some packet)) = calls_of_answer now number (decode_of packet)
 calls_of_form C (answer now number None) = called now (run.answer number peer_reply.NoReply)
 calls_of_form C (expire now) = called now run.expire
+calls_of_form C (credit now peer key json) = calls_of_credit now peer key (quantity_in json)
+calls_of_form C (ask now peer) = called now (run.ask peer)
+calls_of_form C (close now number verdict) = called now (run.close number verdict)
 calls_of_form C report = []
 calls_of_form C silent = []
 calls_of_form C bad = []

@@ -9,11 +9,17 @@ use Rattle.ilp_packet.specs.declared.fault.PacketFault.{PacketFault}
 use Rattle.ilp_packet.specs.declared.fault.PacketFault.TheVariants as packet_fault
 use Rattle.ilp_assets.specs.declared.quote.QuoteFault.{QuoteFault}
 use Rattle.ilp_assets.specs.declared.quote.QuoteFault.TheVariants as quote_fault
+use Rattle.ilp_settlement.specs.declared.quantity.QuantityFault.{QuantityFault}
+use Rattle.ilp_settlement.specs.declared.quantity.QuantityFault.TheVariants as quantity_fault
 use Rattle.ilp_book.specs.declared.fault.HoldFault.{HoldFault}
 use Rattle.ilp_book.specs.declared.fault.HoldFault.TheVariants as hold_fault
+use Rattle.ilp_book.specs.declared.fault.CreditFault.{CreditFault}
+use Rattle.ilp_book.specs.declared.fault.CreditFault.TheVariants as credit_fault
+use Rattle.ilp_book.specs.declared.fault.AskFault.{AskFault}
+use Rattle.ilp_book.specs.declared.fault.AskFault.TheVariants as ask_fault
 use Rattle.ilp_connector.specs.declared.refusal.Refusal.{Refusal}
 use Rattle.ilp_connector.specs.declared.refusal.Refusal.TheVariants as refusals
-use Rattle.ilp_connector.specs.declared.refusal.Refusal.TheVariants.{Truncated, BadPrefix, TooLong, UnknownType, Trailing, BadExpiry, BadAddress, FieldTooLong, BadHex, NotPrepare, DoubleAsset, NoSuchAsset, ScaleGap, ZeroPrice, NoPrice, RoundsToNothing, OutTooLarge, DoublePrice, ConfigUnread, NotToml, Missing, BadValue, DoublePeer, DoubleToken, DoubleRoute, BadLevels, AmountTooLarge, NoRoute, BackToSender, Expired, TooShort, Full, TotalFull, BelowLeast, Memory, ReadFault, WriteFault, ScriptTooLong}
+use Rattle.ilp_connector.specs.declared.refusal.Refusal.TheVariants.{Truncated, BadPrefix, TooLong, UnknownType, Trailing, BadExpiry, BadAddress, FieldTooLong, BadHex, NotPrepare, DoubleAsset, NoSuchAsset, ScaleGap, ZeroPrice, NoPrice, RoundsToNothing, OutTooLarge, DoublePrice, ConfigUnread, NotToml, Missing, BadValue, DoublePeer, DoubleToken, DoubleRoute, BadLevels, NotJson, BadAmount, BadScale, TooLarge, AmountTooLarge, NoRoute, BackToSender, Expired, TooShort, Full, TotalFull, BelowLeast, Memory, KeyTaken, NotDue, StillOpen, ReadFault, WriteFault, ScriptTooLong}
 
 -- a number, and a name
 abbrev pub refusal_row : Refusal → ℕ × List ℕ
@@ -43,6 +49,10 @@ refusal_row DoublePeer = (24, codes "DoublePeer")
 refusal_row DoubleToken = (25, codes "DoubleToken")
 refusal_row DoubleRoute = (26, codes "DoubleRoute")
 refusal_row BadLevels = (27, codes "BadLevels")
+refusal_row NotJson = (31, codes "NotJson")
+refusal_row BadAmount = (32, codes "BadAmount")
+refusal_row BadScale = (33, codes "BadScale")
+refusal_row TooLarge = (34, codes "TooLarge")
 refusal_row (AmountTooLarge max) = (35, codes "AmountTooLarge")
 refusal_row NoRoute = (36, codes "NoRoute")
 refusal_row BackToSender = (37, codes "BackToSender")
@@ -52,6 +62,9 @@ refusal_row Full = (41, codes "Full")
 refusal_row TotalFull = (42, codes "TotalFull")
 refusal_row (BelowLeast balance) = (43, codes "BelowLeast")
 refusal_row Memory = (44, codes "Memory")
+refusal_row (KeyTaken kept) = (46, codes "KeyTaken")
+refusal_row (NotDue balance) = (47, codes "NotDue")
+refusal_row (StillOpen number amount) = (48, codes "StillOpen")
 refusal_row ReadFault = (61, codes "ReadFault")
 refusal_row WriteFault = (64, codes "WriteFault")
 refusal_row ScriptTooLong = (65, codes "ScriptTooLong")
@@ -68,12 +81,15 @@ refusal_field (Missing field) = Some field
 refusal_field (BadValue field) = Some field
 refusal_field _ = None
 
--- what a refusal names, each after a space: a field of the configuration, the greatest amount, or the balance
+-- what a refusal names, each after a space: a field of the configuration, the greatest amount, the balance, the entry of a key, or a settlement with its amount
 abbrev pub detail_text : Refusal → List ℕ
 detail_text (Missing field) = codes " " ++ key field
 detail_text (BadValue field) = codes " " ++ key field
 detail_text (AmountTooLarge max) = codes " " ++ decimal max
 detail_text (BelowLeast balance) = codes " " ++ signed_decimal balance
+detail_text (KeyTaken kept) = codes " " ++ decimal kept
+detail_text (NotDue balance) = codes " " ++ signed_decimal balance
+detail_text (StillOpen number amount) = codes " " ++ (decimal number ++ (codes " " ++ decimal amount))
 detail_text _ = []
 
 -- the name of a refusal, and what it names
@@ -129,3 +145,24 @@ hold_refusal hold_fault.Full = refusals.Full
 hold_refusal hold_fault.TotalFull = refusals.TotalFull
 hold_refusal (hold_fault.BelowLeast balance) = refusals.BelowLeast balance
 hold_refusal hold_fault.Memory = refusals.Memory
+
+-- the refusal of octets that are no quantity
+abbrev pub quantity_refusal : QuantityFault → Refusal
+quantity_refusal quantity_fault.NotJson = refusals.NotJson
+quantity_refusal quantity_fault.BadAmount = refusals.BadAmount
+quantity_refusal quantity_fault.BadScale = refusals.BadScale
+quantity_refusal quantity_fault.Memory = refusals.Memory
+
+-- the refusal of a settlement from a peer
+abbrev pub credit_refusal : CreditFault → Refusal
+credit_refusal credit_fault.TooLarge = refusals.TooLarge
+credit_refusal (credit_fault.KeyTaken kept) = refusals.KeyTaken kept
+credit_refusal credit_fault.Full = refusals.Full
+credit_refusal credit_fault.Memory = refusals.Memory
+
+-- the refusal of a settlement to a peer
+abbrev pub ask_refusal : AskFault → Refusal
+ask_refusal (ask_fault.StillOpen number amount) = refusals.StillOpen number amount
+ask_refusal (ask_fault.NotDue balance) = refusals.NotDue balance
+ask_refusal ask_fault.Full = refusals.Full
+ask_refusal ask_fault.Memory = refusals.Memory

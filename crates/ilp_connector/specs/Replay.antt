@@ -8,6 +8,9 @@ use Rattle.ilp_io.specs.Writing.{AppendsPrefix}
 use Rattle.ilp_packet.specs.declared.fault.PacketFault.{PacketFault}
 use Rattle.ilp_packet.specs.Packet.{PlainPacket, prepare, fulfill, reject}
 use Rattle.ilp_packet.specs.Reading.{reading}
+use Rattle.ilp_settlement.specs.declared.quantity.Quantity.{Quantity}
+use Rattle.ilp_settlement.specs.declared.quantity.QuantityFault.{QuantityFault}
+use Rattle.ilp_settlement.specs.Quantity.{quantity_in}
 use Rattle.ilp_journal.specs.declared.entry.Cause.TheVariants as cause
 use Rattle.ilp_accounts.specs.Configuration.{Configuration, peer_names}
 use Rattle.ilp_book.specs.declared.calls.Held.{Held}
@@ -17,17 +20,22 @@ use Rattle.ilp_book.specs.declared.calls.PeerReply.TheVariants as peer_reply
 use Rattle.ilp_book.specs.declared.calls.Outcome.{Outcome}
 use Rattle.ilp_book.specs.declared.calls.Outcome.TheVariants as outcome
 use Rattle.ilp_book.specs.declared.fault.NotOpen.{NotOpen}
+use Rattle.ilp_book.specs.declared.calls.Kept.{Kept}
+use Rattle.ilp_book.specs.declared.fault.CreditFault.{CreditFault}
+use Rattle.ilp_book.specs.declared.calls.Asked.{Asked}
+use Rattle.ilp_book.specs.declared.fault.AskFault.{AskFault}
 use Rattle.ilp_book.specs.Book.{PlainBook, new_book, by, granted, Made, says, replied_as, with_entry}
 use Rattle.ilp_book.specs.HoldStep.{incoming, hold_step}
 use Rattle.ilp_book.specs.AnswerStep.{answer_step, expire_step}
+use Rattle.ilp_book.specs.SettleStep.{payment, EngineVerdict, accepted, rejected, credit_step, ask_step, close_step}
 use Rattle.ilp_connector.specs.declared.refusal.Refusal.{Refusal}
 use Rattle.ilp_connector.specs.declared.refusal.Refusal.TheVariants as refusals
 use Rattle.ilp_connector.specs.declared.reply.LineReply.{LineReply}
 use Rattle.ilp_connector.specs.declared.reply.LineReply.TheVariants as replies
 use Rattle.ilp_connector.specs.declared.runner.ReplayFault.{ReplayFault}
 use Rattle.ilp_connector.specs.declared.runner.ReplayFault.TheVariants as replay_fault
-use Rattle.ilp_connector.specs.Refusals.{packet_refusal}
-use Rattle.ilp_connector.specs.Script.{most_script, lines_of, Form, hold, answer, expire, report, silent, bad, form_of}
+use Rattle.ilp_connector.specs.Refusals.{packet_refusal, quantity_refusal, credit_refusal, ask_refusal}
+use Rattle.ilp_connector.specs.Script.{most_script, lines_of, Form, hold, answer, expire, credit, ask, close, report, silent, bad, form_of}
 use Rattle.ilp_connector.specs.Text.{reply_text}
 
 -- ---- one line
@@ -43,6 +51,23 @@ answer_reply number (Err refused) = replies.NotOpen number refused.closer
 abbrev pub expire_reply : ℕ → Option ℕ → LineReply
 expire_reply entry (Some number) = replies.Answered number (outcome.Released entry cause.Late)
 expire_reply entry None = replies.NoneDue
+
+abbrev pub credit_reply : Result Kept CreditFault → LineReply
+credit_reply (Ok kept) = replies.Credited kept
+credit_reply (Err fault) = replies.Refused (credit_refusal fault)
+
+abbrev pub ask_reply : Result Asked AskFault → LineReply
+ask_reply (Ok asked) = replies.Asked asked
+ask_reply (Err fault) = replies.Refused (ask_refusal fault)
+
+-- the settlement is closed by this entry
+abbrev pub closed_reply : ℕ → EngineVerdict → ℕ → LineReply
+closed_reply number accepted entry = replies.Confirmed number entry
+closed_reply number rejected entry = replies.Undone number entry
+
+abbrev pub close_reply : ℕ → EngineVerdict → Result ℕ NotOpen → LineReply
+close_reply number verdict (Ok entry) = closed_reply number verdict entry
+close_reply number verdict (Err refused) = replies.NotOpen number refused.closer
 
 -- a packet of a peer, by the actor 0 and with memory granted: only a Prepare can be held
 abbrev pub hold_packet : PlainBook → ℤ → ℕ → Result PlainPacket PacketFault → Made LineReply
@@ -65,6 +90,17 @@ answer_with book now number reply = replied_as (answer_reply number) (answer_ste
 abbrev pub expire_due : PlainBook → ℤ → Made LineReply
 expire_due book now = replied_as (expire_reply (length book.entries)) (expire_step book (by 0 now))
 
+-- a settlement from a peer, if its JSON is a quantity
+abbrev pub credit_json : PlainBook → ℤ → ℕ → List ℕ → Result Quantity QuantityFault → Made LineReply
+credit_json book now peer key (Ok quantity) = replied_as credit_reply (credit_step book (by 0 now) (payment peer key quantity) granted)
+credit_json book now peer key (Err fault) = says (replies.Refused (quantity_refusal fault))
+
+abbrev pub ask_due : PlainBook → ℤ → ℕ → Made LineReply
+ask_due book now peer = replied_as ask_reply (ask_step book (by 0 now) peer granted)
+
+abbrev pub close_with : PlainBook → ℤ → ℕ → EngineVerdict → Made LineReply
+close_with book now number verdict = replied_as (close_reply number verdict) (close_step book (by 0 now) number verdict)
+
 -- hexadecimal text that is none makes a bad line
 abbrev pub hold_text : PlainBook → ℤ → ℕ → Result (List ℕ) FromHexError → Made LineReply
 hold_text book now peer (Ok octets) = hold_packet book now peer (reading octets)
@@ -80,6 +116,9 @@ form_step book (hold now peer packet) = hold_text book now peer (decode_of packe
 form_step book (answer now number (Some packet)) = answer_text book now number (decode_of packet)
 form_step book (answer now number None) = answer_with book now number peer_reply.NoReply
 form_step book (expire now) = expire_due book now
+form_step book (credit now peer key json) = credit_json book now peer key (quantity_in json)
+form_step book (ask now peer) = ask_due book now peer
+form_step book (close now number verdict) = close_with book now number verdict
 form_step book report = says replies.Report
 form_step book silent = says replies.Silent
 form_step book bad = says replies.BadLine

@@ -1,5 +1,5 @@
 -- What each reply prints.
-use Rattle.std.specs.Prelude.{ℕ, ◌+◌, List, [], ◌∷◌, ◌++◌, Option, Some, None, codes}
+use Rattle.std.specs.Prelude.{ℕ, ◌+◌, List, [], ◌∷◌, ◌++◌, if◌then◌else◌, Option, Some, None, codes}
 use Rattle.std.specs.Fmt.{decimal}
 use Rattle.hex.specs.Hex.{encode_lower}
 use Rattle.ilp_journal.specs.declared.entry.Cause.{Cause}
@@ -8,12 +8,13 @@ use Rattle.ilp_journal.specs.Journal.{Entries}
 use Rattle.ilp_journal.specs.Balance.{balance}
 use Rattle.ilp_accounts.specs.Configuration.{peer_at, peer_names}
 use Rattle.ilp_book.specs.declared.fault.HoldFault.{HoldFault}
+use Rattle.ilp_book.specs.declared.calls.Kept.{Kept}
 use Rattle.ilp_book.specs.declared.calls.Outcome.{Outcome}
 use Rattle.ilp_book.specs.declared.calls.Outcome.TheVariants as outcome
 use Rattle.ilp_book.specs.Book.{PlainBook}
 use Rattle.ilp_book.specs.RejectCode.{reject_code}
 use Rattle.ilp_connector.specs.declared.reply.LineReply.{LineReply}
-use Rattle.ilp_connector.specs.declared.reply.LineReply.TheVariants.{Silent, BadLine, BadPacket, Held, Rejected, Answered, NotOpen, NoneDue, Report}
+use Rattle.ilp_connector.specs.declared.reply.LineReply.TheVariants.{Silent, BadLine, BadPacket, Held, Rejected, Answered, NotOpen, NoneDue, Credited, Asked, Confirmed, Undone, Refused, Report}
 use Rattle.ilp_connector.specs.Refusals.{refusal_text, named_text, hold_refusal}
 use Rattle.ilp_connector.specs.Report.{report_line}
 
@@ -33,7 +34,11 @@ abbrev pub outcome_text : ℕ → Outcome → List ℕ
 outcome_text n (outcome.Fulfilled entry) = codes "entry " ++ (decimal entry ++ (codes " fulfilled " ++ (decimal n ++ codes "\n")))
 outcome_text n (outcome.Released entry cause) = codes "entry " ++ (decimal entry ++ (codes " released " ++ (decimal n ++ (codes " " ++ (cause_text cause ++ codes "\n")))))
 
--- the hold n is not open, for the entry that answered it, if one did
+-- a settlement is credited: now, or before by this entry
+abbrev pub credited_text : Kept → List ℕ
+credited_text kept = (if kept.fresh then codes "entry " else codes "kept ") ++ (decimal kept.number ++ (codes " credited " ++ (decimal kept.amount ++ codes "\n")))
+
+-- the hold or the settlement n is not open, for the entry that ended it, if one did
 abbrev pub not_open_text : ℕ → Option ℕ → List ℕ
 not_open_text n None = codes "not open " ++ (decimal n ++ codes "\n")
 not_open_text n (Some entry) = codes "not open " ++ (decimal n ++ (codes " by " ++ (decimal entry ++ codes "\n")))
@@ -57,4 +62,9 @@ reply_text book (Rejected fault) = rejected_text fault
 reply_text book (Answered hold outcome) = outcome_text hold outcome
 reply_text book (NotOpen hold closer) = not_open_text hold closer
 reply_text book NoneDue = codes "none due\n"
+reply_text book (Credited kept) = credited_text kept
+reply_text book (Asked asked) = codes "entry " ++ (decimal asked.number ++ (codes " asked " ++ (decimal asked.amount ++ codes "\n")))
+reply_text book (Confirmed number entry) = codes "entry " ++ (decimal entry ++ (codes " confirmed " ++ (decimal number ++ codes "\n")))
+reply_text book (Undone number entry) = codes "entry " ++ (decimal entry ++ (codes " undone " ++ (decimal number ++ codes "\n")))
+reply_text book (Refused refusal) = codes "refused " ++ (refusal_text refusal ++ codes "\n")
 reply_text book Report = balance_lines book.entries 0 (peer_names book.config.peers)

@@ -1,14 +1,16 @@
 //! What a line of a script asks for.
-ghost use Rattle.std.specs.Prelude.{◌≡◌, ◌<◌, ◌≤◌, ◌^◌, ◌∷◌, length, IfSome};
+ghost use Rattle.std.specs.Prelude.{◌≡◌, ◌<◌, ◌≤◌, ◌^◌, ◌∷◌, length, IfSome, option_map};
 ghost use Rattle.std.specs.Char.{is_ascii_digit};
 ghost use Rattle.std.specs.List.{list_all, slice_split};
 ghost use Rattle.ilp_accounts.specs.Configuration.{peer_names, place_named};
 ghost use Rattle.ilp_connector.specs.Script as script;
-ghost use Rattle.ilp_connector.specs.Script.{moment_digits, form_of, form_of_fields, is_space, is_printable, number_in};
+ghost use Rattle.ilp_book.specs.SettleStep.{verdict_of};
+ghost use Rattle.ilp_connector.specs.Script.{moment_digits, form_of, form_of_fields, fields_of, is_space, is_printable, number_in};
 ghost use Rattle.ilp_connector.specs.Seen.{form_seen, IsOfPeers, fields_after, field_list};
 
 use crate::lines::first_place;
 use ilp_accounts::Config;
+use ilp_journal::Key;
 use std::str;
 
 // The most digits of a moment.
@@ -17,8 +19,9 @@ const MOMENT_DIGITS: usize = 15;
 // The most digits of an entry's number.
 const ENTRY_DIGITS: usize = 9;
 
-/// What a line asks for. Packets are hexadecimal text, which is decoded later.
-#[derive(Clone, Copy)]
+/// What a line asks for. Packets are hexadecimal text, which is decoded later, and quantities are
+/// JSON, which is read later.
+#[derive(Drop)]
 pub(crate) enum Form<'a> {
     Hold {
         now: i64,
@@ -33,18 +36,34 @@ pub(crate) enum Form<'a> {
     Expire {
         now: i64,
     },
+    Credit {
+        now: i64,
+        peer: u32,
+        key: Key,
+        json: &'a [u8],
+    },
+    Ask {
+        now: i64,
+        peer: u32,
+    },
+    Close {
+        now: i64,
+        number: u32,
+        accepted: bool,
+    },
     Report,
     Silent,
     Bad,
 }
 
-// The fields of a line, as far as a form has as many.
+// The fields of a line, of which the fifth is the rest of the line.
 #[derive(Clone, Copy)]
 enum Fields<'a> {
     One(&'a [u8]),
     Two(&'a [u8], &'a [u8]),
+    Three(&'a [u8], &'a [u8], &'a [u8]),
     Four(&'a [u8], &'a [u8], &'a [u8], &'a [u8]),
-    Other,
+    Five(&'a [u8], &'a [u8], &'a [u8], &'a [u8], &'a [u8]),
 }
 
 /// What a line asks for.
@@ -66,17 +85,24 @@ pub(crate) fn parse<'a>(config: &Config, line: &'a [u8]) -> Form<'a>
 // What the fields of a line ask for.
 fn form_of_fields<'a>(config: &Config, line: &'a [u8]) -> Form<'a>
     ensures form { form_seen result
-        ≡ form_of_fields (peer_names config.now.peers) (slice_split is_space line.now) }
+        ≡ form_of_fields (peer_names config.now.peers) (fields_of line.now) }
     ensures known { IsOfPeers (length config.now.peers) result }
 {
     match split_fields(line) {
         Fields::One(word) if word == b"report".as_slice() => Form::Report,
         Fields::Two(word, now) if word == b"expire".as_slice() => expire_form(now),
+        Fields::Three(word, now, peer) if word == b"ask".as_slice() => ask_form(config, now, peer),
         Fields::Four(word, now, peer, packet) if word == b"hold".as_slice() => {
             hold_form(config, now, peer, packet)
         }
         Fields::Four(word, now, number, packet) if word == b"answer".as_slice() => {
             answer_form(now, number, packet)
+        }
+        Fields::Four(word, now, number, verdict) if word == b"close".as_slice() => {
+            close_form(now, number, verdict)
+        }
+        Fields::Five(word, now, peer, key, json) if word == b"credit".as_slice() => {
+            credit_form(config, now, peer, key, json)
         }
         _ => Form::Bad,
     }
@@ -148,9 +174,91 @@ fn answer_form<'a>(now: &[u8], number: &[u8], packet: &'a [u8]) -> Form<'a>
     }
 }
 
-// Cuts a line at its spaces.
+// A settlement from a peer.
+fn credit_form<'a>(config: &Config, now: &[u8], peer: &[u8], key: &[u8], json: &'a [u8]) -> Form<'a>
+    ensures form { form_seen result ≡ script.credit_form (script.moment_in now.now)
+        (place_named (peer_names config.now.peers) peer.now) (script.key_in key.now) json.now }
+    ensures known { IsOfPeers (length config.now.peers) result }
+{
+    let Some(now) = number_in(now, MOMENT_DIGITS) else {
+        return Form::Bad;
+    };
+    let Some(peer) = peer_named(config, peer) else {
+        return Form::Bad;
+    };
+    match key_in(key) {
+        Some(key) => Form::Credit {
+            now: now as i64,
+            peer,
+            key,
+            json,
+        },
+        None => Form::Bad,
+    }
+}
+
+// The key that a text is.
+fn key_in(text: &[u8]) -> Option<Key>
+    ensures { result ≡ script.key_in text.now }
+{
+    Key::new(text)
+}
+
+// A settlement to a peer.
+fn ask_form<'a>(config: &Config, now: &[u8], peer: &[u8]) -> Form<'a>
+    ensures form { form_seen result ≡ script.ask_form (script.moment_in now.now)
+        (place_named (peer_names config.now.peers) peer.now) }
+    ensures known { IsOfPeers (length config.now.peers) result }
+{
+    let Some(now) = number_in(now, MOMENT_DIGITS) else {
+        return Form::Bad;
+    };
+    match peer_named(config, peer) {
+        Some(peer) => Form::Ask {
+            now: now as i64,
+            peer,
+        },
+        None => Form::Bad,
+    }
+}
+
+// What became of a settlement.
+fn close_form<'a>(now: &[u8], number: &[u8], verdict: &[u8]) -> Form<'a>
+    ensures { form_seen result ≡ script.close_form (script.moment_in now.now)
+        (script.entry_in number.now) (script.verdict_in verdict.now) }
+{
+    let Some(now) = number_in(now, MOMENT_DIGITS) else {
+        return Form::Bad;
+    };
+    let Some(number) = number_in(number, ENTRY_DIGITS) else {
+        return Form::Bad;
+    };
+    match verdict_in(verdict) {
+        Some(accepted) => Form::Close {
+            now: now as i64,
+            number: number as u32,
+            accepted,
+        },
+        None => Form::Bad,
+    }
+}
+
+// Whether an engine accepted a settlement.
+fn verdict_in(text: &[u8]) -> Option<bool>
+    ensures { option_map verdict_of result ≡ script.verdict_in text.now }
+{
+    if text == b"yes".as_slice() {
+        Some(true)
+    } else if text == b"no".as_slice() {
+        Some(false)
+    } else {
+        None
+    }
+}
+
+// Cuts a line at its first four spaces.
 fn split_fields(line: &[u8]) -> Fields<'_>
-    ensures { field_list (slice_split is_space line.now) result }
+    ensures { field_list (fields_of line.now) result }
 {
     let (first, rest) = cut(line);
     let Some(rest) = rest else {
@@ -162,12 +270,12 @@ fn split_fields(line: &[u8]) -> Fields<'_>
     };
     let (third, rest) = cut(rest);
     let Some(rest) = rest else {
-        return Fields::Other;
+        return Fields::Three(first, second, third);
     };
     let (fourth, rest) = cut(rest);
     match rest {
         None => Fields::Four(first, second, third, fourth),
-        Some(_) => Fields::Other,
+        Some(rest) => Fields::Five(first, second, third, fourth, rest),
     }
 }
 

@@ -2,9 +2,11 @@
 ghost use Rattle.std.specs.Prelude.{◌≡◌, IfOk, OnErr, MatchOption, IsErr, Ok};
 ghost use Rattle.hex.specs.Hex.{decode_of};
 ghost use Rattle.ilp_packet.specs.Reading.{reading};
+ghost use Rattle.ilp_settlement.specs.Quantity.{quantity_in};
 ghost use Rattle.ilp_book.specs.Book.{granted, Does};
 ghost use Rattle.ilp_book.specs.Configured.{IsKnown};
 ghost use Rattle.ilp_book.specs.HoldStep.{growth_of};
+ghost use Rattle.ilp_book.specs.SettleStep.{credit_growth, ask_growth, verdict_of};
 ghost use Rattle.ilp_connector.specs.Replay as replays;
 ghost use Rattle.ilp_connector.specs.Replay.{line_step};
 
@@ -12,9 +14,12 @@ use crate::form::{Form, parse};
 use crate::refusal::Refusal;
 use crate::reply::LineReply;
 use hex::FromHexError;
-use ilp_book::{Book, Held, HoldFault, NotOpen, Outcome, PeerReply};
-use ilp_journal::Cause;
+use ilp_book::{
+    AskFault, Asked, Book, CreditFault, Held, HoldFault, Kept, NotOpen, Outcome, PeerReply,
+};
+use ilp_journal::{Cause, Key};
 use ilp_packet::Packet;
+use ilp_settlement::{Quantity, QuantityFault};
 use std::alloc::{AllocError, Allocator};
 
 // The actor that a script's entries are booked by.
@@ -44,6 +49,18 @@ pub(crate) fn run_line<A: Allocator + Copy>(
             packet: None,
         } => Ok(answer(book, now, number, PeerReply::NoReply)),
         Form::Expire { now } => Ok(expire(book, now)),
+        Form::Credit {
+            now,
+            peer,
+            key,
+            json,
+        } => run_credit(book, now, peer, key, json),
+        Form::Ask { now, peer } => run_ask(book, now, peer),
+        Form::Close {
+            now,
+            number,
+            accepted,
+        } => Ok(close(book, now, number, accepted)),
         Form::Report => Ok(LineReply::Report),
         Form::Silent => Ok(LineReply::Silent),
         Form::Bad => Ok(LineReply::BadLine),
@@ -115,10 +132,7 @@ fn answer<A: Allocator>(book: &mut Book<A>, now: i64, number: u32, reply: PeerRe
             hold: number,
             outcome,
         },
-        Err(NotOpen { closer }) => LineReply::NotOpen {
-            hold: number,
-            closer,
-        },
+        Err(NotOpen { closer }) => LineReply::NotOpen { number, closer },
     }
 }
 
@@ -136,6 +150,74 @@ fn expire<A: Allocator>(book: &mut Book<A>, now: i64) -> LineReply
             },
         },
         None => LineReply::NoneDue,
+    }
+}
+
+// A settlement from a peer, as JSON, which is read on the heap of the book's configuration.
+fn run_credit<A: Allocator>(
+    book: &mut Book<A>,
+    now: i64,
+    peer: u32,
+    key: Key,
+    json: &[u8],
+) -> Result<LineReply, AllocError>
+    requires known { IsKnown book.old.config peer }
+    ensures step { IfOk result (λ reply. Does book.old book.new reply
+        (replays.credit_json book.old now peer key (quantity_in json.now))) }
+    ensures err { OnErr result (book.new ≡ book.old) }
+{
+    match Quantity::read(book.config().allocator(), json) {
+        Ok(quantity) => credit_reply(book.credit(ACTOR, peer, key, &quantity, now)),
+        Err(QuantityFault::Memory) => Err(AllocError),
+        Err(fault) => Ok(LineReply::Refused(Refusal::from(fault))),
+    }
+}
+
+// What is replied to a settlement from a peer. Want of memory is no reply.
+fn credit_reply(outcome: Result<Kept, CreditFault>) -> Result<LineReply, AllocError>
+    ensures reply { IfOk result (λ reply. reply ≡ replays.credit_reply outcome) }
+    ensures granted { IfOk result (λ _. credit_growth outcome ≡ granted) }
+    ensures denied { OnErr result (IsErr outcome) }
+{
+    match outcome {
+        Ok(kept) => Ok(LineReply::Credited(kept)),
+        Err(CreditFault::Memory) => Err(AllocError),
+        Err(fault) => Ok(LineReply::Refused(Refusal::from(fault))),
+    }
+}
+
+// A settlement to a peer.
+fn run_ask<A: Allocator>(book: &mut Book<A>, now: i64, peer: u32) -> Result<LineReply, AllocError>
+    requires known { IsKnown book.old.config peer }
+    ensures step { IfOk result (λ reply. Does book.old book.new reply
+        (replays.ask_due book.old now peer)) }
+    ensures err { OnErr result (book.new ≡ book.old) }
+{
+    ask_reply(book.ask(ACTOR, peer, now))
+}
+
+// What is replied to a settlement to a peer. Want of memory is no reply.
+fn ask_reply(outcome: Result<Asked, AskFault>) -> Result<LineReply, AllocError>
+    ensures reply { IfOk result (λ reply. reply ≡ replays.ask_reply outcome) }
+    ensures granted { IfOk result (λ _. ask_growth outcome ≡ granted) }
+    ensures denied { OnErr result (IsErr outcome) }
+{
+    match outcome {
+        Ok(asked) => Ok(LineReply::Asked(asked)),
+        Err(AskFault::Memory) => Err(AllocError),
+        Err(fault) => Ok(LineReply::Refused(Refusal::from(fault))),
+    }
+}
+
+// What became of a settlement to a peer.
+fn close<A: Allocator>(book: &mut Book<A>, now: i64, number: u32, accepted: bool) -> LineReply
+    ensures step { Does book.old book.new result
+        (replays.close_with book.old now number (verdict_of accepted)) }
+{
+    match book.settle_close(ACTOR, number, accepted, now) {
+        Ok(entry) if accepted => LineReply::Confirmed { number, entry },
+        Ok(entry) => LineReply::Undone { number, entry },
+        Err(NotOpen { closer }) => LineReply::NotOpen { number, closer },
     }
 }
 

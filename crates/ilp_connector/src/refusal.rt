@@ -4,8 +4,9 @@ ghost use Rattle.ilp_connector.specs.Refusals.{refusal_number, refusal_name};
 
 use ilp_accounts::{ConfigFault, Field};
 use ilp_assets::QuoteFault;
-use ilp_book::HoldFault;
+use ilp_book::{AskFault, CreditFault, HoldFault};
 use ilp_packet::PacketFault;
+use ilp_settlement::QuantityFault;
 use std::error::Error;
 use std::fmt;
 
@@ -65,6 +66,14 @@ pub enum Refusal {
     DoubleRoute,
     /// The levels of a peer are out of order.
     BadLevels,
+    /// A quantity is no JSON object.
+    NotJson,
+    /// A quantity has no amount.
+    BadAmount,
+    /// A quantity has no scale.
+    BadScale,
+    /// A settlement is more than 64 bits of the peer's asset.
+    TooLarge,
     /// A Prepare's amount is greater than this, the most that its sender may send.
     AmountTooLarge { max: u64 },
     /// A Prepare's destination is routed to no peer.
@@ -83,6 +92,13 @@ pub enum Refusal {
     BelowLeast { balance: i128 },
     /// A growth of memory was denied.
     Memory,
+    /// A key names another settlement, which this entry credited.
+    KeyTaken { kept: u32 },
+    /// A settlement is not due: the peer's balance, which is this, is below its threshold, or it has
+    /// none.
+    NotDue { balance: i128 },
+    /// A settlement to the peer, which is this, is open already.
+    StillOpen { number: u32, amount: u64 },
     /// A read failed.
     ReadFault,
     /// A write failed, or took no octet.
@@ -123,6 +139,10 @@ impl Refusal {
             Refusal::DoubleToken => 25,
             Refusal::DoubleRoute => 26,
             Refusal::BadLevels => 27,
+            Refusal::NotJson => 31,
+            Refusal::BadAmount => 32,
+            Refusal::BadScale => 33,
+            Refusal::TooLarge => 34,
             Refusal::AmountTooLarge { .. } => 35,
             Refusal::NoRoute => 36,
             Refusal::BackToSender => 37,
@@ -132,6 +152,9 @@ impl Refusal {
             Refusal::TotalFull => 42,
             Refusal::BelowLeast { .. } => 43,
             Refusal::Memory => 44,
+            Refusal::KeyTaken { .. } => 46,
+            Refusal::NotDue { .. } => 47,
+            Refusal::StillOpen { .. } => 48,
             Refusal::ReadFault => 61,
             Refusal::WriteFault => 64,
             Refusal::ScriptTooLong => 65,
@@ -169,6 +192,10 @@ impl Refusal {
             Refusal::DoubleToken => "DoubleToken",
             Refusal::DoubleRoute => "DoubleRoute",
             Refusal::BadLevels => "BadLevels",
+            Refusal::NotJson => "NotJson",
+            Refusal::BadAmount => "BadAmount",
+            Refusal::BadScale => "BadScale",
+            Refusal::TooLarge => "TooLarge",
             Refusal::AmountTooLarge { .. } => "AmountTooLarge",
             Refusal::NoRoute => "NoRoute",
             Refusal::BackToSender => "BackToSender",
@@ -178,6 +205,9 @@ impl Refusal {
             Refusal::TotalFull => "TotalFull",
             Refusal::BelowLeast { .. } => "BelowLeast",
             Refusal::Memory => "Memory",
+            Refusal::KeyTaken { .. } => "KeyTaken",
+            Refusal::NotDue { .. } => "NotDue",
+            Refusal::StillOpen { .. } => "StillOpen",
             Refusal::ReadFault => "ReadFault",
             Refusal::WriteFault => "WriteFault",
             Refusal::ScriptTooLong => "ScriptTooLong",
@@ -185,8 +215,8 @@ impl Refusal {
     }
 }
 
-/// `NUMBER NAME`, and after a space what it names: the key of a field, the greatest amount, or the
-/// balance.
+/// `NUMBER NAME`, and each after a space what it names: the key of a field, the greatest amount, the
+/// balance, the entry of a key, or the number and the amount of a settlement.
 impl fmt::Display for Refusal {
     ghost use Rattle.std.specs.Prelude.{Some};
     ghost use Rattle.ilp_connector.specs.Refusals.{refusal_text};
@@ -204,7 +234,7 @@ impl fmt::Display for Refusal {
 #[derive(Clone, Copy)]
 pub(crate) struct Named(pub Refusal);
 
-/// `NAME`, and after a space what it names.
+/// `NAME`, and each after a space what it names.
 impl fmt::Display for Named {
     ghost use Rattle.std.specs.Prelude.{Some};
     ghost use Rattle.ilp_connector.specs.Refusals.{named_text};
@@ -219,7 +249,11 @@ impl fmt::Display for Named {
                 write!(f, "{name} {key}")
             }
             Refusal::AmountTooLarge { max } => write!(f, "{name} {max}"),
-            Refusal::BelowLeast { balance } => write!(f, "{name} {balance}"),
+            Refusal::BelowLeast { balance } | Refusal::NotDue { balance } => {
+                write!(f, "{name} {balance}")
+            }
+            Refusal::KeyTaken { kept } => write!(f, "{name} {kept}"),
+            Refusal::StillOpen { number, amount } => write!(f, "{name} {number} {amount}"),
             _ => write!(f, "{name}"),
         }
     }
@@ -295,6 +329,57 @@ impl From<HoldFault> for Refusal {
             HoldFault::TotalFull => Refusal::TotalFull,
             HoldFault::BelowLeast { balance } => Refusal::BelowLeast { balance },
             HoldFault::Memory => Refusal::Memory,
+        }
+    }
+}
+
+/// Octets that are no quantity.
+impl From<QuantityFault> for Refusal {
+    ghost use Rattle.std.specs.Prelude.{◌≡◌};
+    ghost use Rattle.ilp_connector.specs.Refusals.{quantity_refusal};
+
+    ghost from_gives = { λ fault result. result ≡ quantity_refusal fault };
+
+    fn from(fault: QuantityFault) -> Refusal {
+        match fault {
+            QuantityFault::NotJson => Refusal::NotJson,
+            QuantityFault::BadAmount => Refusal::BadAmount,
+            QuantityFault::BadScale => Refusal::BadScale,
+            QuantityFault::Memory => Refusal::Memory,
+        }
+    }
+}
+
+/// A settlement from a peer that is not credited.
+impl From<CreditFault> for Refusal {
+    ghost use Rattle.std.specs.Prelude.{◌≡◌};
+    ghost use Rattle.ilp_connector.specs.Refusals.{credit_refusal};
+
+    ghost from_gives = { λ fault result. result ≡ credit_refusal fault };
+
+    fn from(fault: CreditFault) -> Refusal {
+        match fault {
+            CreditFault::TooLarge => Refusal::TooLarge,
+            CreditFault::KeyTaken { kept } => Refusal::KeyTaken { kept },
+            CreditFault::Full => Refusal::Full,
+            CreditFault::Memory => Refusal::Memory,
+        }
+    }
+}
+
+/// A settlement to a peer that is not asked for.
+impl From<AskFault> for Refusal {
+    ghost use Rattle.std.specs.Prelude.{◌≡◌};
+    ghost use Rattle.ilp_connector.specs.Refusals.{ask_refusal};
+
+    ghost from_gives = { λ fault result. result ≡ ask_refusal fault };
+
+    fn from(fault: AskFault) -> Refusal {
+        match fault {
+            AskFault::StillOpen { number, amount } => Refusal::StillOpen { number, amount },
+            AskFault::NotDue { balance } => Refusal::NotDue { balance },
+            AskFault::Full => Refusal::Full,
+            AskFault::Memory => Refusal::Memory,
         }
     }
 }

@@ -7,7 +7,7 @@ ghost use Rattle.ilp_connector.specs.Text.{reply_text, balance_lines};
 use crate::columns::report_line;
 use crate::refusal::{Named, Refusal};
 use ilp_accounts::Config;
-use ilp_book::{Book, Held, HoldFault, Outcome};
+use ilp_book::{Asked, Book, Held, HoldFault, Kept, Outcome};
 use ilp_journal::Cause;
 use std::alloc::{AllocError, Allocator};
 use std::str;
@@ -28,9 +28,19 @@ pub(crate) enum LineReply {
     /// A hold ended.
     Answered { hold: u32, outcome: Outcome },
     /// Nothing is open under the number.
-    NotOpen { hold: u32, closer: Option<u32> },
+    NotOpen { number: u32, closer: Option<u32> },
     /// A sweep found nothing due.
     NoneDue,
+    /// A settlement from a peer is credited.
+    Credited(Kept),
+    /// A settlement to a peer is asked for.
+    Asked(Asked),
+    /// A settlement to a peer was made.
+    Confirmed { number: u32, entry: u32 },
+    /// A settlement to a peer was not made.
+    Undone { number: u32, entry: u32 },
+    /// A settlement is refused.
+    Refused(Refusal),
     /// The balances are asked for.
     Report,
 }
@@ -51,8 +61,17 @@ pub(crate) fn reply_text<A: Allocator + Copy>(
         LineReply::Held(held) => held_text(alloc, book, held),
         LineReply::Rejected(fault) => rejected_text(alloc, fault),
         LineReply::Answered { hold, outcome } => outcome_text(alloc, hold, outcome),
-        LineReply::NotOpen { hold, closer } => not_open_text(alloc, hold, closer),
+        LineReply::NotOpen { number, closer } => not_open_text(alloc, number, closer),
         LineReply::NoneDue => String::from_str(alloc, "none due\n"),
+        LineReply::Credited(kept) => credited_text(alloc, kept),
+        LineReply::Asked(Asked { number, amount }) => {
+            format!(in alloc; "entry {number} asked {amount}\n")
+        }
+        LineReply::Confirmed { number, entry } => {
+            format!(in alloc; "entry {entry} confirmed {number}\n")
+        }
+        LineReply::Undone { number, entry } => format!(in alloc; "entry {entry} undone {number}\n"),
+        LineReply::Refused(refusal) => format!(in alloc; "refused {refusal}\n"),
         LineReply::Report => report_text(alloc, book),
     }
 }
@@ -128,14 +147,27 @@ fn cause_text<A: Allocator + Copy>(alloc: A, cause: Cause) -> Result<String<A>, 
 // Nothing is open under a number.
 fn not_open_text<A: Allocator + Copy>(
     alloc: A,
-    hold: u32,
+    number: u32,
     closer: Option<u32>,
 ) -> Result<String<A>, AllocError>
-    ensures { IfOk result (λ text. string_bytes text ≡ texts.not_open_text hold closer) }
+    ensures { IfOk result (λ text. string_bytes text ≡ texts.not_open_text number closer) }
 {
     match closer {
-        None => format!(in alloc; "not open {hold}\n"),
-        Some(entry) => format!(in alloc; "not open {hold} by {entry}\n"),
+        None => format!(in alloc; "not open {number}\n"),
+        Some(entry) => format!(in alloc; "not open {number} by {entry}\n"),
+    }
+}
+
+// A settlement from a peer is credited, now or before.
+fn credited_text<A: Allocator + Copy>(alloc: A, kept: Kept) -> Result<String<A>, AllocError>
+    ensures { IfOk result (λ text. string_bytes text ≡ texts.credited_text kept) }
+{
+    let number = kept.number;
+    let amount = kept.amount;
+    if kept.fresh {
+        format!(in alloc; "entry {number} credited {amount}\n")
+    } else {
+        format!(in alloc; "kept {number} credited {amount}\n")
     }
 }
 
