@@ -1,5 +1,5 @@
 -- The moment of a call, and entries that lower no balance and open nothing.
-use Rattle.std.proofs.Common.{◌≡◌, ℕ, ◌+◌, ◌≤◌, ℤ, pos, ◌+ℤ◌, length, arith}
+use Rattle.std.proofs.Common.{◌≡◌, ℕ, ◌+◌, ◌≤◌, ℤ, pos, ◌+ℤ◌, length, sym, subst, arith}
 use Rattle.std.specs.Prelude.{◌≤ℤ◌}
 use Rattle.std.specs.Int.{int_min, int_max}
 use Rattle.std.proofs.lemmas.Int.{ints, clamps}
@@ -12,9 +12,9 @@ use Rattle.ilp_journal.specs.Balance.{balance, fall}
 use Rattle.ilp_journal.specs.TrialBalance.{amount_in, amount_out}
 use Rattle.ilp_book.specs.Configured.{peer_assets}
 use Rattle.ilp_terms.specs.Expiry.{last_of_all}
-use Rattle.ilp_book.specs.Book.{PlainBook, By, entry_by}
+use Rattle.ilp_book.specs.Book.{PlainBook, By, entry_by, moment_at, pushed}
 use Rattle.ilp_book.specs.Lawful.{IsLawful, IsWithinLimits, HasOutcome, IsGoodHold, IsGoodCredit, IsGoodAsk, IsInTime}
-use Rattle.ilp_book.proofs.LawfulGrowth.{Admits, limits_now, last_in_time}
+use Rattle.ilp_book.proofs.LawfulGrowth.{Admits, lawful_push, limits_now, last_in_time}
 
 -- an entry at the moment of a call is in time
 pub in_time : (book : PlainBook) (caller : By) (w : What) → IsLawful book → IsInTime book.entries (entry_by book caller w)
@@ -51,3 +51,9 @@ calm book e lawful answers closings outcomes holds credits asks moments falls no
   where
     same : (b l : ℤ) → l ≤ℤ b → (l +ℤ pos 0) ≤ℤ b
     same b l t = omega (arith, ints)
+
+-- an entry that the rules admit keeps the book lawful, where the moment of its call is known by an equation
+pub admitted_at : (book : PlainBook) (caller : By) (w : What) (m : ℤ) → IsLawful book → Admits book (entry_by book caller w) → m ≡ moment_at book.entries caller.now
+    → IsLawful (pushed book (record { moment = m; actor = caller.actor; what = w }))
+admitted_at book caller w m lawful admits at_moment =
+    subst (λ t. IsLawful (pushed book (record { moment = t; actor = caller.actor; what = w }))) (sym at_moment) (lawful_push book _ lawful admits)

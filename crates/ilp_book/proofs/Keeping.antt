@@ -1,5 +1,5 @@
 -- What a book keeps as its journal grows.
-use Rattle.std.proofs.Common.{◌≡◌, ℕ, zero, suc, ◌+◌, ◌-◌, ◌<◌, ◌≤◌, ℤ, pos, [], ◌∷◌, ◌++◌, length, Some, None, refl, ap, ◌∙◌, arith}
+use Rattle.std.proofs.Common.{◌≡◌, ℕ, zero, suc, ◌+◌, ◌-◌, ◌<◌, ◌≤◌, ℤ, pos, [], ◌∷◌, ◌++◌, length, Some, None, refl, ap, ◌∙◌, arith, length-append}
 use Rattle.std.specs.Prelude.{slice_get, fold}
 use Rattle.ilp_accounts.specs.Configuration.{Configuration}
 use Rattle.ilp_accounts.specs.Valid.{IsValid}
@@ -14,7 +14,7 @@ use Rattle.ilp_journal.proofs.Bases.{base_zero, base-push}
 use Rattle.ilp_book.specs.Book.{PlainBook, pushed}
 use Rattle.ilp_book.specs.Lawful.{IsLawful}
 use Rattle.ilp_book.specs.Parts.{AreParts, book_of}
-use Rattle.ilp_book.proofs.LawfulGrowth.{Admits, lawful_push, lawful_empty, limits_now}
+use Rattle.ilp_book.proofs.LawfulGrowth.{lawful_empty, limits_now}
 
 -- the parts of a book of no entries
 pub parts_new : (C : Configuration) (journal : Booked) → IsValid C → journal.entries ≡ [] → journal.limit ≡ C.settings.journal → AreParts C 0 journal 0
@@ -89,18 +89,35 @@ parts_closed C base before after open_now e parts lawful one grown used limit =
       room = omega (arith, used, parts.room);
     }
 
--- ---- what does not end anything
+-- ---- what ends nothing
 
--- the parts of the book after an entry that ends nothing: what it opens is counted, and has its room
-pub parts_grown : (C : Configuration) (base : ℕ) (before after : Booked) (open_now : ℕ) (e : Entry) → closing e.what ≡ 0 → AreParts C base before open_now → Admits (book_of C base before) e
-    → after.entries ≡ before.entries ++ e ∷ [] → open_now + opening e.what ≤ after.spare → after.limit ≡ before.limit → AreParts C base after (open_now + opening e.what)
-parts_grown C base before after open_now e none parts admits grown room limit =
-    let opens = open_count-push before.entries e parts.lawful.answers parts.lawful.closings admits.answers admits.closings in
+-- it leaves so many more open as it opens
+grown_opens : (book : PlainBook) (e : Entry) → IsLawful book → IsLawful (pushed book e) → closing e.what ≡ 0 → open_count (book.entries ++ e ∷ []) ≡ open_count book.entries + opening e.what
+grown_opens book e before after none =
+    let answers = Each-parts AnswersOnce book.entries e after.answers in
+    let closes = Each-parts ClosesOnce book.entries e after.closings in
+    omega (arith, open_count-push book.entries e before.answers before.closings answers.1 closes.1, none)
+
+-- so the entry fits, and what is open then is counted
+pub grown_fits : (C : Configuration) (base : ℕ) (journal : Booked) (open_now opened : ℕ) (e : Entry) → AreParts C base journal open_now → IsLawful (pushed (book_of C base journal) e) → closing e.what ≡ 0 → opening e.what ≡ opened
+    → (length journal.entries < journal.limit) × (open_now + opened ≤ journal.limit)
+grown_fits C base journal open_now opened e parts after none opens =
+    let book = book_of C base journal in
+    let grown = grown_opens book e parts.lawful after none in
+    let limits = (limits_now (pushed book e) after).room in
+    let longer = length-append journal.entries (e ∷ []) in
+    (omega (arith, limits, longer, parts.limited), omega (arith, grown, opens, parts.counted, limits, parts.limited))
+
+-- the parts of the book after it
+pub parts_grown : (C : Configuration) (base : ℕ) (before after : Booked) (open_now opened : ℕ) (e : Entry) → AreParts C base before open_now → IsLawful (pushed (book_of C base before) e) → closing e.what ≡ 0 → opening e.what ≡ opened
+    → after.entries ≡ before.entries ++ e ∷ [] → open_now + opened ≤ after.spare → after.limit ≡ before.limit → AreParts C base after (open_now + opened)
+parts_grown C base before after open_now opened e parts lawful none opens grown room limit =
+    let counted = grown_opens (book_of C base before) e parts.lawful lawful none in
     record {
       valid = parts.valid;
-      lawful = rw grown (lawful_push (book_of C base before) e parts.lawful admits);
+      lawful = rw grown lawful;
       opened = rw grown (base-push before.entries e base parts.opened);
       limited = limit ∙ parts.limited;
-      counted = rw grown (omega (arith, opens, none, parts.counted));
+      counted = rw grown (omega (arith, counted, opens, parts.counted));
       room = room;
     }

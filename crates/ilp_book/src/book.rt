@@ -1,14 +1,14 @@
 //! The book: what was booked by a configuration, and the calls that book more.
 mod settling;
 
-ghost use Rattle.std.specs.Prelude.{◌≡◌, ℕ, ◌^◌, ◌<◌, ◌≤◌, pos, ◌≤ℤ◌, ◌+ℤ◌, ◌-ℤ◌, int_lt, length, Option, IfOk, OnErr, slice_get};
+ghost use Rattle.std.specs.Prelude.{◌≡◌, ℕ, ◌^◌, ◌<◌, ◌≤◌, pos, ◌≤ℤ◌, ◌+ℤ◌, ◌-ℤ◌, int_lt, length, Option, IfOk, OnOk, OnErr, slice_get};
 ghost use Rattle.std.specs.Option.{option_copied};
 ghost use Rattle.ilp_terms.specs.Expiry.{last_of_all};
 ghost use Rattle.ilp_lookup.specs.Route.{IsRoute};
 ghost use Rattle.ilp_packet.specs.Packet.{plain_prepare};
 ghost use Rattle.ilp_accounts.specs.Configuration.{peer_at};
 ghost use Rattle.ilp_accounts.specs.Valid.{IsValid};
-ghost use Rattle.ilp_journal.specs.Journal.{closing, last_moment, open_holds, open_hold_at, IsBase};
+ghost use Rattle.ilp_journal.specs.Journal.{opening, closing, last_moment, open_holds, open_hold_at, IsBase};
 ghost use Rattle.ilp_journal.specs.Balance.{balance};
 ghost use Rattle.ilp_journal.specs.Booked.{most_sum};
 ghost use Rattle.ilp_journal.specs.TrialBalance.{held, fees, taken, bought, sold, settled, total_in, total_out, IsBalanced};
@@ -347,16 +347,15 @@ impl<A: Allocator> Book<A> {
             return Err(HoldFault::BelowLeast { balance });
         }
         let moment = self.moment_at(now);
-        let number = self.journal.len();
-        let Ok(()) = self.journal.reserve(self.open_count as usize + 2) else {
-            return Err(HoldFault::Memory);
-        };
-        self.journal.push_reserved(Entry {
+        let what = What::Hold(hold);
+        let entry = Entry {
             moment,
             actor,
-            what: What::Hold(hold),
-        });
-        self.open_count += 1;
+            what,
+        };
+        let Ok(number) = self.append(entry, 1) else {
+            return Err(HoldFault::Memory);
+        };
         Ok(Held {
             number,
             to: hold.to,
@@ -369,6 +368,7 @@ impl<A: Allocator> Book<A> {
     fn has_room(&self, more: u32) -> bool
         ensures value { result ≡ has_room self.now more }
         ensures lawful { IsLawful self.now }
+        ensures valid { IsValid self.now.config }
     {
         let needed = u64::from(self.journal.len()) + u64::from(self.open_count) + u64::from(more);
         needed <= u64::from(self.config.journal())
@@ -413,16 +413,35 @@ impl<A: Allocator> Book<A> {
         })
     }
 
-    // Books the entry that ends what is open, a hold or a settlement, and tells its number.
-    fn close(&mut self, entry: Entry) -> u32
-        requires ends { closing entry.what ≡ 1 }
+    // Books an entry that ends nothing, with room for whatever ends what it opens and what is open
+    // already, and tells its number.
+    fn append(&mut self, entry: Entry, opened: u32) -> Result<u32, AllocError>
+        requires opened { opening entry.what ≡ opened }
+        requires ends_nothing { closing entry.what ≡ 0 }
         requires lawful { IsLawful (pushed self.old entry) }
-        ensures number { result ≡ length self.old.entries }
-        ensures book { self.new ≡ pushed self.old entry }
+        ensures number { IfOk result (λ number. number ≡ length self.old.entries) }
+        ensures book { OnOk result (self.new ≡ pushed self.old entry) }
+        ensures err { OnErr result (self.new ≡ self.old) }
         ensures lawful { IsLawful self.new }
     {
         let number = self.journal.len();
+        let needed = u64::from(self.open_count) + u64::from(opened) + 1;
+        self.journal.reserve(needed as usize)?;
         self.journal.push_reserved(entry);
+        self.open_count += opened;
+        Ok(number)
+    }
+
+    // Books the entry that ends what is open, a hold or a settlement, and tells its number.
+    fn close(&mut self, ending: Entry) -> u32
+        requires ends { closing ending.what ≡ 1 }
+        requires lawful { IsLawful (pushed self.old ending) }
+        ensures number { result ≡ length self.old.entries }
+        ensures book { self.new ≡ pushed self.old ending }
+        ensures lawful { IsLawful self.new }
+    {
+        let number = self.journal.len();
+        self.journal.push_reserved(ending);
         self.open_count -= 1;
         number
     }

@@ -118,16 +118,14 @@ impl<A: Allocator> Book<A> {
             return Err(CreditFault::Full);
         }
         let moment = self.moment_at(now);
-        let number = self.journal.len();
         let amount = credit.credited;
-        let Ok(()) = self.journal.reserve(self.open_count as usize + 1) else {
-            return Err(CreditFault::Memory);
-        };
-        self.journal.push_reserved(Entry {
+        let what = What::Credited(credit);
+        let entry = Entry {
             moment,
             actor,
-            what: What::Credited(credit),
-        });
+            what,
+        };
+        let number = self.append(entry, 0)?;
         Ok(Kept {
             number,
             amount,
@@ -147,16 +145,13 @@ impl<A: Allocator> Book<A> {
             return Err(AskFault::Full);
         }
         let moment = self.moment_at(now);
-        let number = self.journal.len();
-        let Ok(()) = self.journal.reserve(self.open_count as usize + 2) else {
-            return Err(AskFault::Memory);
-        };
-        self.journal.push_reserved(Entry {
+        let what = What::Asked(ask);
+        let entry = Entry {
             moment,
             actor,
-            what: What::Asked(ask),
-        });
-        self.open_count += 1;
+            what,
+        };
+        let number = self.append(entry, 1)?;
         Ok(Asked {
             number,
             amount: ask.amount,

@@ -1,41 +1,19 @@
-use Rattle.std.proofs.Common.{◌≡◌, ◌+◌, true, [], ◌∷◌, ◌++◌, ℤ, arith, sym, ap, ◌∙◌, subst, rules, refl}
+use Rattle.std.proofs.Common.{sym, ◌∙◌, rules, to_z, of_z, to_z-of_z}
 use Rattle.std.specs.Prelude.{FitsSigned}
 use Rattle.std.specs.Int.{w64}
-use Rattle.std.proofs.lemmas.Int.{to_z-of_z}
-use Rattle.ilp_journal.specs.declared.entry.Entry.{Entry}
 use Rattle.ilp_journal.specs.declared.entry.What.TheVariants as what
-use Rattle.ilp_journal.specs.Journal.{Entries}
-use Rattle.ilp_book.specs.Book.{PlainBook, by, moment_at, entry_by, has_room}
-use Rattle.ilp_book.specs.Lawful.{IsFreshCredit}
-use Rattle.ilp_book.specs.Parts.{AreParts, book_of}
+use Rattle.ilp_book.specs.Book.{by}
+use Rattle.ilp_book.proofs.InTime.{admitted_at}
 use Rattle.ilp_book.proofs.SettleSteps.{credit_admitted}
-use Rattle.ilp_book.proofs.Keeping.{parts_grown}
 use Rattle.ilp_book.proofs.book.Book.book_credit.Goals as goal
 
--- the credit fits, since nothing refused it
-pub invariant_of-self-2 : goal.invariant_of-self-2
-invariant_of-self-2 g c =
-    let C = c.self.inside.config in
-    let journal = c.self.inside.journal in
-    let book : PlainBook = book_of C c.self.inside.base journal in
-    let caller = by c.args.actor c.args.now in
-    let e : Entry = entry_by book caller (what.Credited c.args.credit) in
-    let back = sym c.self.view_is in
-    let Fresh : PlainBook → Type 0 = λ b. IsFreshCredit b.config b.entries c.args.credit in
-    let room : has_room book 1 ≡ true = ap (λ (b : PlainBook). has_room b 1) c.self.view_is ∙ sym c.has_room.ensures.value ∙ c.if-not-has_room.false in
-    let moment_fits : FitsSigned w64 c.moment_at-moment.result = search rules in
-    let now_fits : FitsSigned w64 c.args.now = search rules in
-    let moment = to_z-of_z w64 c.moment_at-moment.result moment_fits ∙ c.moment_at-moment.ensures.moment
-    ∙ ap (λ (t : ℤ). moment_at c.args.self.now.entries t) (to_z-of_z w64 c.args.now now_fits) ∙ ap (λ (b : PlainBook). moment_at b.entries c.args.now) back in
-    let grown : c.push_reserved.new.self.entries ≡ journal.entries ++ e ∷ [] = c.push_reserved.ensures.entries
-    ∙ ap (λ (t : ℤ). c.reserve.new.self.entries ++ record { moment = t; actor = c.args.actor; what = what.Credited c.args.credit } ∷ []) moment
-    ∙ ap (λ (es : Entries). es ++ e ∷ []) c.in-Ok.ensures.entries in
-    let same : c.self.inside.open_count + 0 ≡ c.self.inside.open_count = omega arith in
-    subst (AreParts C c.self.inside.base c.push_reserved.new.self) same
-    (parts_grown C c.self.inside.base journal c.push_reserved.new.self c.self.inside.open_count e refl c.self.invariant
-    (credit_admitted book caller c.args.credit c.self.invariant.lawful (subst Fresh back c.requires.fresh) room)
-    grown (omega (arith, c.in-Ok.ensures.ok, c.push_reserved.ensures.used)) (c.push_reserved.ensures.limit ∙ c.in-Ok.ensures.limit))
-
--- so the book that it leaves is lawful
-pub returns-clause-lawful : goal.returns-clause-lawful
-returns-clause-lawful g c = (invariant_of-self-2 g c).lawful
+-- the credit is admitted, since nothing refused it
+pub append-requires-clause-lawful : goal.append-requires-clause-lawful
+append-requires-clause-lawful g c =
+    let book = c.args.self.now in
+    let lawful = c.has_room.ensures.lawful in
+    let caller = by c.args.actor (to_z w64 (of_z w64 c.args.now)) in
+    let fits : FitsSigned w64 c.moment_at-moment.result = search rules in
+    admitted_at book caller (what.Credited c.args.credit) (to_z w64 (of_z w64 c.moment_at-moment.result)) lawful
+    (credit_admitted book caller c.args.credit lawful c.requires.fresh (sym c.has_room.ensures.value ∙ c.if-not-has_room.false))
+    (to_z-of_z fits ∙ c.moment_at-moment.ensures.moment)
