@@ -43,9 +43,9 @@ pub(crate) fn first_closing(entries: &[Entry], ask: u32) -> Option<u32>
     requires { length entries.now ≤ 2 ^ 32 }
     ensures { result ≡ closing_of entries.now ask }
 {
-    for (number, entry) in entries.iter().enumerate() {
+    for (place, entry) in entries.iter().enumerate() {
         if entry.what.closed() == Some(ask) {
-            return Some(number as u32);
+            return Some(place as u32);
         }
     }
     None

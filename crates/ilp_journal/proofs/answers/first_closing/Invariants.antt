@@ -5,5 +5,5 @@ use Rattle.ilp_journal.specs.Journal.{closed, closing_of, is_number}
 use Rattle.ilp_journal.proofs.answers.first_closing.Given as goal
 
 -- the first closing from here on is the first of all
-abbrev pub invariant-loop-number : goal.invariant-loop-number
-invariant-loop-number l = first_from (λ _ (e : Entry). is_number l.ask (closed e.what)) l.number (drop l.number l.entries) ≡ closing_of l.entries l.ask
+abbrev pub invariant-loop-place : goal.invariant-loop-place
+invariant-loop-place l = first_from (λ _ (e : Entry). is_number l.ask (closed e.what)) l.place (drop l.place l.entries) ≡ closing_of l.entries l.ask
