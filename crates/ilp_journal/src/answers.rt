@@ -1,9 +1,9 @@
-//! What stands under a number, and which entry ends it.
+//! Which hold stands under a number, and which entry answers it.
 
 ghost use Rattle.std.specs.Prelude.{◌≡◌, ◌^◌, ◌≤◌, length};
-ghost use Rattle.ilp_journal.specs.Journal.{answer_of, closing_of, hold_at, ask_at};
+ghost use Rattle.ilp_journal.specs.Journal.{answer_of, hold_at};
 
-use crate::entry::{Ask, Entry, Hold, What};
+use crate::entry::{Entry, Hold, What};
 
 /// The hold under a number.
 pub(crate) fn hold_at(entries: &[Entry], number: u32) -> Option<Hold>
@@ -11,16 +11,6 @@ pub(crate) fn hold_at(entries: &[Entry], number: u32) -> Option<Hold>
 {
     match &entries.get(number as usize)?.what {
         What::Hold(hold) => Some(*hold),
-        _ => None,
-    }
-}
-
-/// The settlement under a number.
-pub(crate) fn ask_at(entries: &[Entry], number: u32) -> Option<Ask>
-    ensures { result ≡ ask_at entries.now number }
-{
-    match &entries.get(number as usize)?.what {
-        What::Asked(ask) => Some(*ask),
         _ => None,
     }
 }
@@ -33,19 +23,6 @@ pub(crate) fn first_answer(entries: &[Entry], hold: u32) -> Option<u32>
     for (number, entry) in entries.iter().enumerate() {
         if entry.what.answered() == Some(hold) {
             return Some(number as u32);
-        }
-    }
-    None
-}
-
-/// The number of the first entry that closes the settlement.
-pub(crate) fn first_closing(entries: &[Entry], ask: u32) -> Option<u32>
-    requires { length entries.now ≤ 2 ^ 32 }
-    ensures { result ≡ closing_of entries.now ask }
-{
-    for (place, entry) in entries.iter().enumerate() {
-        if entry.what.closed() == Some(ask) {
-            return Some(place as u32);
         }
     }
     None

@@ -6,8 +6,9 @@ ghost use Rattle.ilp_journal.specs.Booked.{Booked, most_sum};
 ghost use Rattle.ilp_journal.specs.Journal.{answer_of, closing_of, hold_at, ask_at};
 ghost use Rattle.ilp_journal.specs.Balance.{balance};
 
-use crate::answers::{ask_at, first_answer, first_closing, hold_at};
+use crate::answers::{first_answer, hold_at};
 use crate::balances::owed;
+use crate::closings::{ask_at, first_closing};
 use crate::entry::{Ask, Entry, Hold};
 use std::alloc::{AllocError, Allocator, Global};
 use std::marker::Model;

@@ -3,6 +3,7 @@
 
 mod answers;
 mod balances;
+mod closings;
 mod entry;
 mod journal;
 mod key;
