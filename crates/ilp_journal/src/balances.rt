@@ -4,7 +4,8 @@ ghost use Rattle.std.specs.Prelude.{◌≡◌, ◌^◌, ◌≤◌, pos, ◌+ℤ�
 ghost use Rattle.ilp_journal.specs.Balance.{rise, fall, balance};
 ghost use Rattle.ilp_journal.specs.Booked.{most_sum};
 
-use crate::answers::{ask_at, hold_at};
+use crate::answers::hold_at;
+use crate::closings::ask_at;
 use crate::entry::{Entry, What};
 
 /// What the connector owes the peer.
