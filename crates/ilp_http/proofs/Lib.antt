@@ -1,0 +1,6 @@
+pub mod FrontLemmas
+pub mod FramingLemmas
+pub mod HeaderLemmas
+pub mod HeadLemmas
+pub mod SourceLemmas
+pub mod PartsLemmas

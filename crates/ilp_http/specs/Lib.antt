@@ -1,0 +1,6 @@
+pub mod Limits
+pub mod Framing
+pub mod Fields
+pub mod Request
+pub mod Layout
+pub mod Answer

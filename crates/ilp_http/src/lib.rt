@@ -1,0 +1,18 @@
+//! Messages of HTTP/1.1 (RFC 9110, RFC 9112) over any source and sink of octets.
+//!
+//! A request is read from octets that come in any pieces, and what is answered depends on all the
+//! octets that there were and not on their pieces. A response or a request is written in exact
+//! octets. Heads are those of `httparse`'s grammar.
+#![tactic(auto)]
+
+mod examination;
+mod fields;
+mod framing;
+mod limits;
+mod refusal;
+mod request;
+
+pub use examination::{Look, look_at};
+pub use limits::{BODY_LIMIT, BUFFER_LENGTH, FIELD_LIMIT, HEAD_LIMIT, MOST_READS};
+pub use refusal::{Refusal, RequestFault};
+pub use request::{Buffer, Request, read_request};
