@@ -4,3 +4,5 @@ pub mod HeaderLemmas
 pub mod HeadLemmas
 pub mod SourceLemmas
 pub mod PartsLemmas
+pub mod PendingLemmas
+pub mod WritingLemmas

@@ -4,3 +4,5 @@ pub mod Fields
 pub mod Request
 pub mod Layout
 pub mod Answer
+pub mod Pending
+pub mod Writing

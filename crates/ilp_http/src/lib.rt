@@ -9,10 +9,17 @@ mod examination;
 mod fields;
 mod framing;
 mod limits;
+mod outgoing;
+mod pending;
 mod refusal;
 mod request;
+mod status;
+mod writing;
 
 pub use examination::{Look, look_at};
 pub use limits::{BODY_LIMIT, BUFFER_LENGTH, FIELD_LIMIT, HEAD_LIMIT, MOST_READS};
+pub use outgoing::{Outgoing, OwnField};
 pub use refusal::{Refusal, RequestFault};
 pub use request::{Buffer, Request, read_request};
+pub use status::{Kind, Status};
+pub use writing::{write_request, write_response};
