@@ -6,3 +6,4 @@ pub mod SourceLemmas
 pub mod PartsLemmas
 pub mod PendingLemmas
 pub mod WritingLemmas
+pub mod ResponseLemmas

@@ -6,3 +6,6 @@ pub mod Layout
 pub mod Answer
 pub mod Pending
 pub mod Writing
+pub mod Response
+pub mod Placed
+pub mod ResponseAnswer

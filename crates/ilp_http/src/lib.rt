@@ -5,6 +5,7 @@
 //! octets. Heads are those of `httparse`'s grammar.
 #![tactic(auto)]
 
+mod buffer;
 mod examination;
 mod fields;
 mod framing;
@@ -13,13 +14,17 @@ mod outgoing;
 mod pending;
 mod refusal;
 mod request;
+mod response;
+mod response_octets;
 mod status;
 mod writing;
 
+pub use buffer::Buffer;
 pub use examination::{Look, look_at};
 pub use limits::{BODY_LIMIT, BUFFER_LENGTH, FIELD_LIMIT, HEAD_LIMIT, MOST_READS};
 pub use outgoing::{Outgoing, OwnField};
 pub use refusal::{Refusal, RequestFault};
-pub use request::{Buffer, Request, read_request};
+pub use request::{Request, read_request};
+pub use response::{Response, ResponseFault, read_response};
 pub use status::{Kind, Status};
 pub use writing::{write_request, write_response};

@@ -1,33 +1,19 @@
 //! Reading a request.
-ghost use Rattle.std.specs.Prelude.{◌≡◌, ◌≤◌, length, take, vec_len, IfOk, IfErr, IfSome, IsErrOf};
+ghost use Rattle.std.specs.Prelude.{◌≡◌, ◌≤◌, length, take, IfOk, IfErr, IfSome, IsErrOf};
 ghost use Rattle.std.specs.Io.KnownBytes.{Consumes};
 ghost use Rattle.ilp_io.specs.Counts.{Tallies, TalliesUpTo};
 ghost use Rattle.ilp_http.specs.Layout.{IsLayoutOf};
 ghost use Rattle.ilp_http.specs.Answer.{IsAnswer, IsFaultOf, HasPartsOf, failed_reads};
 
+use crate::buffer::{Buffer, ROOM};
 use crate::examination::{Finding, Layout, examine};
 use crate::fields::header_map;
-use crate::limits::{BUFFER_LENGTH, FIELD_LIMIT, HEAD_LIMIT, MOST_READS};
+use crate::limits::{FIELD_LIMIT, HEAD_LIMIT, MOST_READS};
 use crate::refusal::{Refusal, RequestFault};
 use http_header::HeaderMap;
 use httparse::spans::{EMPTY_HEADER_SPAN, HeaderSpan};
 use ilp_io::Source;
 use std::alloc::{AllocError, Global};
-
-/// Room for one message. It serves one after another: each reading begins anew.
-#[derive(Drop)]
-pub struct Buffer {
-    octets: Vec<u8>,
-    ghost full: { vec_len octets ≡ 81920 },
-}
-
-impl Buffer {
-    /// Room for the longest message. It is refused only where memory for it is.
-    pub fn new(alloc: Global) -> Result<Buffer, AllocError> {
-        let octets = vec![in alloc; 0; BUFFER_LENGTH]?;
-        Ok(Buffer { octets })
-    }
-}
 
 /// A request, in the octets of a buffer.
 #[derive(Drop)]
@@ -46,9 +32,9 @@ fn fill<S: Source>(
     octets: &mut [u8],
     spans: &mut [HeaderSpan],
 ) -> Result<(usize, Layout), RequestFault>
-    requires room { length octets.old ≡ BUFFER_LENGTH }
+    requires room { length octets.old ≡ ROOM }
     requires spans { length spans.old ≡ FIELD_LIMIT }
-    ensures filled { IfOk result (λ found. found.0 ≤ BUFFER_LENGTH) }
+    ensures filled { IfOk result (λ found. found.0 ≤ ROOM) }
     ensures whole { IfOk result
         (λ found. IsLayoutOf (take found.0 octets.new) spans.new found.1) }
     ensures known { IfOk result (λ found. Consumes (S.remaining source.old)

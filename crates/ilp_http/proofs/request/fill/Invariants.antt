@@ -8,7 +8,7 @@ use Rattle.ilp_http.proofs.request.fill.Given as goal
 -- what the reads so far gave stands at the front, and none of them failed
 abbrev pub invariant-loop-needed : goal.invariant-loop-needed
 invariant-loop-needed g l = record {
-  filled : l.filled ≤ most_octets;
+  filled : l.filled ≤ 81921;
   needed : l.needed ≤ most_octets;
   reads : l.reads ≤ 4096;
   known : Consumes (g.S.Source.remaining l.fn.source) (g.S.Source.remaining l.source) (take l.filled l.octets);
