@@ -34,7 +34,7 @@ class Row:
         return "%20" + text[1:] if text.startswith(" ") else text
 
     def octets(self):
-        return b"".join(p[0] * p[1] if False else p[1] * p[0] if isinstance(p, tuple) else p
+        return b"".join(p[1] * p[0] if isinstance(p, tuple) else p
                         for p in self.parts)
 
 
@@ -244,24 +244,30 @@ STATUSES = (
     ("413 Content Too Large", ""), ("431 Request Header Fields Too Large", ""), ("502 Bad Gateway", ""),
     ("503 Service Unavailable", ""))
 KINDS = ("application/octet-stream", "application/json", "text/plain")
-BODIES = (b"", b"x", b'{"amount":"199","scale":2}', b"a" * 1024)
+BODIES = (b"", b'{"amount":"199","scale":2}')
+LONG = b"a" * 1024
 
 
-def written_responses():
+def written_response(status, own, kind, body):
+    typed = f"Content-Type: {kind}\r\n" if body else ""
+    return (f"HTTP/1.1 {status}\r\n{own}{typed}Content-Length: {len(body)}\r\n"
+            f"Connection: close\r\n\r\n").encode() + body
+
+
+def written_request(own, kind, body):
+    return (f"POST /ilp HTTP/1.1\r\nHost: 127.0.0.1:7001\r\nContent-Type: {kind}\r\n"
+            f"Content-Length: {len(body)}\r\n{own}Connection: close\r\n\r\n").encode() + body
+
+
+def written():
     for status, own in STATUSES:
         for kind in KINDS:
-            for body in BODIES:
-                typed = f"Content-Type: {kind}\r\n" if body else ""
-                yield (f"HTTP/1.1 {status}\r\n{own}{typed}Content-Length: {len(body)}\r\n"
-                       f"Connection: close\r\n\r\n").encode() + body
-
-
-def written_requests():
+            yield from (written_response(status, own, kind, body) for body in BODIES)
     for own in ("", "Authorization: Bearer to-bob\r\n", "Idempotency-Key: r1-5\r\n"):
         for kind in KINDS:
-            for body in BODIES:
-                yield (f"POST /ilp HTTP/1.1\r\nHost: 127.0.0.1:7001\r\nContent-Type: {kind}\r\n"
-                       f"Content-Length: {len(body)}\r\n{own}Connection: close\r\n\r\n").encode() + body
+            yield from (written_request(own, kind, body) for body in BODIES)
+    yield written_response(*STATUSES[0], KINDS[2], LONG)
+    yield written_request("", KINDS[0], LONG)
 
 
 def shown(octets):
@@ -290,7 +296,7 @@ def lines():
         yield f"{row.text()}: {answer}"
     for row, answer in responses():
         yield f"{row.text()}: {answer}"
-    for octets in list(written_responses()) + list(written_requests()):
+    for octets in written():
         yield f"{shown(octets)}: stopped at each of {len(octets)} octets"
     yield from cut_lines()
     yield "4096 reads of one octet: /ilp, 2 values, a body of 3"
