@@ -7,3 +7,4 @@ pub mod PartsLemmas
 pub mod PendingLemmas
 pub mod WritingLemmas
 pub mod ResponseLemmas
+pub mod LawLemmas

@@ -76,8 +76,8 @@ pub(crate) fn examine(octets: &[u8], spans: &mut [HeaderSpan]) -> Finding
     }
 }
 
-/// What octets that have come so far are, by the rules that `read_request` reads by: so it answers
-/// a request where these octets are the whole of one, whatever pieces they come in.
+/// What octets that have come so far are, by the definitions that `read_request` answers by. A
+/// server asks it before it gives a connection to a worker.
 ///
 /// It reads nothing and takes no memory.
 pub fn look_at(octets: &[u8]) -> Look

@@ -9,6 +9,7 @@ mod buffer;
 mod examination;
 mod fields;
 mod framing;
+mod laws;
 mod limits;
 mod outgoing;
 mod pending;
@@ -21,6 +22,7 @@ mod writing;
 
 pub use buffer::Buffer;
 pub use examination::{Look, look_at};
+pub use laws::{octets_hold_one_request, requests_are_not_refused};
 pub use limits::{BODY_LIMIT, BUFFER_LENGTH, FIELD_LIMIT, HEAD_LIMIT, MOST_READS};
 pub use outgoing::{Outgoing, OwnField};
 pub use refusal::{Refusal, RequestFault};

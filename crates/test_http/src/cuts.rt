@@ -42,7 +42,9 @@ fn print_cut_request<R: Print + AllocGlobal>(
         }
     }
     let size = octets.len();
-    println!(rt; "of a request of {size} octets {bad} proper prefixes are a bad request and look unfinished, and {failed} reads that fail are told")
+    println!(rt;
+        "of a request of {size} octets {bad} proper prefixes are a bad request and look unfinished, and {failed} reads that fail are told"
+    )
 }
 
 fn print_cut_response<R: Print>(rt: &R, octets: &[u8], buffer: &mut Buffer) -> io::Result<()> {
@@ -58,7 +60,9 @@ fn print_cut_response<R: Print>(rt: &R, octets: &[u8], buffer: &mut Buffer) -> i
         }
     }
     let size = octets.len();
-    println!(rt; "of a response of {size} octets {bad} proper prefixes are a bad response, and {failed} reads that fail are told")
+    println!(rt;
+        "of a response of {size} octets {bad} proper prefixes are a bad response, and {failed} reads that fail are told"
+    )
 }
 
 // A request of so many octets that come one by one.

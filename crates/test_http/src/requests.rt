@@ -29,11 +29,13 @@ fn print_told<R: Print + AllocGlobal>(
 ) -> io::Result<()> {
     let mut source = Pieces::new(octets, usize::MAX);
     match read_request(rt.alloc(), &mut source, buffer) {
-        Ok(Request {
-            path,
-            headers,
-            body,
-        }) => {
+        Ok(
+            Request {
+                path,
+                headers,
+                body,
+            },
+        ) => {
             let path = str::from_utf8(path).unwrap_or("no text");
             let (values, length) = (headers.len(), body.len());
             println!(rt; "{row}: {path}, {values} values, a body of {length}")
