@@ -1,8 +1,7 @@
 //! Whether the octets that have come so far are a request.
-ghost use Rattle.std.specs.Prelude.{◌≡◌, ◌<◌, ◌≤◌, ◌++◌, ℕ, List, length, MatchResult};
+ghost use Rattle.std.specs.Prelude.{◌≡◌, ◌<◌, length};
 ghost use Rattle.httparse.specs.Spans.{IsRequestWithin};
-ghost use Rattle.ilp_http.specs.Request.{IsRefused, EndsEarly, HoldsRequest};
-ghost use Rattle.ilp_http.specs.Layout.{length_at, IsLayoutOf, IsUnfinished, IsSeen, IsExamined};
+ghost use Rattle.ilp_http.specs.Layout.{length_at, IsSeen, IsExamined};
 
 use crate::framing::{Framing, framing_of};
 use crate::limits::{BODY_LIMIT, FIELD_LIMIT, HEAD_LIMIT};

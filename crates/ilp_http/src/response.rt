@@ -1,7 +1,7 @@
 //! Reading a response.
-ghost use Rattle.std.specs.Prelude.{◌≡◌, ◌+◌, ◌≤◌, length, take, slice_range, IfOk, IfErr, IfSome, IsErrOf};
+ghost use Rattle.std.specs.Prelude.{◌≡◌, ◌+◌, ◌≤◌, length, take, IfOk, IfErr, IfSome, IsErrOf};
 ghost use Rattle.ilp_io.specs.Counts.{Tallies, TalliesUpTo};
-ghost use Rattle.ilp_http.specs.Placed.{IsFinding, IsWithin, IsPlacedAt, EndsAt};
+ghost use Rattle.ilp_http.specs.Placed.{IsWithin, IsPlacedAt, EndsAt};
 ghost use Rattle.ilp_http.specs.ResponseAnswer.{IsResponseAnswer, IsResponseFault, failed_reads};
 
 use crate::buffer::{Buffer, ROOM};

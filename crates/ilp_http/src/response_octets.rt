@@ -1,5 +1,4 @@
 //! Whether the octets that have come so far are a response.
-ghost use Rattle.httparse.specs.Spans.{IsResponseWithin};
 ghost use Rattle.ilp_http.specs.Placed.{IsHeadOf, IsFinding};
 
 use crate::framing::{Framing, framing_of};
