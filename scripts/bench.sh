@@ -7,6 +7,7 @@
 #     scripts/bench.sh packets
 #     scripts/bench.sh quote
 #     scripts/bench.sh quantity
+#     scripts/bench.sh http
 #     scripts/bench.sh book
 #
 # It works on a copy of the repository in a temporary folder (TMPDIR says where). It needs rt, rustc
