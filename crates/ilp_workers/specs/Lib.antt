@@ -1,0 +1,6 @@
+pub mod Desk
+pub mod Portion
+pub mod Session
+pub use Rattle.ilp_book.specs.Book
+pub use Rattle.ilp_book.specs.Lawful
+pub use Rattle.ilp_journal.specs.Journal

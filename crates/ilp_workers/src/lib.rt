@@ -1,0 +1,11 @@
+//! The desk of a connector: one book behind a lock, on which threads book by sessions, each with a
+//! share that counts what it booked.
+#![tactic(auto)]
+
+mod locked;
+mod naming;
+mod share;
+
+pub use locked::LockedBook;
+pub use naming::Naming;
+pub use share::Share;
