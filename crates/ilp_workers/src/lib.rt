@@ -2,10 +2,12 @@
 //! share that counts what it booked.
 #![tactic(auto)]
 
+mod desk;
 mod locked;
 mod naming;
 mod share;
 
+pub use desk::{Desk, NoDesk, WhyNoDesk};
 pub use locked::LockedBook;
 pub use naming::Naming;
 pub use share::Share;
