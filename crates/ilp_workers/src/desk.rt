@@ -1,13 +1,20 @@
 //! The desk: a book under its lock, and the shares of its actors.
 ghost use Rattle.std.specs.Prelude.{◌≡◌, ◌≤◌, [], IfOk, IfErr, OnOk, vec_capacity};
+ghost use Rattle.ilp_packet.specs.Packet.{plain_prepare};
+ghost use Rattle.ilp_book.specs.Book.{by};
+ghost use Rattle.ilp_book.specs.Configured.{IsKnown};
+ghost use Rattle.ilp_book.specs.HoldStep.{incoming, hold_step, growth_of};
+ghost use Rattle.ilp_book.specs.AnswerStep.{answer_step, expire_step};
 ghost use Rattle.ilp_workers.specs.Desk.{actors_of, base_of, most_workers};
 ghost use Rattle.ilp_workers.specs.Opening.{IsWhyNot, IsWorkerCount, first_shares};
+ghost use Rattle.ilp_workers.specs.Session.{IsReplyAt};
 
 use crate::locked::LockedBook;
 use crate::naming::Naming;
 use crate::share::Share;
 use ilp_accounts::Config;
-use ilp_book::Book;
+use ilp_book::{Book, Held, HoldFault, NotOpen, Outcome, PeerReply};
+use ilp_packet::Prepare;
 use std::alloc::{AllocError, Allocator};
 use std::sync::ledger::Blank;
 use std::sync::{Mutex, MutexGuard, Wait, ledger};
@@ -90,6 +97,46 @@ impl<J: Naming> Desk<J> {
     /// Takes the lock, and waits for it while another thread has it.
     pub fn lock(&self, rt: &impl Wait) -> MutexGuard<'_, LockedBook<J>> {
         self.locked.lock(rt)
+    }
+
+    /// `LockedBook::hold`, with the lock taken for this session alone.
+    pub fn hold(
+        &self,
+        rt: &impl Wait,
+        share: &mut Share<J>,
+        from: u32,
+        prepare: &Prepare<'_>,
+        now: i64,
+    ) -> Result<Held, HoldFault>
+        requires known { IsKnown J.desk.config from }
+        ensures { IsReplyAt J.desk (λ book. hold_step book (by share.old.actor now)
+            (incoming book.config from (plain_prepare prepare.now)) (growth_of result))
+            share.old share.new result }
+    {
+        self.lock(rt).hold(share, from, prepare, now)
+    }
+
+    /// `LockedBook::answer`, with the lock taken for this session alone.
+    pub fn answer(
+        &self,
+        rt: &impl Wait,
+        share: &mut Share<J>,
+        number: u32,
+        reply: PeerReply,
+        now: i64,
+    ) -> Result<Outcome, NotOpen>
+        ensures { IsReplyAt J.desk (λ book. answer_step book (by share.old.actor now) number reply)
+            share.old share.new result }
+    {
+        self.lock(rt).answer(share, number, reply, now)
+    }
+
+    /// `LockedBook::expire_one`, with the lock taken for this session alone.
+    pub fn expire_one(&self, rt: &impl Wait, share: &mut Share<J>, now: i64) -> Option<u32>
+        ensures { IsReplyAt J.desk (λ book. expire_step book (by share.old.actor now))
+            share.old share.new result }
+    {
+        self.lock(rt).expire_one(share, now)
     }
 }
 
