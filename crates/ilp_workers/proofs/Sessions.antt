@@ -48,23 +48,21 @@ pushed_of desk book e was lawful actor =
       lawful = lawful;
     }
 
--- what a step makes of a book of the desk, where its entry is an actor's
-pub left_of : {R : Type 0} (desk : PlainDesk) (old new : PlainBook) (result : R) (made : Made R) (actor : ℕ)
-    → IsBookOf desk old → Does old new result made → IsLawful new → IsActor desk actor → IsBy actor made.entry → IsBookOf desk new
-left_of desk old new result made actor was does lawful known by = of made.entry does.book by
-  where
-    of : (o : Option Entry) → new ≡ with_entry old o → IsBy actor o → IsBookOf desk new
-    of None same by = subst (IsBookOf desk) (sym same) was
-    of (Some e) same by =
-        subst (IsBookOf desk) (sym same) (pushed_of desk old e was (subst IsLawful same lawful) (subst (IsActor desk) (sym by) known))
+-- a book of the desk is left, of no fewer entries
+abbrev pub Leaves : PlainDesk → PlainBook → PlainBook → Type 0
+Leaves desk old new = IsBookOf desk new × (length old.entries ≤ length new.entries)
 
--- a step takes no entry away
-pub longer : {R : Type 0} (old new : PlainBook) (result : R) (made : Made R) → Does old new result made → length old.entries ≤ length new.entries
-longer old new result made does = of made.entry does.book
+-- a step leaves one of a book of the desk, where its entry is an actor's
+pub leaves_by : {R : Type 0} (desk : PlainDesk) (old new : PlainBook) (result : R) (made : Made R) (actor : ℕ)
+    → IsBookOf desk old → Does old new result made → IsLawful new → IsActor desk actor → IsBy actor made.entry → Leaves desk old new
+leaves_by desk old new result made actor was does lawful known by = of made.entry does.book by
   where
-    of : (o : Option Entry) → new ≡ with_entry old o → length old.entries ≤ length new.entries
-    of None same = omega (arith, ap (λ (b : PlainBook). length b.entries) same)
-    of (Some e) same = omega (arith, ap (λ (b : PlainBook). length b.entries) same, length-append old.entries (e ∷ []))
+    of : (o : Option Entry) → new ≡ with_entry old o → IsBy actor o → Leaves desk old new
+    of None same by = (subst (IsBookOf desk) (sym same) was, omega (arith, ap (λ (b : PlainBook). length b.entries) same))
+    of (Some e) same by = (
+      subst (IsBookOf desk) (sym same) (pushed_of desk old e was (subst IsLawful same lawful) (subst (IsActor desk) (sym by) known)),
+      omega (arith, ap (λ (b : PlainBook). length b.entries) same, length-append old.entries (e ∷ [])),
+    )
 
 -- what is under the lock after a session that counted what it booked
 pub locked_after : (desk : PlainDesk) (parts workers total total' : ℕ) (old new : PlainBook)

@@ -94,7 +94,8 @@ impl<J: Naming> Desk<J> {
         &self.config
     }
 
-    /// Takes the lock, and waits for it while another thread has it.
+    /// Takes the lock, and waits for it while another thread has it. A thread that has it and takes
+    /// it again waits forever.
     pub fn lock(&self, rt: &impl Wait) -> MutexGuard<'_, LockedBook<J>> {
         self.locked.lock(rt)
     }

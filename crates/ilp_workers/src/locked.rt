@@ -1,5 +1,5 @@
 //! What the lock of a desk lends: the book, and its calls as sessions of the desk's actors.
-ghost use Rattle.std.specs.Prelude.{◌≡◌, ◌≤◌};
+ghost use Rattle.std.specs.Prelude.{◌≡◌, ◌≤◌, OnErr};
 ghost use Rattle.ilp_packet.specs.Packet.{plain_prepare};
 ghost use Rattle.ilp_book.specs.Book.{by, Does};
 ghost use Rattle.ilp_book.specs.Configured.{IsKnown};
@@ -72,7 +72,7 @@ impl<J: Naming> LockedBook<J> {
         self.workers
     }
 
-    /// `Book::hold` by the share's actor.
+    /// `Book::hold` by the share's actor. A refusal leaves the book and the share as they were.
     pub fn hold(
         &mut self,
         share: &mut Share<J>,
@@ -84,6 +84,7 @@ impl<J: Naming> LockedBook<J> {
         ensures step { Does self.old self.new result (hold_step self.old (by share.old.actor now)
             (incoming J.desk.config from (plain_prepare prepare.now)) (growth_of result)) }
         ensures session { IsSession J.desk self.old self.new share.old share.new }
+        ensures err { OnErr result (self.new ≡ self.old) }
     {
         let before = self.book.len();
         let result = self.book.hold(share.actor(), from, prepare, now);

@@ -6,8 +6,8 @@ ghost use Rattle.ilp_workers.specs.Desk.{actors_of, base_of};
 use ilp_accounts::Config;
 use ilp_book::{Book, Outcome, PeerReply};
 use ilp_packet::Prepare;
-use ilp_workers::{Desk, Naming, NoDesk, Share, WhyNoDesk};
-use std::alloc::{Allocator, Global};
+use ilp_workers::{Desk, Naming, Share, WhyNoDesk};
+use std::alloc::{AllocError, Allocator, Global};
 use std::marker::Brand;
 use std::process::Abort;
 use std::sync::Wait;
@@ -105,7 +105,7 @@ fn pass_on<J: Naming>(rt: &impl Wait, desk: &Desk<J>, mut share: Share<J>) -> Pa
             reply,
             START,
         ) {
-            fulfilled += 1;
+            fulfilled = fulfilled.saturating_add(1);
         }
     }
     Passed { share, fulfilled }
@@ -113,18 +113,42 @@ fn pass_on<J: Naming>(rt: &impl Wait, desk: &Desk<J>, mut share: Share<J>) -> Pa
 
 // How many entries of the book are the actor's.
 fn entries_of(book: &Book, actor: u32) -> u32 {
-    let mut entries = 0;
+    let mut entries = 0u32;
     for number in 0..book.len() {
         if let Some(entry) = book.entry(number) {
             if entry.actor == actor {
-                entries += 1;
+                entries = entries.saturating_add(1);
             }
         }
     }
     entries
 }
 
+// Compares the shares with the book.
+fn compare<J: Naming>(rt: &impl Abort, book: &Book, passed: &Vec<Passed<J>>) {
+    let mut sum = 0u64;
+    for (place, one) in passed.iter().enumerate() {
+        assert!(rt; one.share.actor() as usize == place);
+        assert_eq!(rt; one.fulfilled, PACKETS);
+        assert_eq!(rt; one.share.entries(), 2 * PACKETS);
+        assert_eq!(rt; entries_of(book, one.share.actor()), 2 * PACKETS);
+        sum = sum.saturating_add(u64::from(one.share.entries()));
+    }
+    assert_eq!(rt; sum, u64::from(book.len()));
+}
+
 // All actors book at once; then the shares are compared with the book.
+fn book_all<J: Naming + Send + Sync, R: Threads + Wait + Abort + Sync>(
+    rt: &R,
+    desk: &Desk<J>,
+    shares: Vec<Share<J>>,
+) -> Result<usize, AllocError> {
+    let passed = map_vec(rt, shares, &|share| pass_on(rt, desk, share))?;
+    compare(rt, desk.lock(rt).book(), &passed);
+    Ok(passed.len())
+}
+
+// How many actors booked at once, if the desk opens.
 fn book_at_once<J: Naming + Send + Sync, R: Threads + Wait + Abort + Sync>(
     rt: &R,
     alloc: Global,
@@ -132,47 +156,36 @@ fn book_at_once<J: Naming + Send + Sync, R: Threads + Wait + Abort + Sync>(
     book: Book,
     workers: u32,
     blanks: Blank,
-) -> Result<(), Fail>
+) -> Option<usize>
     requires config { (config.now ≡ J.desk.config) × (book.config ≡ J.desk.config) }
     requires workers { workers ≡ J.desk.workers }
     requires opening { (book.entries ≡ J.desk.opening) × (book.base ≡ base_of J.desk) }
     requires ledger { (blanks.name ≡ J.name) × (blanks.parts ≡ J.parts) }
     requires parts { J.parts ≡ actors_of J.desk }
 {
-    let Ok((desk, shares)) = Desk::<J>::open(alloc, config, book, workers, blanks) else {
-        return Err("no desk".into());
-    };
-    let shared = &desk;
-    let passed = map_vec(rt, shares, &|share| pass_on(rt, shared, share))?;
-    let locked = desk.lock(rt);
-    let mut sum = 0;
-    for (place, one) in passed.iter().enumerate() {
-        assert!(rt; one.share.actor() as usize == place);
-        assert_eq!(rt; one.fulfilled, PACKETS);
-        assert_eq!(rt; one.share.entries(), 2 * PACKETS);
-        assert_eq!(rt; entries_of(locked.book(), one.share.actor()), 2 * PACKETS);
-        sum += u64::from(one.share.entries());
+    match Desk::<J>::open(alloc, config, book, workers, blanks) {
+        Ok((desk, shares)) => book_all(rt, &desk, shares).ok(),
+        Err(_) => None,
     }
-    assert_eq!(rt; sum, u64::from(locked.book().len()));
-    assert_eq!(rt; passed.len(), 8);
-    Ok(())
 }
 
-// Opens a desk over a book of no entries, in which its actors book.
+// The same over a book of no entries.
 fn at_once<R: Threads + Wait + Abort + Sync>(
     rt: &R,
-    alloc: Global,
+    config: &Config,
     workers: u32,
-) -> Result<(), Fail> {
-    let config = lending(alloc)?;
-    let book = Book::new(alloc, &config)?;
+) -> Result<Option<usize>, AllocError> {
+    let alloc = config.allocator();
+    let book = Book::new(alloc, config)?;
     let blanks = Blank::new(u64::from(workers) + 2);
-    book_at_once::<Brand, R>(rt, alloc, &config, book, workers, blanks)
+    Ok(book_at_once::<Brand, R>(rt, alloc, config, book, workers, blanks))
 }
 
 #[test]
 fn all_actors_at_once(rt: HostRuntime) -> Result<(), Fail> {
-    at_once(&rt, rt.alloc(), 6)
+    let config = lending(rt.alloc())?;
+    assert_eq!(rt; at_once(&rt, &config, 6)?, Some(8));
+    Ok(())
 }
 
 // Why no desk is opened.
@@ -191,34 +204,45 @@ fn refused<J: Naming, A: Allocator>(
 {
     match Desk::<J>::open(alloc, config, book, workers, blanks) {
         Ok(_) => None,
-        Err(NoDesk { book: _, why }) => Some(why),
+        Err(refused) => Some(refused.why),
     }
 }
 
 // Why no desk of so many workers is opened over a book of no entries.
-fn refusal<A: Allocator>(heap: Global, alloc: A, workers: u32) -> Result<Option<WhyNoDesk>, Fail> {
-    let config = lending(heap)?;
-    let book = Book::new(heap, &config)?;
+fn refusal<A: Allocator>(
+    config: &Config,
+    alloc: A,
+    workers: u32,
+) -> Result<Option<WhyNoDesk>, AllocError> {
+    let book = Book::new(config.allocator(), config)?;
     let blanks = Blank::new(u64::from(workers) + 2);
-    Ok(refused::<Brand, A>(alloc, &config, book, workers, blanks))
+    Ok(refused::<Brand, A>(alloc, config, book, workers, blanks))
 }
 
-#[test]
-fn numbers_of_workers(rt: HostRuntime) -> Result<(), Fail> {
-    let heap = rt.alloc();
-    assert_eq!(rt; refusal(heap, heap, 0)?, Some(WhyNoDesk::BadWorkers));
-    assert_eq!(rt; refusal(heap, heap, 1)?, None);
-    assert_eq!(rt; refusal(heap, heap, 64)?, None);
-    assert_eq!(rt; refusal(heap, heap, 65)?, Some(WhyNoDesk::BadWorkers));
+// Desks of 1 and of 64 workers open, those of 0 and of 65 don't.
+fn open_by_workers(rt: &impl Abort, config: &Config) -> Result<(), AllocError> {
+    let heap = config.allocator();
+    assert_eq!(rt; refusal(config, heap, 0)?, Some(WhyNoDesk::BadWorkers));
+    assert_eq!(rt; refusal(config, heap, 1)?, None);
+    assert_eq!(rt; refusal(config, heap, 64)?, None);
+    assert_eq!(rt; refusal(config, heap, 65)?, Some(WhyNoDesk::BadWorkers));
+    Ok(())
+}
+
+// The one growth for the shares is denied, and then granted.
+fn open_by_growths(rt: &impl Abort, config: &Config) -> Result<(), AllocError> {
+    let heap = config.allocator();
+    let why = refusal(config, DenyingAllocator::after(heap, 0), 2)?;
+    assert_eq!(rt; why, Some(WhyNoDesk::Memory));
+    let why = refusal(config, DenyingAllocator::after(heap, 1), 2)?;
+    assert_eq!(rt; why, None);
     Ok(())
 }
 
 #[test]
-fn denied(rt: HostRuntime) -> Result<(), Fail> {
-    let heap = rt.alloc();
-    let none = DenyingAllocator::after(heap, 0);
-    assert_eq!(rt; refusal(heap, none, 2)?, Some(WhyNoDesk::Memory));
-    let one = DenyingAllocator::after(heap, 1);
-    assert_eq!(rt; refusal(heap, one, 2)?, None);
+fn opening(rt: HostRuntime) -> Result<(), Fail> {
+    let config = lending(rt.alloc())?;
+    open_by_workers(&rt, &config)?;
+    open_by_growths(&rt, &config)?;
     Ok(())
 }
