@@ -1,6 +1,6 @@
 //! Desks with two peers, which pay each other through two threads at once.
 
-ghost use Rattle.std.specs.Prelude.{◌≡◌, ◌+◌, length};
+ghost use Rattle.std.specs.Prelude.{◌≡◌};
 ghost use Rattle.ilp_workers.specs.Desk.{actors_of, base_of};
 
 use ilp_accounts::Config;
