@@ -1,0 +1,47 @@
+use Rattle.std.proofs.Common.{ℕ, ◌+◌, ◌-◌, ◌<◌, ◌≤◌, List, ◌++◌, length, take, sym, ap, ◌∙◌, subst, arith, append_assoc, length-append}
+use Rattle.std.specs.Io.KnownBytes.{Consumes}
+use Rattle.std.proofs.KnownBytes.{Consumes-trans}
+use Rattle.ilp_io.proofs.ReadingLemmas.{Consumes-stream}
+use Rattle.std.proofs.lemmas.List.{length-take-le}
+use Rattle.ilp_http.specs.Request.{EndsEarly}
+use Rattle.ilp_http.specs.Answer.{IsFaultOf}
+use Rattle.ilp_http.specs.declared.refusal.RequestFault.TheVariants.{Refused}
+use Rattle.ilp_http.proofs.SourceLemmas.{Tallies-next, taken_more}
+use Rattle.ilp_http.proofs.PartsLemmas.{IsFaultOf-refused}
+use Rattle.ilp_http.proofs.request.fill.Goals.{then-needed-filled+in-Unfinished, else-needed-filled}
+use Rattle.ilp_http.proofs.request.fill.Goals as goal
+
+pub returns-in-Refused-clause-refused : goal.returns-in-Refused-clause-refused
+returns-in-Refused-clause-refused g c =
+    let refusal = c.in-Refused.refusal in
+    Consumes-stream _ _ _ (λ input. IsFaultOf input (Refused refusal)) c.loop-needed.invariant.known
+    (λ more. IsFaultOf-refused _ refusal (c.in-Refused.ensures more))
+
+pub loop-needed-preserved : goal.loop-needed-preserved
+loop-needed-preserved g c =
+    let octets = c.loop-needed.octets in
+    let filled = c.loop-needed.filled in
+    let count = c.in-Ok.count in
+    let room = c.pull.new.room in
+    let needed = c.if-needed-filled.needed in
+    let inside : filled ≤ length octets = omega arith in
+    let fits = c.in-Ok.ensures.bound.0 in
+    let taken = taken_more filled (length octets - filled) count octets room inside fits in
+    let before : (more : List ℕ) → filled + length more < needed → EndsEarly (take filled octets ++ more) = λ more few.
+    elim c.if-needed-filled.branch [
+      | then-needed-filled+in-Unfinished w ↦ w.in-Unfinished.ensures.ends more (omega (arith, w.needed-is, length-take-le filled octets inside))
+      | else-needed-filled w ↦ c.loop-needed.invariant.early more (omega (arith, w.needed-is))
+    ] in
+    record {
+      filled = omega (arith, fits);
+      needed = elim c.if-needed-filled.branch [
+        | then-needed-filled+in-Unfinished w ↦ omega (arith, w.needed-is, w.in-Unfinished.ensures.room)
+        | else-needed-filled w ↦ omega (arith, w.needed-is, c.loop-needed.invariant.needed)
+      ];
+      reads = omega arith;
+      known = subst (Consumes (g.S.Source.remaining c.args.source.now) (g.S.Source.remaining c.pull.new.self)) (sym taken)
+          (Consumes-trans _ _ _ _ _ c.loop-needed.invariant.known c.in-Ok.ensures.octets.0);
+      counted = Tallies-next _ _ _ _ _ c.loop-needed.invariant.counted c.in-Ok.ensures.counted;
+      early = λ more few. subst EndsEarly (sym (ap (λ xs. xs ++ more) taken ∙ append_assoc (take filled octets) (take count room) more))
+          (before (take count room ++ more) (omega (arith, length-append (take count room) more, length-take-le count room fits)));
+    }

@@ -1,0 +1,51 @@
+-- What an examination of octets finds, and where the parts of a request are in them.
+use Rattle.std.specs.Prelude.{◌≡◌, ℕ, ◌+◌, ◌<◌, ◌≤◌, List, ◌++◌, length, take, map, Result, Ok}
+use Rattle.httparse.specs.Grammar.{RequestHead}
+use Rattle.httparse.specs.Spans.{span_bytes, header_bytes, IsRequestAt, IsRequestWithin}
+use Rattle.httparse.specs.declared.spans.HeaderSpan.{HeaderSpan}
+use Rattle.httparse.specs.declared.spans.RequestSpans.{RequestSpans}
+use Rattle.ilp_http.specs.Limits.{most_head, most_octets}
+use Rattle.ilp_http.specs.Request.{BeginsWithHead, HoldsRequest, EndsEarly, IsRefused, body_length, length_by}
+use Rattle.ilp_http.specs.declared.refusal.Refusal.{Refusal}
+use Rattle.ilp_http.specs.declared.examination.Look.{Look}
+use Rattle.ilp_http.specs.declared.examination.Look.TheVariants as Seen
+use Rattle.ilp_http.specs.declared.examination.Layout.{Layout}
+use Rattle.ilp_http.specs.declared.examination.Finding.{Finding}
+use Rattle.ilp_http.specs.declared.examination.Finding.TheVariants.{Whole, Unfinished, Refused}
+
+-- what the spans of a head announce
+abbrev pub length_at : List ℕ → List HeaderSpan → RequestSpans → Result ℕ Refusal
+length_at octets spans head = length_by (span_bytes octets head.method) (map (header_bytes octets) (take head.headers spans))
+
+-- the spans are those of this head, whose body is whole
+pub record IsLayoutAt (octets : List ℕ) (spans : List HeaderSpan) (layout : Layout) (head : RequestHead) (rest : List ℕ) : Type 0 where
+  pub begins : BeginsWithHead octets head rest
+  pub announced : body_length head ≡ Ok layout.body
+  pub whole : layout.body ≤ length rest
+  pub parsed : IsRequestAt (take most_head octets) spans layout.head head
+  pub within : IsRequestWithin (take most_head octets) spans layout.head
+
+abbrev pub IsLayoutOf : List ℕ → List HeaderSpan → Layout → Type 0
+IsLayoutOf octets spans layout = (head : RequestHead) × (rest : List ℕ) × IsLayoutAt octets spans layout head rest
+
+-- the octets end early, and so do they with more behind them, while they are fewer than so many
+pub record IsUnfinished (octets : List ℕ) (least : ℕ) : Type 0 where
+  pub ends : (more : List ℕ) → length octets + length more < least → EndsEarly (octets ++ more)
+  pub more : length octets < least
+  pub room : least ≤ most_octets
+
+-- the octets are refused so, whatever follows
+abbrev pub StayRefused : List ℕ → Refusal → Type 0
+StayRefused octets refusal = (more : List ℕ) → IsRefused (octets ++ more) refusal
+
+-- what the octets are, with the spans of their head
+abbrev pub IsExamined : List ℕ → List HeaderSpan → Finding → Type 0
+IsExamined octets spans (Whole layout) = IsLayoutOf octets spans layout
+IsExamined octets spans (Unfinished least) = IsUnfinished octets least
+IsExamined octets spans (Refused refusal) = StayRefused octets refusal
+
+-- what the octets are
+abbrev pub IsSeen : List ℕ → Look → Type 0
+IsSeen octets Seen.Whole = HoldsRequest octets
+IsSeen octets Seen.Unfinished = EndsEarly octets
+IsSeen octets (Seen.Refused refusal) = StayRefused octets refusal
