@@ -15,6 +15,7 @@ abbrev pub IsBy : ℕ → Option Entry → Type 0
 IsBy actor None = ⊤
 IsBy actor (Some e) = e.actor ≡ actor
 
+-- of a hold, if there is one
 pub hold_by : (book : PlainBook) (caller : By) (sent : Incoming) (growth : Growth) → IsBy caller.actor (hold_step book caller sent growth).entry
 unfolding hold_step
 hold_by book caller sent growth = of (hold_checked book (moment_at book.entries caller.now) sent) growth
@@ -24,6 +25,7 @@ hold_by book caller sent growth = of (hold_checked book (moment_at book.entries 
     of (Ok h) denied = tt
     of (Ok h) granted = refl
 
+-- of an answer, if the hold is open
 pub answer_by : (book : PlainBook) (caller : By) (n : ℕ) (reply : PeerReply) → IsBy caller.actor (answer_step book caller n reply).entry
 unfolding answer_step
 answer_by book caller n reply = of (open_hold_at book.entries n)
@@ -32,6 +34,7 @@ answer_by book caller n reply = of (open_hold_at book.entries n)
     of None = tt
     of (Some h) = refl
 
+-- of a release, if a hold is due
 pub expire_by : (book : PlainBook) (caller : By) → IsBy caller.actor (expire_step book caller).entry
 unfolding expire_step
 expire_by book caller = of (due book.entries (moment_at book.entries caller.now))
