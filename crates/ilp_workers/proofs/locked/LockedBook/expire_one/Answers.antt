@@ -1,0 +1,32 @@
+use Rattle.std.proofs.Common.{◌-◌, arith, subst, to_z, of_z}
+use Rattle.std.specs.Int.{w64}
+use Rattle.ilp_book.specs.Book.{by}
+use Rattle.ilp_book.specs.AnswerStep.{expire_step}
+use Rattle.ilp_workers.specs.Session.{IsSession}
+use Rattle.ilp_workers.proofs.Callers.{expire_by}
+use Rattle.ilp_workers.proofs.Sessions.{Leaves, leaves_by, locked_after, session_after}
+use Rattle.ilp_workers.proofs.locked.LockedBook.expire_one.Given as given
+use Rattle.ilp_workers.proofs.locked.LockedBook.expire_one.Goals as goal
+
+-- the step is the share's actor's
+leaves : (g : given.Over) (c : goal.After-count g) → Leaves g.J.Naming.desk c.self.inside.book c.expire_one-result.new.self
+leaves g c =
+    let old = c.self.inside.book in
+    let caller = by c.actor.result (to_z w64 (of_z w64 c.args.now)) in
+    let step = c.expire_one-result.ensures in
+    leaves_by g.J.Naming.desk old c.expire_one-result.new.self c.expire_one-result.result (expire_step old caller) c.actor.result
+    c.self.invariant.of_desk step.step step.lawful c.actor.ensures.known (expire_by old caller)
+
+pub invariant_of-self : goal.invariant_of-self
+invariant_of-self g c =
+    let left = leaves g c in
+    locked_after g.J.Naming.desk g.J.Ledger.parts c.self.inside.workers c.self.inside.total.total c.count.new.total.total
+    c.self.inside.book c.expire_one-result.new.self c.self.invariant left.0
+    (omega (arith, c.count.ensures.total, c.len-before.ensures, c.len.ensures, left.1))
+
+pub returns-clause-session : goal.returns-clause-session
+returns-clause-session g c =
+    let left = leaves g c in
+    subst (λ b. IsSession g.J.Naming.desk b c.expire_one-result.new.self c.args.share.now c.count.new.self) c.self.view_is
+    (session_after g.J.Naming.desk c.self.inside.book c.expire_one-result.new.self c.args.share.now c.count.new.self (c.len.result - c.len-before.result)
+    c.self.invariant.of_desk left.0 c.count.ensures.share (omega (arith, c.len-before.ensures, c.len.ensures, left.1)))

@@ -1,0 +1,13 @@
+use Rattle.std.proofs.Common.{sym, ◌∙◌}
+use Rattle.ilp_workers.proofs.Sessions.{opened, none_booked}
+use Rattle.ilp_workers.proofs.locked.LockedBook.new.Goals as goal
+
+-- nothing is counted of the opening journal
+pub invariant_of-result : goal.invariant_of-result
+invariant_of-result g c = record {
+  of_desk = opened g.J.Naming.desk c.args.book c.requires.config c.requires.opening c.requires.base c.entry.ensures.lawful;
+  counted = c.requires.total ∙ sym (none_booked g.J.Naming.desk c.args.book.entries c.requires.opening);
+  cut = c.requires.cut;
+  told = c.requires.workers.0;
+  few = c.requires.workers.1;
+}

@@ -1,0 +1,12 @@
+pub mod Desk
+pub mod Portion
+pub mod Session
+pub mod Opening
+pub use Rattle.ilp_packet.specs.Packet
+pub use Rattle.ilp_accounts.specs.Configuration
+pub use Rattle.ilp_journal.specs.Journal
+pub use Rattle.ilp_book.specs.Book
+pub use Rattle.ilp_book.specs.Configured
+pub use Rattle.ilp_book.specs.Lawful
+pub use Rattle.ilp_book.specs.HoldStep
+pub use Rattle.ilp_book.specs.AnswerStep

@@ -1,0 +1,27 @@
+-- What is under a desk's lock, and what a session does there.
+use Rattle.std.specs.Prelude.{◌≡◌, ℕ, ◌+◌, ◌≤◌, length}
+use Rattle.ilp_book.specs.Book.{PlainBook, Made, Does}
+use Rattle.ilp_workers.specs.Desk.{PlainDesk, IsBookOf, actors_of, booked, most_workers}
+use Rattle.ilp_workers.specs.Portion.{Portion}
+
+-- Under the lock is a book of the desk, with a ledger that has a part for each actor and stands at the number of entries since
+-- the opening.
+pub record IsLocked (desk : PlainDesk) (parts workers total : ℕ) (book : PlainBook) : Type 0 where
+  pub of_desk : IsBookOf desk book
+  pub counted : total ≡ length (booked desk book.entries)
+  pub cut : parts ≡ actors_of desk
+  pub told : workers ≡ desk.workers
+  pub few : workers ≤ most_workers
+
+-- A session finds a book of the desk and leaves one, and raises the share that it is lent by the entries that the journal gains.
+pub record IsSession (desk : PlainDesk) (old new : PlainBook) (before after : Portion) : Type 0 where
+  pub found : IsBookOf desk old
+  pub left : IsBookOf desk new
+  pub actor : after.actor ≡ before.actor
+  pub raised : after.entries + length old.entries ≡ before.entries + length new.entries
+
+-- What is known of a session once its lock is let go: some book of the desk was found there, and what the step makes of it is what
+-- was replied and booked.
+abbrev pub IsReplyAt : {R : Type 0} → PlainDesk → (PlainBook → Made R) → Portion → Portion → R → Type 0
+IsReplyAt desk step before after reply =
+    (old new : PlainBook) × IsSession desk old new before after × Does old new reply (step old)

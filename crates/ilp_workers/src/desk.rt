@@ -1,0 +1,177 @@
+//! The desk: a book under its lock, and the shares of its actors.
+ghost use Rattle.std.specs.Prelude.{◌≡◌, ◌≤◌, [], IfOk, IfErr, OnOk, vec_capacity};
+ghost use Rattle.ilp_packet.specs.Packet.{plain_prepare};
+ghost use Rattle.ilp_book.specs.Book.{by};
+ghost use Rattle.ilp_book.specs.Configured.{IsKnown};
+ghost use Rattle.ilp_book.specs.HoldStep.{incoming, hold_step, growth_of};
+ghost use Rattle.ilp_book.specs.AnswerStep.{answer_step, expire_step};
+ghost use Rattle.ilp_workers.specs.Desk.{actors_of, base_of};
+ghost use Rattle.ilp_workers.specs.Opening.{IsWhyNot, IsWorkerCount, first_shares};
+ghost use Rattle.ilp_workers.specs.Session.{IsReplyAt};
+
+use crate::locked::LockedBook;
+use crate::naming::Naming;
+use crate::share::Share;
+use ilp_accounts::Config;
+use ilp_book::{Book, Held, HoldFault, NotOpen, Outcome, PeerReply};
+use ilp_packet::Prepare;
+use std::alloc::{AllocError, Allocator};
+use std::sync::ledger::Blank;
+use std::sync::{Mutex, MutexGuard, Wait, ledger};
+use thiserror::Error;
+
+const MOST_WORKERS: u32 = 64;
+
+/// A book under its lock, and its configuration beside it. Whoever takes the lock finds a
+/// `LockedBook`.
+#[derive(Drop)]
+pub struct Desk<J: Naming> {
+    config: Config,
+    locked: Mutex<LockedBook<J>>,
+    ghost configured: { config ≡ J.desk.config },
+}
+
+/// Why no desk was opened, in the order in which these are looked for.
+#[derive(Clone, Copy, Debug, PartialEq, Eq, Error)]
+pub enum WhyNoDesk {
+    /// A desk has 1 to 64 workers.
+    #[error("a desk has 1 to 64 workers")]
+    BadWorkers,
+    /// Memory was denied.
+    #[error("memory is short")]
+    Memory,
+}
+
+/// The book that no desk was opened for, as it was given.
+#[derive(Drop)]
+pub struct NoDesk {
+    pub book: Book,
+    pub why: WhyNoDesk,
+}
+
+impl<J: Naming> Desk<J> {
+    /// Opens a desk of 1 to 64 workers over a book that is at its base, with a copy of the
+    /// configuration. The shares are those of the workers from 0 on, of the sweeper and of the
+    /// settler, in this order; nothing is booked with them yet. A refusal hands the book back as it
+    /// was, and spends the blanks. `alloc` is for the shares; the copy lies on the heap of the
+    /// configuration.
+    pub fn open<A: Allocator>(
+        alloc: A,
+        config: &Config,
+        book: Book,
+        workers: u32,
+        blanks: Blank,
+    ) -> Result<(Desk<J>, Vec<Share<J>, A>), NoDesk>
+        requires config { (config.now ≡ J.desk.config) × (book.config ≡ J.desk.config) }
+        requires workers { workers ≡ J.desk.workers }
+        requires opening { (book.entries ≡ J.desk.opening) × (book.base ≡ base_of J.desk) }
+        requires ledger { (blanks.name ≡ J.name) × (blanks.parts ≡ J.parts) }
+        requires parts { J.parts ≡ actors_of J.desk }
+        ensures workers { OnOk result (IsWorkerCount workers) }
+        ensures shares { IfOk result (λ r. r.1.items ≡ first_shares J.desk) }
+        ensures book { IfErr result (λ e. e.book ≡ book) }
+        ensures why { IfErr result (λ e. IsWhyNot workers e.why) }
+    {
+        if workers < 1 || workers > MOST_WORKERS {
+            let why = WhyNoDesk::BadWorkers;
+            return Err(NoDesk { book, why });
+        }
+        let actors = workers + 2;
+        let Ok((config, room)) = prepared::<J, A>(alloc, config, actors) else {
+            let why = WhyNoDesk::Memory;
+            return Err(NoDesk { book, why });
+        };
+        let (total, parts) = blanks.open::<J>();
+        let shares = cut(room, parts, actors);
+        let locked = Mutex::new(LockedBook::new(book, total, workers));
+        Ok((Desk { config, locked }, shares))
+    }
+
+    /// What the desk is configured to do, without the lock.
+    pub fn config(&self) -> &Config
+        ensures { result.now ≡ J.desk.config }
+    {
+        &self.config
+    }
+
+    /// Takes the lock, and waits for it while another thread has it. A thread that has it and takes
+    /// it again waits forever.
+    pub fn lock(&self, rt: &impl Wait) -> MutexGuard<'_, LockedBook<J>> {
+        self.locked.lock(rt)
+    }
+
+    /// `LockedBook::hold`, with the lock taken for this session alone.
+    pub fn hold(
+        &self,
+        rt: &impl Wait,
+        share: &mut Share<J>,
+        from: u32,
+        prepare: &Prepare<'_>,
+        now: i64,
+    ) -> Result<Held, HoldFault>
+        requires known { IsKnown J.desk.config from }
+        ensures { IsReplyAt J.desk (λ book. hold_step book (by share.old.actor now)
+            (incoming book.config from (plain_prepare prepare.now)) (growth_of result))
+            share.old share.new result }
+    {
+        self.lock(rt).hold(share, from, prepare, now)
+    }
+
+    /// `LockedBook::answer`, with the lock taken for this session alone.
+    pub fn answer(
+        &self,
+        rt: &impl Wait,
+        share: &mut Share<J>,
+        number: u32,
+        reply: PeerReply,
+        now: i64,
+    ) -> Result<Outcome, NotOpen>
+        ensures { IsReplyAt J.desk (λ book. answer_step book (by share.old.actor now) number reply)
+            share.old share.new result }
+    {
+        self.lock(rt).answer(share, number, reply, now)
+    }
+
+    /// `LockedBook::expire_one`, with the lock taken for this session alone.
+    pub fn expire_one(&self, rt: &impl Wait, share: &mut Share<J>, now: i64) -> Option<u32>
+        ensures { IsReplyAt J.desk (λ book. expire_step book (by share.old.actor now))
+            share.old share.new result }
+    {
+        self.lock(rt).expire_one(share, now)
+    }
+}
+
+// A copy of the configuration, and room for the shares.
+fn prepared<J: Naming, A: Allocator>(
+    alloc: A,
+    config: &Config,
+    actors: u32,
+) -> Result<(Config, Vec<Share<J>, A>), AllocError>
+    ensures config { IfOk result (λ r. r.0 ≡ config.now) }
+    ensures shares { IfOk result (λ r. r.1.items ≡ []) }
+    ensures room { IfOk result (λ r. actors ≤ vec_capacity r.1) }
+{
+    let room = Vec::with_capacity(alloc, actors as usize)?;
+    let config = config.copy()?;
+    Ok((config, room))
+}
+
+// The ledger is cut into the shares of all actors.
+fn cut<J: Naming, A: Allocator>(
+    room: Vec<Share<J>, A>,
+    parts: ledger::Share<J>,
+    actors: u32,
+) -> Vec<Share<J>, A>
+    requires actors { actors ≡ actors_of J.desk }
+    requires room { (room.items ≡ []) × (actors ≤ vec_capacity room) }
+    requires parts { (parts.parts ≡ actors) × (parts.amount ≡ 0) }
+    ensures { result.items ≡ first_shares J.desk }
+{
+    let mut shares = room;
+    let mut rest = parts;
+    for actor in 0..actors {
+        let part = rest.split_off(1, 0);
+        shares.push_reserved(Share::new(actor, part));
+    }
+    shares
+}

@@ -1,0 +1,13 @@
+//! The desk of a connector: one book behind a lock, on which threads book by sessions, each with a
+//! share that counts what it booked.
+#![tactic(auto)]
+
+mod desk;
+mod locked;
+mod naming;
+mod share;
+
+pub use desk::{Desk, NoDesk, WhyNoDesk};
+pub use locked::LockedBook;
+pub use naming::Naming;
+pub use share::Share;

@@ -1,0 +1,124 @@
+//! What the lock of a desk lends: the book, and its calls as sessions of the desk's actors.
+ghost use Rattle.std.specs.Prelude.{◌≡◌, ◌≤◌, OnErr};
+ghost use Rattle.ilp_packet.specs.Packet.{plain_prepare};
+ghost use Rattle.ilp_book.specs.Book.{by, Does};
+ghost use Rattle.ilp_book.specs.Configured.{IsKnown};
+ghost use Rattle.ilp_book.specs.HoldStep.{incoming, hold_step, growth_of};
+ghost use Rattle.ilp_book.specs.AnswerStep.{answer_step, expire_step};
+ghost use Rattle.ilp_workers.specs.Desk.{IsBookOf, actors_of, base_of, most_workers};
+ghost use Rattle.ilp_workers.specs.Session.{IsSession};
+
+use crate::naming::Naming;
+use crate::share::Share;
+use ilp_book::{Book, Held, HoldFault, NotOpen, Outcome, PeerReply};
+use ilp_packet::Prepare;
+use std::marker::Model;
+use std::sync::ledger;
+
+/// The book of a desk, and the ledger of what was booked since the desk was opened. Whoever takes
+/// the lock finds a lawful book of the desk's configuration, whose journal begins with the opening
+/// one and goes on with entries of the desk's actors, as many as the ledger counts.
+#[derive(Drop)]
+pub struct LockedBook<J: Naming> {
+    book: Book,
+    total: ledger::Book<J>,
+    workers: u32,
+}
+
+impl<J: Naming> Model for LockedBook<J> {
+    ghost use Rattle.ilp_book.specs.Book.{PlainBook};
+    ghost use Rattle.ilp_workers.specs.Session.{IsLocked};
+
+    ghost Value = { PlainBook };
+
+    ghost view = { λ l. l.book };
+
+    ghost invariant = { λ l. IsLocked J.desk J.parts l.workers l.total.total l.book };
+}
+
+impl<J: Naming> LockedBook<J> {
+    // The book that a desk is opened with, of which nothing is counted yet.
+    pub(crate) fn new(book: Book, total: ledger::Book<J>, workers: u32) -> LockedBook<J>
+        requires config { book.config ≡ J.desk.config }
+        requires opening { book.entries ≡ J.desk.opening }
+        requires base { book.base ≡ base_of J.desk }
+        requires total { total.total ≡ 0 }
+        requires cut { J.parts ≡ actors_of J.desk }
+        requires workers { (workers ≡ J.desk.workers) × (workers ≤ most_workers) }
+        ensures { result ≡ book }
+    {
+        let _ = book.entry(0);
+        LockedBook {
+            book,
+            total,
+            workers,
+        }
+    }
+
+    /// The book, which is of the desk: lawful, of its configuration, and begun by the journal that
+    /// it was opened with.
+    pub fn book(&self) -> &Book
+        ensures value { result.now ≡ self.now }
+        ensures of_desk { IsBookOf J.desk self.now }
+    {
+        &self.book
+    }
+
+    /// How many workers the desk has.
+    pub fn workers(&self) -> u32
+        ensures value { result ≡ J.desk.workers }
+        ensures few { result ≤ most_workers }
+    {
+        self.workers
+    }
+
+    /// `Book::hold` by the share's actor. A refusal leaves the book and the share as they were.
+    pub fn hold(
+        &mut self,
+        share: &mut Share<J>,
+        from: u32,
+        prepare: &Prepare<'_>,
+        now: i64,
+    ) -> Result<Held, HoldFault>
+        requires known { IsKnown J.desk.config from }
+        ensures step { Does self.old self.new result (hold_step self.old (by share.old.actor now)
+            (incoming J.desk.config from (plain_prepare prepare.now)) (growth_of result)) }
+        ensures session { IsSession J.desk self.old self.new share.old share.new }
+        ensures err { OnErr result (self.new ≡ self.old) }
+    {
+        let before = self.book.len();
+        let result = self.book.hold(share.actor(), from, prepare, now);
+        share.count(&mut self.total, self.book.len() - before);
+        result
+    }
+
+    /// `Book::answer` by the share's actor.
+    pub fn answer(
+        &mut self,
+        share: &mut Share<J>,
+        number: u32,
+        reply: PeerReply,
+        now: i64,
+    ) -> Result<Outcome, NotOpen>
+        ensures step { Does self.old self.new result
+            (answer_step self.old (by share.old.actor now) number reply) }
+        ensures session { IsSession J.desk self.old self.new share.old share.new }
+    {
+        let before = self.book.len();
+        let result = self.book.answer(share.actor(), number, reply, now);
+        share.count(&mut self.total, self.book.len() - before);
+        result
+    }
+
+    /// `Book::expire_one` by the share's actor.
+    pub fn expire_one(&mut self, share: &mut Share<J>, now: i64) -> Option<u32>
+        ensures step { Does self.old self.new result
+            (expire_step self.old (by share.old.actor now)) }
+        ensures session { IsSession J.desk self.old self.new share.old share.new }
+    {
+        let before = self.book.len();
+        let result = self.book.expire_one(share.actor(), now);
+        share.count(&mut self.total, self.book.len() - before);
+        result
+    }
+}

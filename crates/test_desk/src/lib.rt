@@ -1,0 +1,5 @@
+//! Tests of the desk: threads that book at once, and desks that aren't opened.
+#![tactic(auto)]
+
+#[cfg(test)]
+mod tests;
