@@ -1,6 +1,6 @@
 //! Requests, and what is told of each.
 
-use crate::row::octets_of;
+use crate::row::{any_size, octets_of};
 use ilp_http::{Buffer, Look, Refusal, Request, RequestFault, look_at, read_request};
 use ilp_io::Pieces;
 use std::rt::Files;
@@ -10,10 +10,10 @@ use std::{fs, io, str};
 pub(crate) fn print_requests<R: Files + Print + AllocGlobal>(rt: &R) -> io::Result<()> {
     let mut buffer = Buffer::new(rt.alloc())?;
     let rows = fs::read_to_string(rt, "requests.txt")?;
-    for row in rows.lines() {
+    for (place, row) in rows.lines().enumerate() {
         let octets = octets_of(rt.alloc(), row)?;
         print_told(rt, row, octets.as_slice(), &mut buffer)?;
-        for piece in [1usize, 2, 3, 64, 4096] {
+        for piece in [1usize, 2, 3, 64, 4096, any_size(place)] {
             print_pieces(rt, octets.as_slice(), piece, &mut buffer)?;
         }
         print_look(rt, octets.as_slice(), &mut buffer)?;

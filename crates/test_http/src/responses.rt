@@ -1,6 +1,6 @@
 //! Responses, and what is told of each.
 
-use crate::row::octets_of;
+use crate::row::{any_size, octets_of};
 use ilp_http::{Buffer, Response, ResponseFault, read_response};
 use ilp_io::Pieces;
 use std::rt::Files;
@@ -10,10 +10,10 @@ use std::{fs, io};
 pub(crate) fn print_responses<R: Files + Print + AllocGlobal>(rt: &R) -> io::Result<()> {
     let mut buffer = Buffer::new(rt.alloc())?;
     let rows = fs::read_to_string(rt, "responses.txt")?;
-    for row in rows.lines() {
+    for (place, row) in rows.lines().enumerate() {
         let octets = octets_of(rt.alloc(), row)?;
         print_told(rt, row, octets.as_slice(), &mut buffer)?;
-        for piece in [1usize, 2, 3, 64, 4096] {
+        for piece in [1usize, 2, 3, 64, 4096, any_size(place)] {
             print_pieces(rt, octets.as_slice(), piece, &mut buffer)?;
         }
     }

@@ -26,3 +26,8 @@ fn push_repeated(octets: &mut Vec<u8>, text: &str) -> Result<(), AllocError> {
     percent_decode(rest.as_bytes()).append_to(octets)?;
     Ok(())
 }
+
+/// A size of pieces, from 4 to 100, that looks like any.
+pub(crate) fn any_size(place: usize) -> usize {
+    4 + place.wrapping_mul(2_654_435_761) % 97
+}
