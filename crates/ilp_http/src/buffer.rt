@@ -15,7 +15,7 @@ pub struct Buffer {
 }
 
 impl Buffer {
-    /// Room for the longest message. It is refused only where memory for it is.
+    /// Room for the longest message. It is refused only where memory for it is denied.
     pub fn new(alloc: Global) -> Result<Buffer, AllocError> {
         let octets = vec![in alloc; 0; ROOM]?;
         Ok(Buffer { octets })
