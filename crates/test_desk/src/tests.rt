@@ -1,12 +1,12 @@
 //! Desks with two peers, which pay each other through two threads at once.
 
 ghost use Rattle.std.specs.Prelude.{◌≡◌};
-ghost use Rattle.ilp_workers.specs.Desk.{actors_of, base_of};
+ghost use Rattle.ilp_desk.specs.Desk.{actors_of, base_of};
 
 use ilp_accounts::Config;
 use ilp_book::{Book, Outcome, PeerReply};
 use ilp_packet::Prepare;
-use ilp_workers::{Desk, Naming, Share, WhyNoDesk};
+use ilp_desk::{Desk, Naming, Share, WhyNoDesk};
 use std::alloc::{AllocError, Allocator, Global};
 use std::marker::Brand;
 use std::process::Abort;

@@ -1,4 +1,5 @@
 pub mod Desk
+pub mod Records
 pub mod Portion
 pub mod Session
 pub mod Opening

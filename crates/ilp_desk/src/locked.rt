@@ -5,8 +5,8 @@ ghost use Rattle.ilp_book.specs.Book.{by, Does};
 ghost use Rattle.ilp_book.specs.Configured.{IsKnown};
 ghost use Rattle.ilp_book.specs.HoldStep.{incoming, hold_step, growth_of};
 ghost use Rattle.ilp_book.specs.AnswerStep.{answer_step, expire_step};
-ghost use Rattle.ilp_workers.specs.Desk.{IsBookOf, actors_of, base_of, most_workers};
-ghost use Rattle.ilp_workers.specs.Session.{IsSession};
+ghost use Rattle.ilp_desk.specs.Desk.{IsBookOf, actors_of, base_of, most_workers};
+ghost use Rattle.ilp_desk.specs.Session.{IsSession};
 
 use crate::naming::Naming;
 use crate::share::Share;
@@ -27,7 +27,7 @@ pub struct LockedBook<J: Naming> {
 
 impl<J: Naming> Model for LockedBook<J> {
     ghost use Rattle.ilp_book.specs.Book.{PlainBook};
-    ghost use Rattle.ilp_workers.specs.Session.{IsLocked};
+    ghost use Rattle.ilp_desk.specs.Session.{IsLocked};
 
     ghost Value = { PlainBook };
 

@@ -7,10 +7,10 @@ use Rattle.ilp_journal.specs.declared.entry.Entry.{Entry}
 use Rattle.ilp_journal.specs.Journal.{Entries}
 use Rattle.ilp_book.specs.Book.{PlainBook, Made, Does, with_entry, pushed}
 use Rattle.ilp_book.specs.Lawful.{IsLawful}
-use Rattle.ilp_workers.specs.Desk.{PlainDesk, IsActor, IsBookOf, base_of, booked}
-use Rattle.ilp_workers.specs.Portion.{Portion, portion}
-use Rattle.ilp_workers.specs.Session.{IsLocked, IsSession}
-use Rattle.ilp_workers.proofs.Callers.{IsBy}
+use Rattle.ilp_desk.specs.Desk.{PlainDesk, IsActor, IsBookOf, base_of, booked}
+use Rattle.ilp_desk.specs.Portion.{Portion, portion}
+use Rattle.ilp_desk.specs.Session.{IsLocked, IsSession}
+use Rattle.ilp_desk.proofs.Callers.{IsBy}
 
 -- a journal that begins with the opening one has its entries and those since
 pub length_booked : (desk : PlainDesk) (j : Entries) → j ≡ desk.opening ++ booked desk j → length j ≡ base_of desk + length (booked desk j)

@@ -1,6 +1,6 @@
 use Rattle.std.proofs.Common.{sym, ◌∙◌}
-use Rattle.ilp_workers.proofs.Sessions.{opened, none_booked}
-use Rattle.ilp_workers.proofs.locked.LockedBook.new.Goals as goal
+use Rattle.ilp_desk.proofs.Sessions.{opened, none_booked}
+use Rattle.ilp_desk.proofs.locked.LockedBook.new.Goals as goal
 
 -- nothing is counted of the opening journal
 pub invariant_of-result : goal.invariant_of-result

@@ -1,7 +1,7 @@
 use Rattle.std.specs.Prelude.{◌≡◌, ◌+◌, ◌≤◌, vec_len, vec_capacity, map}
 use Rattle.std.specs.List.{range_with_len}
-use Rattle.ilp_workers.specs.Portion.{portion}
-use Rattle.ilp_workers.proofs.desk.cut.Given as goal
+use Rattle.ilp_desk.specs.Portion.{portion}
+use Rattle.ilp_desk.proofs.desk.cut.Given as goal
 
 abbrev pub invariant-loop-actor : goal.invariant-loop-actor
 invariant-loop-actor g l =

@@ -6,13 +6,13 @@ use std::sync::ledger::Ledger;
 /// journal that it is opened with. Code that opens a desk is generic in it, and the call of that
 /// code picks it; a share of another desk doesn't compile.
 pub trait Naming: Ledger {
-    ghost use Rattle.ilp_workers.specs.Desk.{PlainDesk};
+    ghost use Rattle.ilp_desk.specs.Desk.{PlainDesk};
 
     ghost desk: { PlainDesk };
 }
 
 impl Naming for Brand {
-    ghost use Rattle.ilp_workers.specs.Desk.{no_desk};
+    ghost use Rattle.ilp_desk.specs.Desk.{no_desk};
 
     ghost desk = { no_desk };
 }

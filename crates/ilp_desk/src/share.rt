@@ -1,7 +1,7 @@
 //! What an actor of a desk is lent to book with.
 ghost use Rattle.std.specs.Prelude.{◌≡◌, ◌+◌, ◌<◌, ◌^◌};
-ghost use Rattle.ilp_workers.specs.Desk.{IsActor};
-ghost use Rattle.ilp_workers.specs.Portion.{portion};
+ghost use Rattle.ilp_desk.specs.Desk.{IsActor};
+ghost use Rattle.ilp_desk.specs.Portion.{portion};
 
 use crate::naming::Naming;
 use std::marker::Model;
@@ -18,8 +18,8 @@ pub struct Share<J: Naming> {
 
 impl<J: Naming> Model for Share<J> {
     ghost use Rattle.std.specs.Prelude.{◌≡◌};
-    ghost use Rattle.ilp_workers.specs.Desk.{IsActor};
-    ghost use Rattle.ilp_workers.specs.Portion.{Portion, portion};
+    ghost use Rattle.ilp_desk.specs.Desk.{IsActor};
+    ghost use Rattle.ilp_desk.specs.Portion.{Portion, portion};
 
     ghost Value = { Portion };
 

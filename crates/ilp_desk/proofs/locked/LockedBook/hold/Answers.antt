@@ -3,11 +3,11 @@ use Rattle.std.specs.Int.{w64}
 use Rattle.ilp_packet.specs.Packet.{plain_prepare}
 use Rattle.ilp_book.specs.Book.{by}
 use Rattle.ilp_book.specs.HoldStep.{incoming, growth_of, hold_step}
-use Rattle.ilp_workers.specs.Session.{IsSession}
-use Rattle.ilp_workers.proofs.Callers.{hold_by}
-use Rattle.ilp_workers.proofs.Sessions.{Leaves, leaves_by, locked_after, session_after}
-use Rattle.ilp_workers.proofs.locked.LockedBook.hold.Given as given
-use Rattle.ilp_workers.proofs.locked.LockedBook.hold.Goals as goal
+use Rattle.ilp_desk.specs.Session.{IsSession}
+use Rattle.ilp_desk.proofs.Callers.{hold_by}
+use Rattle.ilp_desk.proofs.Sessions.{Leaves, leaves_by, locked_after, session_after}
+use Rattle.ilp_desk.proofs.locked.LockedBook.hold.Given as given
+use Rattle.ilp_desk.proofs.locked.LockedBook.hold.Goals as goal
 
 -- the step is the share's actor's
 leaves : (g : given.Over) (c : goal.After-count g) → Leaves g.J.Naming.desk c.self.inside.book c.hold-result.new.self

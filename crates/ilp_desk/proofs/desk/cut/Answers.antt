@@ -1,8 +1,8 @@
 use Rattle.std.proofs.Common.{arith}
 use Rattle.std.proofs.lemmas.Grind.{common_steps}
 use Rattle.std.proofs.lemmas.List.FromFn.{map-range_with_len_more}
-use Rattle.ilp_workers.specs.Portion.{portion}
-use Rattle.ilp_workers.proofs.desk.cut.Goals as goal
+use Rattle.ilp_desk.specs.Portion.{portion}
+use Rattle.ilp_desk.proofs.desk.cut.Goals as goal
 
 -- one share more
 pub loop-actor-preserved : goal.loop-actor-preserved

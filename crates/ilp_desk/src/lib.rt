@@ -5,9 +5,11 @@
 mod desk;
 mod locked;
 mod naming;
+mod record;
 mod share;
 
 pub use desk::{Desk, NoDesk, WhyNoDesk};
 pub use locked::LockedBook;
 pub use naming::Naming;
+pub use record::{EndedHold, Ending, Record, Recorded};
 pub use share::Share;

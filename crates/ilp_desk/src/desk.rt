@@ -5,9 +5,9 @@ ghost use Rattle.ilp_book.specs.Book.{by};
 ghost use Rattle.ilp_book.specs.Configured.{IsKnown};
 ghost use Rattle.ilp_book.specs.HoldStep.{incoming, hold_step, growth_of};
 ghost use Rattle.ilp_book.specs.AnswerStep.{answer_step, expire_step};
-ghost use Rattle.ilp_workers.specs.Desk.{actors_of, base_of};
-ghost use Rattle.ilp_workers.specs.Opening.{IsWhyNot, IsWorkerCount, first_shares};
-ghost use Rattle.ilp_workers.specs.Session.{IsReplyAt};
+ghost use Rattle.ilp_desk.specs.Desk.{actors_of, base_of};
+ghost use Rattle.ilp_desk.specs.Opening.{IsWhyNot, IsWorkerCount, first_shares};
+ghost use Rattle.ilp_desk.specs.Session.{IsReplyAt};
 
 use crate::locked::LockedBook;
 use crate::naming::Naming;

@@ -2,11 +2,11 @@ use Rattle.std.proofs.Common.{◌-◌, arith, subst, to_z, of_z}
 use Rattle.std.specs.Int.{w64}
 use Rattle.ilp_book.specs.Book.{by}
 use Rattle.ilp_book.specs.AnswerStep.{expire_step}
-use Rattle.ilp_workers.specs.Session.{IsSession}
-use Rattle.ilp_workers.proofs.Callers.{expire_by}
-use Rattle.ilp_workers.proofs.Sessions.{Leaves, leaves_by, locked_after, session_after}
-use Rattle.ilp_workers.proofs.locked.LockedBook.expire_one.Given as given
-use Rattle.ilp_workers.proofs.locked.LockedBook.expire_one.Goals as goal
+use Rattle.ilp_desk.specs.Session.{IsSession}
+use Rattle.ilp_desk.proofs.Callers.{expire_by}
+use Rattle.ilp_desk.proofs.Sessions.{Leaves, leaves_by, locked_after, session_after}
+use Rattle.ilp_desk.proofs.locked.LockedBook.expire_one.Given as given
+use Rattle.ilp_desk.proofs.locked.LockedBook.expire_one.Goals as goal
 
 -- the step is the share's actor's
 leaves : (g : given.Over) (c : goal.After-count g) → Leaves g.J.Naming.desk c.self.inside.book c.expire_one-result.new.self
