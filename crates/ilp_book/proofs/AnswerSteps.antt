@@ -1,5 +1,5 @@
 -- An answer or an expiry that a step appends to a lawful journal is admitted by its rules.
-use Rattle.std.proofs.Common.{◌≡◌, ℕ, suc, ◌+◌, ℤ, Bool, true, false, cond, not, List, [], ◌∷◌, Option, Some, None, refl, sym, ap, ◌∙◌, subst, arith}
+use Rattle.std.proofs.Common.{◌≡◌, ℕ, suc, ◌+◌, ℤ, Bool, true, false, cond, not, List, [], ◌∷◌, length, Option, Some, None, refl, sym, ap, ◌∙◌, subst, arith}
 use Rattle.std.specs.Prelude.{Result, Ok, Err, ◌≤ℤ◌, ◌<ℤ◌, int_le, int_lt, ◌↔◌, ◌≢◌, option_map, option_and_then, IsSome, IsNone, IfSome}
 use Rattle.std.proofs.lemmas.Int.{ints}
 use Rattle.ilp_order.specs.Refusals.{◌>>=◌, refuse_if}
@@ -11,13 +11,16 @@ use Rattle.ilp_journal.specs.declared.entry.Hold.{Hold}
 use Rattle.ilp_journal.specs.Journal.{Entries, AnswersOnce, answered, hold_at, as_hold, answer_of, is_unanswered, open_hold_at}
 use Rattle.ilp_book.specs.declared.calls.PeerReply.{PeerReply}
 use Rattle.ilp_book.specs.declared.calls.PeerReply.TheVariants as peer_reply
+use Rattle.ilp_book.specs.declared.calls.Outcome.{Outcome}
+use Rattle.ilp_book.specs.declared.calls.Outcome.TheVariants as outcome
+use Rattle.ilp_book.specs.declared.fault.NotOpen.{NotOpen}
 use Rattle.ilp_terms.specs.Condition.{meets}
 use Rattle.ilp_book.specs.Book.{PlainBook, By, moment_at, entry_by, with_entry, pushed}
 use Rattle.ilp_book.specs.Open.{earlier, numbered_hold, earliest_from, earliest}
 use Rattle.ilp_book.specs.Lawful.{IsLawful, IsOutcome}
-use Rattle.ilp_book.specs.AnswerStep.{preimage_of, verdict, ending, answer_booked, answer_step, due, expire_booked, expire_step}
+use Rattle.ilp_book.specs.AnswerStep.{preimage_of, verdict, ending, outcome_of, answer_booked, answer_step, due, expire_booked, expire_step}
 use Rattle.ilp_book.proofs.LawfulGrowth.{Admits, lawful_push, limits_now}
-use Rattle.ilp_order.proofs.RefusalLemmas.{chosen, is_none_at, is_some_at, some_same}
+use Rattle.ilp_order.proofs.RefusalLemmas.{chosen, is_none_at, is_some_at, some_same, ok_same}
 use Rattle.ilp_book.proofs.InTime.{in_time, calm}
 
 -- ---- verdicts
@@ -178,3 +181,37 @@ expire_lawful book caller lawful = of (due book.entries (moment_at book.entries 
     of : (o : Option ℕ) → ((n : ℕ) → o ≡ Some n → IsLawful (pushed book (entry_by book caller (what.Released n cause.Late)))) → IsLawful (with_entry book (expire_booked book caller o).entry)
     of None keeps = lawful
     of (Some n) keeps = keeps n refl
+
+-- ---- what an answer replies, and what it books
+
+-- the number of the entry that an outcome tells
+abbrev pub entry_told : Outcome → ℕ
+entry_told (outcome.Fulfilled entry) = entry
+entry_told (outcome.Released entry c) = entry
+
+-- an answer with an outcome books one entry, which has the number that the outcome tells
+pub outcome_books_one : (book : PlainBook) (caller : By) (n : ℕ) (reply : PeerReply) (told : Outcome) → (answer_step book caller n reply).reply ≡ Ok told
+    → (e : Entry) × ((answer_step book caller n reply).entry ≡ Some e) × (entry_told told ≡ length book.entries)
+unfolding answer_step
+outcome_books_one book caller n reply told = of (open_hold_at book.entries n)
+  where
+    numbered : (v : Result (List ℕ) Cause) → outcome_of (length book.entries) v ≡ told → entry_told told ≡ length book.entries
+    numbered (Ok preimage) e = sym (ap entry_told e)
+    numbered (Err c) e = sym (ap entry_told e)
+
+    of : (o : Option Hold) → (answer_booked book caller n reply o).reply ≡ Ok told
+        → (e : Entry) × ((answer_booked book caller n reply o).entry ≡ Some e) × (entry_told told ≡ length book.entries)
+    of None e = absurd cc
+    of (Some h) e =
+        let v = verdict h (moment_at book.entries caller.now) reply in
+        (entry_by book caller (ending n v), refl, numbered v (ok_same _ _ e))
+
+-- an answer of a hold that is not open books nothing
+pub not_open_books_nothing : (book : PlainBook) (caller : By) (n : ℕ) (reply : PeerReply) (fault : NotOpen) → (answer_step book caller n reply).reply ≡ Err fault
+    → (answer_step book caller n reply).entry ≡ None
+unfolding answer_step
+not_open_books_nothing book caller n reply fault = of (open_hold_at book.entries n)
+  where
+    of : (o : Option Hold) → (answer_booked book caller n reply o).reply ≡ Err fault → (answer_booked book caller n reply o).entry ≡ None
+    of None e = refl
+    of (Some h) e = absurd cc

@@ -1,5 +1,5 @@
 -- A hold that a step appends to a lawful journal is admitted by its rules.
-use Rattle.std.proofs.Common.{◌≡◌, ℕ, ◌+◌, ◌≤◌, ℤ, pos, ◌+ℤ◌, ◌-ℤ◌, Bool, true, false, cond, not, length, Option, Some, refl, sym, ◌∙◌, subst, arith}
+use Rattle.std.proofs.Common.{◌≡◌, ℕ, ◌+◌, ◌≤◌, ℤ, pos, ◌+ℤ◌, ◌-ℤ◌, Bool, true, false, cond, not, length, Option, Some, None, refl, sym, ◌∙◌, subst, arith}
 use Rattle.std.specs.Prelude.{Result, Ok, Err, ◌≤ℤ◌, ◌<ℤ◌, int_le, int_lt, nat_lt, nat_le, ◌==◌}
 use Rattle.std.specs.Int.{int_min}
 use Rattle.std.proofs.lemmas.Int.{ints, clamps}
@@ -24,7 +24,7 @@ use Rattle.ilp_book.specs.declared.fault.HoldFault.{HoldFault}
 use Rattle.ilp_book.specs.declared.fault.HoldFault.TheVariants as hold_fault
 use Rattle.ilp_book.specs.Configured.{IsKnown, peer_assets, asset_of, quote_between}
 use Rattle.ilp_book.specs.Lawful.{IsLawful, IsWithinLimits, HasTerms}
-use Rattle.ilp_book.specs.Book.{PlainBook, By, Growth, granted, denied, moment_at, entry_by, has_room, with_entry, Does}
+use Rattle.ilp_book.specs.Book.{PlainBook, By, Growth, granted, denied, moment_at, entry_by, has_room, with_entry, Made, Does}
 use Rattle.ilp_book.specs.HoldStep.{Incoming, given_route, incoming, with_quote_fault, latest_answer, has_total, hold_terms, hold_fitted, hold_checked, hold_booked, hold_step}
 use Rattle.ilp_book.proofs.Known.{route_known, asset_is, covered}
 use Rattle.ilp_book.proofs.LawfulGrowth.{Admits, lawful_push, limits_now}
@@ -36,15 +36,15 @@ quoted (Err fault) next y e = absurd cc
 quoted (Ok x) next y e = (x, refl, e)
 
 -- what the terms of a hold are
-record TermsFacts (C : Configuration) (m : ℤ) (sent : Incoming) (h : Hold) : Type 0 where
-  sender : h.from ≡ sent.from
-  small : nat_lt (peer_at C sent.from).max_packet sent.packet.amount ≡ false
-  routed : sent.route ≡ Some h.to
-  onward : (h.to == sent.from) ≡ false
-  in_time : int_le (latest_answer C sent.packet) m ≡ false
-  terms : (q : Quote) × (quote_between C sent.from h.to sent.packet.amount ≡ Ok q) × (h.fee ≡ q.fee) × (h.out ≡ q.out)
-  amount : h.amount ≡ sent.packet.amount
-  deadline : h.deadline ≡ int_min (latest_answer C sent.packet) (m +ℤ pos C.settings.max_hold_ms)
+pub record TermsFacts (C : Configuration) (m : ℤ) (sent : Incoming) (h : Hold) : Type 0 where
+  pub sender : h.from ≡ sent.from
+  pub small : nat_lt (peer_at C sent.from).max_packet sent.packet.amount ≡ false
+  pub routed : sent.route ≡ Some h.to
+  pub onward : (h.to == sent.from) ≡ false
+  pub in_time : int_le (latest_answer C sent.packet) m ≡ false
+  pub terms : (q : Quote) × (quote_between C sent.from h.to sent.packet.amount ≡ Ok q) × (h.fee ≡ q.fee) × (h.out ≡ q.out)
+  pub amount : h.amount ≡ sent.packet.amount
+  pub deadline : h.deadline ≡ int_min (latest_answer C sent.packet) (m +ℤ pos C.settings.max_hold_ms)
 
 terms_facts : (C : Configuration) (m : ℤ) (sent : Incoming) (h : Hold) → hold_terms C m sent ≡ Ok h → TermsFacts C m sent h
 unfolding hold_terms
@@ -190,3 +190,35 @@ hold_by_route book new caller from packet growth result route e does = subst (λ
 -- the route that a destination has is its own
 pub own_route : (C : Configuration) (from : ℕ) (packet : PlainPrepare) → IsRoute C.routes packet.destination (incoming C from packet).route
 own_route C from packet = IsRoute-routed_peer C.routes packet.destination
+
+-- ---- what a step answers, and what it books
+
+-- a step accepts a Prepare: it books a hold of these terms, and tells what of it is for the next peer
+pub record Accepts (book : PlainBook) (caller : By) (sent : Incoming) (made : Made (Result Held HoldFault)) (held : Held) : Type 0 where
+  pub hold : Hold
+  pub terms : TermsFacts book.config (moment_at book.entries caller.now) sent hold
+  pub told : held ≡ record { number = length book.entries; to = hold.to; out = hold.out; deadline = hold.deadline }
+  pub entry : made.entry ≡ Some (entry_by book caller (what.Hold hold))
+
+-- whatever a step answers with, it accepts
+pub accepted : (book : PlainBook) (caller : By) (sent : Incoming) (growth : Growth) (held : Held) → (hold_step book caller sent growth).reply ≡ Ok held
+    → Accepts book caller sent (hold_step book caller sent growth) held
+unfolding hold_step
+accepted book caller sent growth held = of (hold_checked book (moment_at book.entries caller.now) sent) growth (λ h e. (hold_facts book (moment_at book.entries caller.now) sent h e).terms)
+  where
+    of : (r : Result Hold HoldFault) (g : Growth) → ((h : Hold) → r ≡ Ok h → TermsFacts book.config (moment_at book.entries caller.now) sent h)
+        → (hold_booked book caller g r).reply ≡ Ok held → Accepts book caller sent (hold_booked book caller g r) held
+    of (Err fault) g facts e = absurd cc
+    of (Ok h) denied facts e = absurd cc
+    of (Ok h) granted facts e = record { hold = h; terms = facts h refl; told = sym (ok_same _ held e); entry = refl }
+
+-- a step that refuses a Prepare books nothing
+pub refusal_books_nothing : (book : PlainBook) (caller : By) (sent : Incoming) (growth : Growth) (fault : HoldFault) → (hold_step book caller sent growth).reply ≡ Err fault
+    → (hold_step book caller sent growth).entry ≡ None
+unfolding hold_step
+refusal_books_nothing book caller sent growth fault = of (hold_checked book (moment_at book.entries caller.now) sent) growth
+  where
+    of : (r : Result Hold HoldFault) (g : Growth) → (hold_booked book caller g r).reply ≡ Err fault → (hold_booked book caller g r).entry ≡ None
+    of (Err found) g e = refl
+    of (Ok h) denied e = refl
+    of (Ok h) granted e = absurd cc

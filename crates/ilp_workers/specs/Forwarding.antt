@@ -1,0 +1,232 @@
+-- What becomes of a packet that a worker is to forward: what is booked, what the next peer is handed, and what the sender is
+-- answered.
+use Rattle.std.specs.Prelude.{◌≡◌, ℕ, ◌+◌, ℤ, pos, ◌+ℤ◌, ◌≤ℤ◌, ◌⊎◌, List, [], ◌∷◌, ◌++◌, length, Option, Some, None, Result, Ok, Err, ⊤, if◌then◌else◌}
+use Rattle.std.specs.Int.{int_min, int_max}
+use Rattle.ilp_terms.specs.Condition.{meets}
+use Rattle.ilp_terms.specs.Expiry.{last_of_all}
+use Rattle.ilp_packet.specs.declared.fault.PacketFault.{PacketFault}
+use Rattle.ilp_packet.specs.Packet.{PlainPacket, PlainPrepare, prepare, fulfill, reject, Spells}
+use Rattle.ilp_packet.specs.Reading.{reading}
+use Rattle.ilp_assets.specs.declared.quote.Quote.{Quote}
+use Rattle.ilp_lookup.specs.Answer.{routed_peer}
+use Rattle.ilp_accounts.specs.Configuration.{Configuration}
+use Rattle.ilp_journal.specs.declared.entry.Cause.TheVariants as cause
+use Rattle.ilp_book.specs.declared.calls.Held.{Held}
+use Rattle.ilp_book.specs.declared.calls.PeerReply.{PeerReply}
+use Rattle.ilp_book.specs.declared.calls.PeerReply.TheVariants as peer_reply
+use Rattle.ilp_book.specs.declared.calls.Outcome.{Outcome}
+use Rattle.ilp_book.specs.declared.calls.Outcome.TheVariants as outcome
+use Rattle.ilp_book.specs.declared.fault.HoldFault.{HoldFault}
+use Rattle.ilp_book.specs.declared.fault.NotOpen.{NotOpen}
+use Rattle.ilp_book.specs.Book.{by}
+use Rattle.ilp_book.specs.Configured.{quote_between}
+use Rattle.ilp_book.specs.HoldStep.{incoming, hold_step, growth_of, latest_answer}
+use Rattle.ilp_book.specs.AnswerStep.{answer_step}
+use Rattle.ilp_desk.specs.declared.record.Record.{Record}
+use Rattle.ilp_desk.specs.declared.record.Recorded.TheVariants as recorded
+use Rattle.ilp_desk.specs.declared.record.Ending.{Ending}
+use Rattle.ilp_desk.specs.declared.record.Ending.TheVariants.{Fulfilled, Released}
+use Rattle.ilp_desk.specs.Desk.{PlainDesk}
+use Rattle.ilp_desk.specs.Portion.{Portion, portion}
+use Rattle.ilp_desk.specs.Session.{IsReplyAt}
+use Rattle.ilp_workers.specs.declared.rejects.LocalReject.{LocalReject}
+use Rattle.ilp_workers.specs.declared.rejects.LocalReject.TheVariants as local
+use Rattle.ilp_workers.specs.declared.reply.BadPacket.{BadPacket}
+use Rattle.ilp_workers.specs.declared.reply.BadPacket.TheVariants.{Unread, NotPrepare}
+use Rattle.ilp_workers.specs.declared.reply.Reply.{Reply}
+use Rattle.ilp_workers.specs.declared.reply.Reply.TheVariants as reply
+use Rattle.ilp_workers.specs.declared.reply.Receipt.{Receipt}
+use Rattle.ilp_workers.specs.declared.reply.Answered.{Answered}
+use Rattle.ilp_workers.specs.declared.closing.Closing.{Closing}
+use Rattle.ilp_workers.specs.declared.closing.Told.{Told}
+use Rattle.ilp_workers.specs.declared.closing.Told.TheVariants.{Passed, Rejected}
+use Rattle.ilp_workers.specs.Links.{Tells, sending}
+use Rattle.ilp_workers.specs.Rejects.{local_reject, reject_of_fault}
+use Rattle.ilp_workers.specs.Worker.{PlainWorker}
+
+-- ---- what comes
+
+-- octets that a peer of a desk sent
+pub record Arrival : Type 0 where
+  pub desk : PlainDesk
+  pub from : ℕ
+  pub octets : List ℕ
+
+abbrev pub arrival : PlainDesk → ℕ → List ℕ → Arrival
+arrival desk from octets = record { desk = desk; from = from; octets = octets }
+
+abbrev pub IsNoPrepare : PlainPacket → Type 0
+IsNoPrepare (prepare p) = ⊥
+IsNoPrepare (fulfill f) = ⊤
+IsNoPrepare (reject r) = ⊤
+
+-- No packet stands for the octets, and this is their first fault; or one does that is no Prepare.
+abbrev pub IsBad : List ℕ → BadPacket → Type 0
+IsBad octets (Unread fault) = reading octets ≡ Err fault
+IsBad octets NotPrepare = (packet : PlainPacket) × Spells octets packet × IsNoPrepare packet
+
+-- a Prepare of a peer
+pub record Order : Type 0 where
+  pub desk : PlainDesk
+  pub from : ℕ
+  pub packet : PlainPrepare
+
+abbrev pub order : PlainDesk → ℕ → PlainPrepare → Order
+order desk from packet = record { desk = desk; from = from; packet = packet }
+
+-- ---- holding
+
+-- A book of the desk was asked at a moment to hold the Prepare, and this was its reply.
+abbrev pub IsHeldAt : Order → ℤ → Portion → Portion → Result Held HoldFault → Type 0
+IsHeldAt o now before after reply =
+    IsReplyAt o.desk (λ book. hold_step book (by before.actor now) (incoming book.config o.from o.packet) (growth_of reply)) before after reply
+
+-- a time, brought to the years 1970 to 9999
+abbrev pub within_years : ℤ → ℤ
+within_years now = int_max (pos 0) (int_min now last_of_all)
+
+-- What is held goes to the peer of the destination's route, as much as the two peers' quote says. Its deadline leaves the window
+-- before the Prepare expires, and comes no sooner than that or the longest hold from the moment on.
+pub record IsOnItsWay (o : Order) (now : ℤ) (held : Held) : Type 0 where
+  pub routed : routed_peer o.desk.config.routes o.packet.destination ≡ Some held.to
+  pub quoted : (q : Quote) × (quote_between o.desk.config o.from held.to o.packet.amount ≡ Ok q) × (held.out ≡ q.out)
+  pub latest : held.deadline ≤ℤ latest_answer o.desk.config o.packet
+  pub soonest : int_min (latest_answer o.desk.config o.packet) (within_years now +ℤ pos o.desk.config.settings.max_hold_ms) ≤ℤ held.deadline
+
+-- the Prepare that the next peer is handed
+abbrev pub onward : Order → Held → PlainPrepare
+onward o held = record { amount = held.out; expires = held.deadline; condition = o.packet.condition; destination = o.packet.destination; payload = o.packet.payload }
+
+-- ---- what comes back
+
+-- What a reply comes to has three parts: what the book is told, how the hold ends if it is open and in time, and what the sender
+-- is told then.
+abbrev pub closing : PeerReply → Ending → Told → Closing
+closing answer ending told = record { answer = answer; ending = ending; told = told }
+
+-- of no reply, or of one that is no Fulfill and no Reject
+abbrev pub closing_of_none : Closing
+closing_of_none = closing peer_reply.NoReply (Released cause.NoReply) (Rejected local.PeerUnreachable)
+
+-- of a Fulfill, by the condition that its preimage is to meet
+abbrev pub closing_of_fulfill : List ℕ → List ℕ → Closing
+closing_of_fulfill condition preimage =
+    if meets condition preimage then closing (peer_reply.Fulfil preimage) Fulfilled Passed
+    else closing peer_reply.BadFulfil (Released cause.WrongPreimage) (Rejected local.WrongCondition)
+
+-- of a packet
+abbrev pub closing_of_packet : List ℕ → Result PlainPacket PacketFault → Closing
+closing_of_packet condition (Ok (fulfill f)) = closing_of_fulfill condition f.preimage
+closing_of_packet condition (Ok (reject r)) = closing (peer_reply.Reject r.code) (Released (cause.Peer r.code)) Passed
+closing_of_packet condition (Ok (prepare p)) = closing_of_none
+closing_of_packet condition (Err fault) = closing_of_none
+
+-- of the octets that came for a Prepare of this condition, if any did
+abbrev pub closing_of : List ℕ → Option (List ℕ) → Closing
+closing_of condition (Some octets) = closing_of_packet condition (reading octets)
+closing_of condition None = closing_of_none
+
+-- ---- ending
+
+-- A book of the desk was told at a moment what came for a hold, and this was its reply.
+abbrev pub IsAnsweredAt : Order → ℤ → ℕ → PeerReply → Portion → Portion → Result Outcome NotOpen → Type 0
+IsAnsweredAt o now hold answer before after reply =
+    IsReplyAt o.desk (λ book. answer_step book (by before.actor now) hold answer) before after reply
+
+-- the entry that a book appended to answer a hold
+abbrev pub entry_of : Result Outcome NotOpen → Option ℕ
+entry_of (Ok (outcome.Fulfilled entry)) = Some entry
+entry_of (Ok (outcome.Released entry c)) = Some entry
+entry_of (Err fault) = None
+
+-- the octets that the sender is answered: those that came, or a Reject of the connector's own
+abbrev pub IsTold : Configuration → Option (List ℕ) → Told → List ℕ → Type 0
+IsTold C came Passed octets = came ≡ Some octets
+IsTold C came (Rejected why) octets = Spells octets (reject (local_reject C why))
+
+-- what the books say of a hold that ended by this entry
+abbrev pub record_of_end : Order → Held → Ending → ℕ → Record
+record_of_end o held ending entry = record { number = entry; what = recorded.Ended (record { hold = held.number; from = o.from; to = held.to; amount = o.packet.amount; out = held.out; condition = o.packet.condition; ending = ending }) }
+
+-- The hold ended by what came back: the sender is told that, and the worker keeps the record.
+abbrev pub EndsInTime : Order → Held → Option (List ℕ) → ℕ → PlainWorker → PlainWorker → List ℕ → Type 0
+EndsInTime o held came entry before after octets =
+    let c = closing_of o.packet.condition came in
+    IsTold o.desk.config came c.told octets × (after.kept ≡ before.kept ++ record_of_end o held c.ending entry ∷ [])
+
+-- The hold was over, or ended as late: the sender is told that time ran out, and the worker keeps nothing.
+abbrev pub EndsLate : Order → PlainWorker → PlainWorker → List ℕ → Type 0
+EndsLate o before after octets =
+    IsTold o.desk.config None (Rejected local.TransferTimedOut) octets × (after.kept ≡ before.kept)
+
+-- An answer that the books don't have ends no hold in time.
+abbrev pub Ends : Order → Held → Option (List ℕ) → Option ℕ → PlainWorker → PlainWorker → List ℕ → Type 0
+Ends o held came None before after octets = EndsLate o before after octets
+Ends o held came (Some entry) before after octets = EndsInTime o held came entry before after octets ⊎ EndsLate o before after octets
+
+-- ---- a Prepare that is forwarded
+
+-- Nothing is booked: memory was denied before a book was asked, or a book refused the hold. No peer is handed anything.
+abbrev pub IsReason : Order → PlainWorker → PlainWorker → LocalReject → Type 0
+IsReason o before after why =
+    ((why ≡ local.InternalError) × (after.moments ≡ before.moments))
+    ⊎ ((now : ℤ) × (fault : HoldFault) × Tells before.moments now after.moments
+    × IsHeldAt o now before.share after.share (Err fault) × (why ≡ reject_of_fault o.packet.amount fault))
+
+pub record IsRefused (o : Order) (before after : PlainWorker) (octets : List ℕ) : Type 0 where
+  pub why : LocalReject
+  pub reason : IsReason o before after why
+  pub told : IsTold o.desk.config None (Rejected why) octets
+  pub share : after.share ≡ before.share
+  pub kept : after.kept ≡ before.kept
+  pub sent : after.sent ≡ before.sent
+  pub engine : after.engine ≡ before.engine
+
+-- how many entries a receipt names
+abbrev pub count_of : Option ℕ → ℕ
+count_of None = 0
+count_of (Some n) = 1
+
+-- A hold is booked at a moment of the clock, and the next peer is handed one packet. What came back for it is told to a book at
+-- the clock's next moment.
+pub record IsSent (o : Order) (before after : PlainWorker) (octets : List ℕ) (hold : ℕ) (answer : Option ℕ) : Type 0 where
+  pub held : Held
+  pub now : ℤ
+  pub later : ℤ
+  pub mid : Portion
+  pub moments : Option (List ℤ)
+  pub came : Option (List ℕ)
+  pub packet : List ℕ
+  pub ended : Result Outcome NotOpen
+
+  pub number : held.number ≡ hold
+  pub asked : Tells before.moments now moments
+  pub booked : IsHeldAt o now before.share mid (Ok held)
+  pub terms : IsOnItsWay o now held
+  pub spelled : Spells packet (prepare (onward o held))
+  pub handed : Tells before.sent (sending held.to packet held.deadline came) after.sent
+  pub asked_again : Tells moments later after.moments
+  pub answered : IsAnsweredAt o later hold (closing_of o.packet.condition came).answer mid after.share ended
+  pub entry : entry_of ended ≡ answer
+  pub ends : Ends o held came answer before after octets
+  pub share : after.share ≡ portion before.share.actor (before.share.entries + 1 + count_of answer)
+  pub engine : after.engine ≡ before.engine
+
+-- by what the receipt names: an answer only beside a hold
+abbrev pub IsForwardedBy : Order → PlainWorker → PlainWorker → List ℕ → Option ℕ → Option ℕ → Type 0
+IsForwardedBy o before after octets None None = IsRefused o before after octets
+IsForwardedBy o before after octets None (Some answer) = ⊥
+IsForwardedBy o before after octets (Some hold) answer = IsSent o before after octets hold answer
+
+-- ---- whatever is forwarded
+
+-- Octets that are no Prepare leave all as it was.
+abbrev pub IsReply : Arrival → PlainWorker → PlainWorker → Receipt → Reply → Type 0
+IsReply a before after receipt (reply.Bad fault) =
+    IsBad a.octets fault × (after ≡ before) × (receipt.hold ≡ None) × (receipt.answer ≡ None)
+IsReply a before after receipt (reply.Ilp octets) =
+    (packet : PlainPrepare) × Spells a.octets (prepare packet)
+    × IsForwardedBy (order a.desk a.from packet) before after octets.now receipt.hold receipt.answer
+
+abbrev pub Forwards : Arrival → PlainWorker → PlainWorker → Answered → Type 0
+Forwards a before after answered = IsReply a before after answered.receipt answered.reply

@@ -1,0 +1,4 @@
+pub mod Links
+pub mod Rejects
+pub mod Worker
+pub mod Forwarding

@@ -1,0 +1,15 @@
+//! The actors of a desk: workers, which pass packets on, the sweeper and the settler. Each has a
+//! share of the desk, a clock and links to peers and engines.
+#![tactic(auto)]
+
+mod closing;
+mod links;
+mod parts;
+mod rejects;
+mod reply;
+mod worker;
+
+pub use links::{Clock, EngineLink, EngineReply, LinkFault, Uplink};
+pub use rejects::LocalReject;
+pub use reply::{Answered, BadPacket, Receipt, Reply};
+pub use worker::{NoWorker, Worker};
