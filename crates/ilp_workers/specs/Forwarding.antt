@@ -8,7 +8,6 @@ use Rattle.ilp_packet.specs.declared.fault.PacketFault.{PacketFault}
 use Rattle.ilp_packet.specs.Packet.{PlainPacket, PlainPrepare, prepare, fulfill, reject, Spells}
 use Rattle.ilp_packet.specs.Reading.{reading}
 use Rattle.ilp_assets.specs.declared.quote.Quote.{Quote}
-use Rattle.ilp_lookup.specs.Answer.{routed_peer}
 use Rattle.ilp_accounts.specs.Configuration.{Configuration}
 use Rattle.ilp_journal.specs.declared.entry.Cause.TheVariants as cause
 use Rattle.ilp_book.specs.declared.calls.Held.{Held}
@@ -27,20 +26,17 @@ use Rattle.ilp_desk.specs.declared.record.Recorded.TheVariants as recorded
 use Rattle.ilp_desk.specs.declared.record.Ending.{Ending}
 use Rattle.ilp_desk.specs.declared.record.Ending.TheVariants.{Fulfilled, Released}
 use Rattle.ilp_desk.specs.Desk.{PlainDesk}
-use Rattle.ilp_desk.specs.Portion.{Portion, portion}
+use Rattle.ilp_desk.specs.Portion.{Portion, portion, Holding, holding}
 use Rattle.ilp_desk.specs.Session.{IsReplyAt}
 use Rattle.ilp_workers.specs.declared.rejects.LocalReject.{LocalReject}
 use Rattle.ilp_workers.specs.declared.rejects.LocalReject.TheVariants as local
 use Rattle.ilp_workers.specs.declared.reply.BadPacket.{BadPacket}
 use Rattle.ilp_workers.specs.declared.reply.BadPacket.TheVariants.{Unread, NotPrepare}
-use Rattle.ilp_workers.specs.declared.reply.Reply.{Reply}
-use Rattle.ilp_workers.specs.declared.reply.Reply.TheVariants as reply
 use Rattle.ilp_workers.specs.declared.reply.Receipt.{Receipt}
-use Rattle.ilp_workers.specs.declared.reply.Answered.{Answered}
 use Rattle.ilp_workers.specs.declared.closing.Closing.{Closing}
 use Rattle.ilp_workers.specs.declared.closing.Told.{Told}
 use Rattle.ilp_workers.specs.declared.closing.Told.TheVariants.{Passed, Rejected}
-use Rattle.ilp_workers.specs.Links.{Tells, sending}
+use Rattle.ilp_workers.specs.Links.{Tells, Sending, sending}
 use Rattle.ilp_workers.specs.Rejects.{local_reject, reject_of_fault}
 use Rattle.ilp_workers.specs.Worker.{PlainWorker}
 
@@ -88,16 +84,37 @@ within_years now = int_max (pos 0) (int_min now last_of_all)
 -- What is held goes to the peer of the destination's route, as much as the two peers' quote says. Its deadline leaves the window
 -- before the Prepare expires, and comes no sooner than that or the longest hold from the moment on.
 pub record IsOnItsWay (o : Order) (now : ℤ) (held : Held) : Type 0 where
-  pub routed : routed_peer o.desk.config.routes o.packet.destination ≡ Some held.to
+  pub routed : (incoming o.desk.config o.from o.packet).route ≡ Some held.to
   pub quoted : (q : Quote) × (quote_between o.desk.config o.from held.to o.packet.amount ≡ Ok q) × (held.out ≡ q.out)
+  pub begins : pos 0 ≤ℤ held.deadline
   pub latest : held.deadline ≤ℤ latest_answer o.desk.config o.packet
   pub soonest : int_min (latest_answer o.desk.config o.packet) (within_years now +ℤ pos o.desk.config.settings.max_hold_ms) ≤ℤ held.deadline
 
--- the Prepare that the next peer is handed
-abbrev pub onward : Order → Held → PlainPrepare
-onward o held = record { amount = held.out; expires = held.deadline; condition = o.packet.condition; destination = o.packet.destination; payload = o.packet.payload }
+-- A hold is booked at a moment that the clock gives.
+pub record IsHolding (o : Order) (moments moments' : Option (List ℤ)) (before after : Portion) (held : Held) : Type 0 where
+  pub now : ℤ
+  pub asked : Tells moments now moments'
+  pub booked : IsHeldAt o now before after (Ok held)
+  pub raised : after ≡ portion before.actor (before.entries + 1)
+  pub terms : IsOnItsWay o now held
 
--- ---- what comes back
+-- None is booked: memory was denied before a book was asked, or a book refused it at a moment that the clock gives.
+abbrev pub IsReason : Order → Option (List ℤ) → Option (List ℤ) → Portion → Portion → LocalReject → Type 0
+IsReason o moments moments' before after why =
+    ((why ≡ local.InternalError) × (moments' ≡ moments))
+    ⊎ ((now : ℤ) × (fault : HoldFault) × Tells moments now moments' × IsHeldAt o now before after (Err fault) × (why ≡ reject_of_fault o.packet.amount fault))
+
+-- ---- asking
+
+-- the Prepare that the next peer is handed
+abbrev pub onward : PlainPrepare → Held → PlainPrepare
+onward packet held = record { amount = held.out; expires = held.deadline; condition = packet.condition; destination = packet.destination; payload = packet.payload }
+
+-- The next peer is handed one packet, and this came back for it.
+pub record IsAsked (packet : PlainPrepare) (held : Held) (sent sent' : Option (List Sending)) (came : Option (List ℕ)) : Type 0 where
+  pub octets : List ℕ
+  pub spelled : Spells octets (prepare (onward packet held))
+  pub handed : Tells sent (sending held.to octets held.deadline came) sent'
 
 -- What a reply comes to has three parts: what the book is told, how the hold ends if it is open and in time, and what the sender
 -- is told then.
@@ -133,100 +150,90 @@ abbrev pub IsAnsweredAt : Order → ℤ → ℕ → PeerReply → Portion → Po
 IsAnsweredAt o now hold answer before after reply =
     IsReplyAt o.desk (λ book. answer_step book (by before.actor now) hold answer) before after reply
 
--- the entry that a book appended to answer a hold
+-- how a hold ended, and the number of the entry that says so
+abbrev pub end_of : Outcome → ℕ × Ending
+end_of (outcome.Fulfilled entry) = (entry, Fulfilled)
+end_of (outcome.Released entry c) = (entry, Released c)
+
+-- the entry that a book appended to answer a hold, if it did
 abbrev pub entry_of : Result Outcome NotOpen → Option ℕ
-entry_of (Ok (outcome.Fulfilled entry)) = Some entry
-entry_of (Ok (outcome.Released entry c)) = Some entry
+entry_of (Ok told) = Some (end_of told).0
 entry_of (Err fault) = None
 
--- the octets that the sender is answered: those that came, or a Reject of the connector's own
-abbrev pub IsTold : Configuration → Option (List ℕ) → Told → List ℕ → Type 0
-IsTold C came Passed octets = came ≡ Some octets
-IsTold C came (Rejected why) octets = Spells octets (reject (local_reject C why))
+-- how many entries are named
+abbrev pub count_of : Option ℕ → ℕ
+count_of None = 0
+count_of (Some n) = 1
 
 -- what the books say of a hold that ended by this entry
 abbrev pub record_of_end : Order → Held → Ending → ℕ → Record
 record_of_end o held ending entry = record { number = entry; what = recorded.Ended (record { hold = held.number; from = o.from; to = held.to; amount = o.packet.amount; out = held.out; condition = o.packet.condition; ending = ending }) }
 
 -- The hold ended by what came back: the sender is told that, and the worker keeps the record.
-abbrev pub EndsInTime : Order → Held → Option (List ℕ) → ℕ → PlainWorker → PlainWorker → List ℕ → Type 0
-EndsInTime o held came entry before after octets =
-    let c = closing_of o.packet.condition came in
-    IsTold o.desk.config came c.told octets × (after.kept ≡ before.kept ++ record_of_end o held c.ending entry ∷ [])
+abbrev pub EndsInTime : Order → Held → Closing → ℕ → List Record → List Record → Told → Type 0
+EndsInTime o held c entry kept kept' told = (told ≡ c.told) × (kept' ≡ kept ++ record_of_end o held c.ending entry ∷ [])
 
--- The hold was over, or ended as late: the sender is told that time ran out, and the worker keeps nothing.
-abbrev pub EndsLate : Order → PlainWorker → PlainWorker → List ℕ → Type 0
-EndsLate o before after octets =
-    IsTold o.desk.config None (Rejected local.TransferTimedOut) octets × (after.kept ≡ before.kept)
+-- The hold was over, or ended otherwise: the sender is told that time ran out, and the worker keeps nothing.
+abbrev pub EndsLate : List Record → List Record → Told → Type 0
+EndsLate kept kept' told = (told ≡ Rejected local.TransferTimedOut) × (kept' ≡ kept)
 
--- An answer that the books don't have ends no hold in time.
-abbrev pub Ends : Order → Held → Option (List ℕ) → Option ℕ → PlainWorker → PlainWorker → List ℕ → Type 0
-Ends o held came None before after octets = EndsLate o before after octets
-Ends o held came (Some entry) before after octets = EndsInTime o held came entry before after octets ⊎ EndsLate o before after octets
+-- Where the book has no entry of this answer, the hold was over.
+abbrev pub Ends : Order → Held → Closing → Option ℕ → List Record → List Record → Told → Type 0
+Ends o held c None kept kept' told = EndsLate kept kept' told
+Ends o held c (Some entry) kept kept' told = EndsInTime o held c entry kept kept' told ⊎ EndsLate kept kept' told
+
+-- What came back is told to a book at a moment that the clock gives, and the worker's share and records are raised by that.
+pub record IsEnded (o : Order) (held : Held) (c : Closing) (moments moments' : Option (List ℤ)) (before after : Holding) (told : Told) (entry : Option ℕ) : Type 0 where
+  pub later : ℤ
+  pub reply : Result Outcome NotOpen
+  pub asked : Tells moments later moments'
+  pub booked : IsAnsweredAt o later held.number c.answer before.share after.share reply
+  pub entry_is : entry_of reply ≡ entry
+  pub raised : after.share ≡ portion before.share.actor (before.share.entries + count_of entry)
+  pub ends : Ends o held c entry before.kept after.kept told
 
 -- ---- a Prepare that is forwarded
 
--- Nothing is booked: memory was denied before a book was asked, or a book refused the hold. No peer is handed anything.
-abbrev pub IsReason : Order → PlainWorker → PlainWorker → LocalReject → Type 0
-IsReason o before after why =
-    ((why ≡ local.InternalError) × (after.moments ≡ before.moments))
-    ⊎ ((now : ℤ) × (fault : HoldFault) × Tells before.moments now after.moments
-    × IsHeldAt o now before.share after.share (Err fault) × (why ≡ reject_of_fault o.packet.amount fault))
+-- the octets that the sender is answered: those that came, or a Reject of the connector's own
+abbrev pub IsTold : Configuration → Option (List ℕ) → Told → List ℕ → Type 0
+IsTold C came Passed octets = came ≡ Some octets
+IsTold C came (Rejected why) octets = Spells octets (reject (local_reject C why))
 
-pub record IsRefused (o : Order) (before after : PlainWorker) (octets : List ℕ) : Type 0 where
+-- Nothing is booked, and no peer is handed anything.
+pub record IsRefused (o : Order) (before after : PlainWorker) : Type 0 where
   pub why : LocalReject
-  pub reason : IsReason o before after why
-  pub told : IsTold o.desk.config None (Rejected why) octets
+  pub reason : IsReason o before.moments after.moments before.share after.share why
+  pub told : Spells after.reply (reject (local_reject o.desk.config why))
   pub share : after.share ≡ before.share
   pub kept : after.kept ≡ before.kept
-  pub sent : after.sent ≡ before.sent
-  pub engine : after.engine ≡ before.engine
+  pub links : (after.sent ≡ before.sent) × (after.engine ≡ before.engine)
 
--- how many entries a receipt names
-abbrev pub count_of : Option ℕ → ℕ
-count_of None = 0
-count_of (Some n) = 1
-
--- A hold is booked at a moment of the clock, and the next peer is handed one packet. What came back for it is told to a book at
--- the clock's next moment.
-pub record IsSent (o : Order) (before after : PlainWorker) (octets : List ℕ) (hold : ℕ) (answer : Option ℕ) : Type 0 where
+-- A hold is booked, then the next peer is asked, then what came back is booked. Between the two sessions nothing is known of the
+-- book.
+pub record IsSent (o : Order) (before after : PlainWorker) (hold : ℕ) (answer : Option ℕ) : Type 0 where
   pub held : Held
-  pub now : ℤ
-  pub later : ℤ
-  pub mid : Portion
-  pub moments : Option (List ℤ)
-  pub came : Option (List ℕ)
-  pub packet : List ℕ
-  pub ended : Result Outcome NotOpen
-
   pub number : held.number ≡ hold
-  pub asked : Tells before.moments now moments
-  pub booked : IsHeldAt o now before.share mid (Ok held)
-  pub terms : IsOnItsWay o now held
-  pub spelled : Spells packet (prepare (onward o held))
-  pub handed : Tells before.sent (sending held.to packet held.deadline came) after.sent
-  pub asked_again : Tells moments later after.moments
-  pub answered : IsAnsweredAt o later hold (closing_of o.packet.condition came).answer mid after.share ended
-  pub entry : entry_of ended ≡ answer
-  pub ends : Ends o held came answer before after octets
-  pub share : after.share ≡ portion before.share.actor (before.share.entries + 1 + count_of answer)
+  pub share : Portion
+  pub moments : Option (List ℤ)
+  pub holding : IsHolding o before.moments moments before.share share held
+  pub came : Option (List ℕ)
+  pub asked : IsAsked o.packet held before.sent after.sent came
+  pub told : Told
+  pub ended : IsEnded o held (closing_of o.packet.condition came) moments after.moments (holding share before.kept) (holding after.share after.kept) told answer
   pub engine : after.engine ≡ before.engine
+  pub reply : IsTold o.desk.config came told after.reply
 
 -- by what the receipt names: an answer only beside a hold
-abbrev pub IsForwardedBy : Order → PlainWorker → PlainWorker → List ℕ → Option ℕ → Option ℕ → Type 0
-IsForwardedBy o before after octets None None = IsRefused o before after octets
-IsForwardedBy o before after octets None (Some answer) = ⊥
-IsForwardedBy o before after octets (Some hold) answer = IsSent o before after octets hold answer
+abbrev pub IsForwardedBy : Order → PlainWorker → PlainWorker → Option ℕ → Option ℕ → Type 0
+IsForwardedBy o before after None None = IsRefused o before after
+IsForwardedBy o before after None (Some answer) = ⊥
+IsForwardedBy o before after (Some hold) answer = IsSent o before after hold answer
 
 -- ---- whatever is forwarded
 
 -- Octets that are no Prepare leave all as it was.
-abbrev pub IsReply : Arrival → PlainWorker → PlainWorker → Receipt → Reply → Type 0
-IsReply a before after receipt (reply.Bad fault) =
-    IsBad a.octets fault × (after ≡ before) × (receipt.hold ≡ None) × (receipt.answer ≡ None)
-IsReply a before after receipt (reply.Ilp octets) =
+abbrev pub Forwards : Arrival → PlainWorker → PlainWorker → Result Receipt BadPacket → Type 0
+Forwards a before after (Err fault) = IsBad a.octets fault × (after ≡ before)
+Forwards a before after (Ok receipt) =
     (packet : PlainPrepare) × Spells a.octets (prepare packet)
-    × IsForwardedBy (order a.desk a.from packet) before after octets.now receipt.hold receipt.answer
-
-abbrev pub Forwards : Arrival → PlainWorker → PlainWorker → Answered → Type 0
-Forwards a before after answered = IsReply a before after answered.receipt answered.reply
+    × IsForwardedBy (order a.desk a.from packet) before after receipt.hold receipt.answer

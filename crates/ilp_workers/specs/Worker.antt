@@ -2,13 +2,24 @@
 use Rattle.std.specs.Prelude.{ℕ, ℤ, List, Option}
 use Rattle.ilp_desk.specs.declared.record.Record.{Record}
 use Rattle.ilp_desk.specs.Portion.{Portion}
+use Rattle.ilp_workers.specs.declared.closing.Told.{Told}
+use Rattle.ilp_workers.specs.declared.closing.Told.TheVariants.{Passed, Rejected}
 use Rattle.ilp_workers.specs.Links.{Sending, ToEngine}
 
--- its share, the records of what it booked, and what its links tell: the moments of its clock, what peers were handed, and what
--- engines were handed
+-- its share, the records of what it booked, what its links tell (the moments of its clock, what peers were handed, and what
+-- engines were handed), and the octets by which the sender of the last packet is answered
 pub record PlainWorker : Type 0 where
   pub share : Portion
   pub kept : List Record
   pub moments : Option (List ℤ)
   pub sent : Option (List Sending)
   pub engine : Option (List ToEngine)
+  pub reply : List ℕ
+
+abbrev pub worker : Portion → List Record → Option (List ℤ) → Option (List Sending) → Option (List ToEngine) → List ℕ → PlainWorker
+worker share kept moments sent engine reply = record { share = share; kept = kept; moments = moments; sent = sent; engine = engine; reply = reply }
+
+-- the octets of an answer: the peer's own, or those of a Reject of the connector's
+abbrev pub reply_of : Told → List ℕ → List ℕ → List ℕ
+reply_of Passed incoming rejected = incoming
+reply_of (Rejected why) incoming rejected = rejected

@@ -11,5 +11,5 @@ mod worker;
 
 pub use links::{Clock, EngineLink, EngineReply, LinkFault, Uplink};
 pub use rejects::LocalReject;
-pub use reply::{Answered, BadPacket, Receipt, Reply};
+pub use reply::{BadPacket, Receipt};
 pub use worker::{NoWorker, Worker};

@@ -14,15 +14,6 @@ pub enum BadPacket {
     NotPrepare,
 }
 
-/// What the sender of octets is answered.
-#[derive(Clone, Copy, Debug, PartialEq, Eq)]
-pub enum Reply<'a> {
-    /// With the octets of a Fulfill or a Reject (RFC 0027).
-    Ilp(&'a [u8]),
-    /// Its octets are no Prepare.
-    Bad(BadPacket),
-}
-
 /// The numbers of the entries that a call booked.
 #[derive(Clone, Copy, Debug, PartialEq, Eq)]
 pub struct Receipt {
@@ -38,11 +29,4 @@ impl Receipt {
         hold: None,
         answer: None,
     };
-}
-
-/// What the sender of octets is answered, and what was booked for them.
-#[derive(Clone, Copy, Debug, PartialEq, Eq)]
-pub struct Answered<'a> {
-    pub reply: Reply<'a>,
-    pub receipt: Receipt,
 }

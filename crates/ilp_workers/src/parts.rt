@@ -1,0 +1,290 @@
+//! Of what a worker consists, and how it passes a Prepare on.
+ghost use Rattle.std.specs.Prelude.{◌≡◌, ℕ, ◌+◌, ◌<◌, ◌≤◌, [], ◌++◌, ◌∷◌, length, Option, Some, Ok, List, Result, IfOk, IfErr, OnOk, MatchBool, ◌≢◌, vec_len, vec_capacity};
+ghost use Rattle.ilp_packet.specs.Packet.{PlainPacket, plain_prepare, prepare, IsPrepare, Spells};
+ghost use Rattle.ilp_packet.specs.Writing.{size};
+ghost use Rattle.ilp_book.specs.Configured.{IsKnown};
+ghost use Rattle.ilp_workers.specs.Rejects.{longest_local_reject};
+ghost use Rattle.ilp_desk.specs.Desk.{PlainDesk};
+ghost use Rattle.ilp_desk.specs.Portion.{holding};
+ghost use Rattle.ilp_workers.specs.declared.links.LinkFault.{LinkFault};
+ghost use Rattle.ilp_workers.specs.Links.{came_of};
+ghost use Rattle.ilp_workers.specs.Worker.{worker, reply_of};
+ghost use Rattle.ilp_workers.specs.Forwarding.{order, onward, IsReason, IsHolding, IsAsked, IsEnded, IsForwardedBy, IsTold, closing_of, end_of, record_of_end};
+
+use crate::closing::{Closing, Told, closing_by};
+use crate::links::{Clock, EngineLink, Uplink};
+use crate::rejects::{LONGEST_LOCAL_REJECT, LocalReject, put_local_reject};
+use crate::reply::Receipt;
+use ilp_accounts::Config;
+use ilp_book::{Held, Outcome};
+use ilp_desk::{Desk, EndedHold, Ending, Naming, Record, Recorded, Share};
+use ilp_oer::Octets;
+use ilp_packet::{Prepare, write_prepare};
+use std::alloc::{AllocError, Allocator};
+use std::sync::Wait;
+
+// What a worker has: its share and its records, its links, and room for octets.
+#[derive(Drop)]
+pub(crate) struct Parts<
+    J: Naming,
+    C: Clock + Drop,
+    U: Uplink + Drop,
+    E: EngineLink + Drop,
+    A: Allocator,
+> {
+    pub(crate) share: Share<J>,
+    pub(crate) records: Vec<Record, A>,
+    pub(crate) clock: C,
+    pub(crate) uplink: U,
+    pub(crate) engine: E,
+    // The Prepare that the next peer is handed.
+    pub(crate) outgoing: Octets<A>,
+    // What comes back for it.
+    pub(crate) incoming: Octets<A>,
+    // The connector's own Reject, for which there is room.
+    pub(crate) rejected: Octets<A>,
+    // Which of the two the sender of the last packet is answered with.
+    pub(crate) told: Told,
+    ghost room: { longest_local_reject ≤ length rejected.octets + rejected.spare },
+}
+
+// What the sender of a Prepare is told, and what was booked for it.
+#[derive(Clone, Copy)]
+pub(crate) struct Passed {
+    pub(crate) told: Told,
+    pub(crate) receipt: Receipt,
+}
+
+impl<J: Naming, C: Clock + Drop, U: Uplink + Drop, E: EngineLink + Drop, A: Allocator>
+    Parts<J, C, U, E, A>
+{
+    // Holds a Prepare of these octets, hands it on, and books what came back. The lock is free while
+    // the peer is asked.
+    pub(crate) fn pass_on(
+        &mut self,
+        rt: &impl Wait,
+        desk: &Desk<J>,
+        from: u32,
+        packet: &Prepare<'_>,
+        len: usize,
+    ) -> Passed
+        requires known { IsKnown J.desk.config from }
+        requires packet { IsPrepare (plain_prepare packet.now) }
+        requires len { len ≡ size (prepare (plain_prepare packet.now)) }
+        ensures { (octets : List ℕ)
+            → IsTold J.desk.config (Some self.new.incoming.octets) result.told octets
+            → IsForwardedBy (order J.desk from (plain_prepare packet.now))
+            (worker self.old.share self.old.records.items (C.told self.old.clock) (U.told self.old.uplink)
+            (E.told self.old.engine) (reply_of self.old.told self.old.incoming.octets self.old.rejected.octets))
+            (worker self.new.share self.new.records.items (C.told self.new.clock) (U.told self.new.uplink)
+            (E.told self.new.engine) octets)
+            result.receipt.hold result.receipt.answer }
+    {
+        let held = match self.hold(rt, desk, from, packet, len) {
+            Ok(held) => held,
+            Err(why) => {
+                return Passed {
+                    told: Told::Rejected(why),
+                    receipt: Receipt::NONE,
+                };
+            }
+        };
+        let closing = self.ask(packet, &held);
+        let ended = self.end(rt, desk, from, packet, &held, &closing);
+        Passed {
+            told: ended.told,
+            receipt: Receipt {
+                hold: Some(held.number),
+                answer: ended.entry,
+            },
+        }
+    }
+
+    // Makes room for all that may come of the Prepare, and then has the desk hold it at the clock's
+    // moment.
+    fn hold(
+        &mut self,
+        rt: &impl Wait,
+        desk: &Desk<J>,
+        from: u32,
+        packet: &Prepare<'_>,
+        len: usize,
+    ) -> Result<Held, LocalReject>
+        requires known { IsKnown J.desk.config from }
+        ensures kept { self.new.records.items ≡ self.old.records.items }
+        ensures links { (self.new.uplink ≡ self.old.uplink) × (self.new.engine ≡ self.old.engine) }
+        ensures held { IfOk result (λ held. IsHolding (order J.desk from (plain_prepare packet.now))
+            (C.told self.old.clock) (C.told self.new.clock) self.old.share self.new.share held) }
+        ensures record { OnOk result (vec_len self.new.records < vec_capacity self.new.records) }
+        ensures cleared { OnOk result (self.new.outgoing.octets ≡ []) }
+        ensures room { OnOk result (len ≤ self.new.outgoing.spare) }
+        ensures refused { IfErr result (λ why. IsReason (order J.desk from (plain_prepare packet.now))
+            (C.told self.old.clock) (C.told self.new.clock) self.old.share self.new.share why) }
+        ensures share { IfErr result (λ why. self.new.share ≡ self.old.share) }
+    {
+        let Ok(()) = self.make_room(len) else {
+            return Err(LocalReject::InternalError);
+        };
+        let now = self.clock.now();
+        match desk.hold(rt, &mut self.share, from, packet, now) {
+            Ok(held) => Ok(held),
+            Err(fault) => Err(LocalReject::of_fault(fault, packet.amount)),
+        }
+    }
+
+    // Room for a record, and for a packet of so many octets.
+    fn make_room(&mut self, len: usize) -> Result<(), AllocError>
+        ensures share { self.new.share ≡ self.old.share }
+        ensures kept { self.new.records.items ≡ self.old.records.items }
+        ensures clock { self.new.clock ≡ self.old.clock }
+        ensures links { (self.new.uplink ≡ self.old.uplink) × (self.new.engine ≡ self.old.engine) }
+        ensures record { OnOk result (vec_len self.new.records < vec_capacity self.new.records) }
+        ensures cleared { OnOk result (self.new.outgoing.octets ≡ []) }
+        ensures room { OnOk result (len ≤ self.new.outgoing.spare) }
+    {
+        self.records.reserve(1)?;
+        self.outgoing.clear();
+        self.outgoing.reserve(len)
+    }
+
+    // Hands the Prepare on, and waits for what comes back.
+    fn ask(&mut self, packet: &Prepare<'_>, held: &Held) -> Closing
+        requires packet { IsPrepare (onward (plain_prepare packet.now) held.now) }
+        requires cleared { self.old.outgoing.octets ≡ [] }
+        requires room { size (prepare (onward (plain_prepare packet.now) held.now)) ≤ self.old.outgoing.spare }
+        ensures share { self.new.share ≡ self.old.share }
+        ensures records { self.new.records ≡ self.old.records }
+        ensures clock { self.new.clock ≡ self.old.clock }
+        ensures engine { self.new.engine ≡ self.old.engine }
+        ensures asked { (answer : Result (Unit {0}) LinkFault)
+            × IsAsked (plain_prepare packet.now) held.now (U.told self.old.uplink)
+            (U.told self.new.uplink) (came_of answer self.new.incoming.octets)
+            × (result ≡ closing_of packet.now.condition.now (came_of answer self.new.incoming.octets)) }
+    {
+        let onward = Prepare {
+            amount: held.out,
+            expires: held.deadline,
+            condition: packet.condition,
+            destination: packet.destination,
+            payload: packet.payload,
+        };
+        let Ok(()) = write_prepare(&mut self.outgoing, &onward) else {
+            unreachable!();
+        };
+        self.incoming.clear();
+        let came = self.uplink.send(
+            held.to,
+            self.outgoing.as_slice(),
+            held.deadline,
+            &mut self.incoming,
+        );
+        closing_by(packet.condition, came, self.incoming.as_slice())
+    }
+
+    // Has the desk book what came back, and keeps the record of how the hold ended by that.
+    fn end(
+        &mut self,
+        rt: &impl Wait,
+        desk: &Desk<J>,
+        from: u32,
+        packet: &Prepare<'_>,
+        held: &Held,
+        closing: &Closing,
+    ) -> Ended
+        requires room { vec_len self.old.records < vec_capacity self.old.records }
+        ensures incoming { self.new.incoming ≡ self.old.incoming }
+        ensures links { (self.new.uplink ≡ self.old.uplink) × (self.new.engine ≡ self.old.engine) }
+        ensures ended { IsEnded (order J.desk from (plain_prepare packet.now)) held.now closing.now
+            (C.told self.old.clock) (C.told self.new.clock) (holding self.old.share self.old.records.items)
+            (holding self.new.share self.new.records.items) result.told result.entry }
+    {
+        let later = self.clock.now();
+        let answer = closing.answer;
+        let Ok(outcome) = desk.answer(rt, &mut self.share, held.number, answer, later) else {
+            return Ended {
+                told: Told::Rejected(LocalReject::TransferTimedOut),
+                entry: None,
+            };
+        };
+        let (entry, ending) = end_of(outcome);
+        if !same(ending, closing.ending) {
+            return Ended {
+                told: Told::Rejected(LocalReject::TransferTimedOut),
+                entry: Some(entry),
+            };
+        }
+        self.records.push_reserved(record_of(from, packet, held, ending, entry));
+        Ended {
+            told: closing.told,
+            entry: Some(entry),
+        }
+    }
+
+    // Has the sender answered so.
+    pub(crate) fn tell(&mut self, config: &Config, told: Told)
+        ensures told { IsTold config.now (Some self.old.incoming.octets) told
+            (reply_of self.new.told self.new.incoming.octets self.new.rejected.octets) }
+        ensures share { self.new.share ≡ self.old.share }
+        ensures records { self.new.records ≡ self.old.records }
+        ensures clock { self.new.clock ≡ self.old.clock }
+        ensures links { (self.new.uplink ≡ self.old.uplink) × (self.new.engine ≡ self.old.engine) }
+    {
+        self.told = told;
+        if let Told::Rejected(why) = told {
+            put_local_reject(&mut self.rejected, config, why);
+        }
+    }
+
+    // The octets that the sender of the last packet is answered with.
+    pub(crate) fn reply(&self) -> &[u8]
+        ensures { result.now ≡ reply_of self.now.told self.now.incoming.octets self.now.rejected.octets }
+    {
+        match self.told {
+            Told::Passed => self.incoming.as_slice(),
+            Told::Rejected(_) => self.rejected.as_slice(),
+        }
+    }
+}
+
+// What the sender is told of a hold that ended, and the entry that says so, if it is this one.
+#[derive(Clone, Copy)]
+struct Ended {
+    told: Told,
+    entry: Option<u32>,
+}
+
+// How a hold ended, and the number of the entry that says so.
+fn end_of(outcome: Outcome) -> (u32, Ending)
+    ensures { result ≡ end_of outcome }
+{
+    match outcome {
+        Outcome::Fulfilled { entry } => (entry, Ending::Fulfilled),
+        Outcome::Released { entry, cause } => (entry, Ending::Released(cause)),
+    }
+}
+
+fn same(one: Ending, other: Ending) -> bool
+    ensures { MatchBool result (one ≡ other) (one ≢ other) }
+{
+    one == other
+}
+
+// The record of a hold that ended so, by this entry.
+fn record_of(from: u32, packet: &Prepare<'_>, held: &Held, ending: Ending, entry: u32) -> Record
+    ensures { (desk : PlainDesk) → result
+        ≡ record_of_end (order desk from (plain_prepare packet.now)) held.now ending entry }
+{
+    let ended = EndedHold {
+        hold: held.number,
+        from,
+        to: held.to,
+        amount: packet.amount,
+        out: held.out,
+        condition: *packet.condition,
+        ending,
+    };
+    Record {
+        number: entry,
+        what: Recorded::Ended(ended),
+    }
+}

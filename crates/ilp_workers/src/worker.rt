@@ -1,0 +1,150 @@
+//! A worker: it forwards packets, one at a time.
+ghost use Rattle.std.specs.Prelude.{◌≡◌, [], IfOk, IfErr};
+ghost use Rattle.ilp_book.specs.Configured.{IsKnown};
+ghost use Rattle.ilp_packet.specs.Packet.{plain_prepare, prepare, Spells};
+ghost use Rattle.ilp_workers.specs.Worker.{worker};
+ghost use Rattle.ilp_workers.specs.Forwarding.{arrival, IsBad, Forwards};
+
+use crate::closing::Told;
+use crate::links::{Clock, EngineLink, Uplink};
+use crate::parts::Parts;
+use crate::rejects::LONGEST_LOCAL_REJECT;
+use crate::reply::{BadPacket, Receipt};
+use ilp_desk::{Desk, Naming, Record, Share};
+use ilp_oer::Octets;
+use ilp_packet::{Packet, Prepare};
+use std::alloc::{AllocError, Allocator, Global};
+use std::marker::Model;
+use std::sync::Wait;
+
+/// A worker of a desk: its share, the records of what it booked, its clock and its links.
+#[derive(Drop)]
+pub struct Worker<
+    J: Naming,
+    C: Clock + Drop,
+    U: Uplink + Drop,
+    E: EngineLink + Drop,
+    A: Allocator = Global,
+> {
+    parts: Parts<J, C, U, E, A>,
+}
+
+impl<J: Naming, C: Clock + Drop, U: Uplink + Drop, E: EngineLink + Drop, A: Allocator> Model
+    for Worker<J, C, U, E, A>
+{
+    ghost use Rattle.ilp_workers.specs.Worker.{PlainWorker, worker, reply_of};
+
+    ghost Value = { PlainWorker };
+
+    ghost view = { λ w. worker w.parts.share w.parts.records.items (C.told w.parts.clock) (U.told w.parts.uplink) (E.told w.parts.engine) (reply_of w.parts.told w.parts.incoming.octets w.parts.rejected.octets) };
+}
+
+/// What was given for a worker that there is no memory for, as it was given.
+#[derive(Drop)]
+pub struct NoWorker<J: Naming, C: Clock + Drop, U: Uplink + Drop, E: EngineLink + Drop> {
+    pub share: Share<J>,
+    pub clock: C,
+    pub uplink: U,
+    pub engine: E,
+}
+
+impl<J: Naming, C: Clock + Drop, U: Uplink + Drop, E: EngineLink + Drop, A: Allocator>
+    Worker<J, C, U, E, A>
+{
+    /// A worker with this share and these links, which keeps no record yet. Room is made for any
+    /// Reject of the connector's own; where memory for that is denied, all is handed back.
+    pub fn new(
+        alloc: A,
+        share: Share<J>,
+        clock: C,
+        uplink: U,
+        engine: E,
+    ) -> Result<Worker<J, C, U, E, A>, NoWorker<J, C, U, E>>
+    where
+        A: Copy,
+        ensures worker { IfOk result (λ w. w ≡ worker share [] (C.told clock) (U.told uplink) (E.told engine) []) }
+        ensures share { IfErr result (λ e. e.share ≡ share) }
+        ensures links { IfErr result (λ e. (e.clock ≡ clock) × (e.uplink ≡ uplink) × (e.engine ≡ engine)) }
+    {
+        let mut rejected = Octets::new(alloc);
+        let Ok(()) = rejected.reserve(LONGEST_LOCAL_REJECT) else {
+            return Err(NoWorker {
+                share,
+                clock,
+                uplink,
+                engine,
+            });
+        };
+        let parts = Parts {
+            share,
+            records: Vec::new(alloc),
+            clock,
+            uplink,
+            engine,
+            outgoing: Octets::new(alloc),
+            incoming: Octets::new(alloc),
+            rejected,
+            told: Told::Passed,
+        };
+        Ok(Worker { parts })
+    }
+
+    /// The worker's share of the desk.
+    pub fn share(&self) -> &Share<J>
+        ensures { result.now ≡ self.now.share }
+    {
+        &self.parts.share
+    }
+
+    /// The records of what it booked, in order.
+    pub fn records(&self) -> &[Record]
+        ensures { result.now ≡ self.now.kept }
+    {
+        self.parts.records.as_slice()
+    }
+
+    /// The octets of the Fulfill or the Reject that the sender of the last packet is answered with;
+    /// none before the first.
+    pub fn reply(&self) -> &[u8]
+        ensures { result.now ≡ self.now.reply }
+    {
+        self.parts.reply()
+    }
+
+    /// Forwards the octets that a peer sent (RFC 0027): `reply` has the answer then. The amount of a
+    /// Prepare is held against the peer's balance, a Prepare of what is left goes to the peer of the
+    /// destination's route, and what that peer replies is booked and passed on in its own octets.
+    /// Whatever keeps the Prepare from that is a Reject of the connector's own. No lock is held while
+    /// the peer is asked. Octets that are no Prepare are refused, and leave all as it was.
+    pub fn forward(
+        &mut self,
+        rt: &impl Wait,
+        desk: &Desk<J>,
+        from: u32,
+        octets: &[u8],
+    ) -> Result<Receipt, BadPacket>
+        requires known { IsKnown J.desk.config from }
+        ensures { Forwards (arrival J.desk from octets.now) self.old self.new result }
+    {
+        let prepare = match prepare_in(octets) {
+            Ok(prepare) => prepare,
+            Err(fault) => return Err(fault),
+        };
+        let passed = self.parts.pass_on(rt, desk, from, &prepare, octets.len());
+        self.parts.tell(desk.config(), passed.told);
+        Ok(passed.receipt)
+    }
+}
+
+// The Prepare that the octets stand for.
+fn prepare_in(octets: &[u8]) -> Result<Prepare<'_>, BadPacket>
+    ensures ok { IfOk result (λ p. Spells octets.now (prepare (plain_prepare p))) }
+    ensures err { IfErr result (λ fault. IsBad octets.now fault) }
+{
+    match Packet::read(octets) {
+        Ok(Packet::Prepare(prepare)) => Ok(prepare),
+        Ok(Packet::Fulfill(_)) => Err(BadPacket::NotPrepare),
+        Ok(Packet::Reject(_)) => Err(BadPacket::NotPrepare),
+        Err(fault) => Err(BadPacket::Unread(fault)),
+    }
+}
