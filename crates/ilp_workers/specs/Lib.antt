@@ -1,0 +1,2 @@
+pub mod Rejects
+pub mod Rows
