@@ -13,7 +13,7 @@ use Rattle.ilp_packet.proofs.WritingLemmas.{size_by_content, one_size}
 use Rattle.ilp_accounts.specs.Configuration.{Configuration}
 use Rattle.ilp_accounts.specs.Valid.{IsValid}
 use Rattle.ilp_workers.specs.declared.rejects.LocalReject.{LocalReject}
-use Rattle.ilp_workers.specs.declared.rejects.LocalReject.TheVariants.{Unreachable, InvalidAmount, WrongCondition, AmountTooLarge, InternalError, PeerUnreachable, ConnectorBusy, InsufficientLiquidity, TransferTimedOut, InsufficientSourceAmount, InsufficientTimeout}
+use Rattle.ilp_workers.specs.declared.rejects.LocalReject.TheVariants.{AmountTooLarge}
 use Rattle.ilp_workers.specs.Rejects.{code_of, message_of, payload_of, local_reject, longest_local_reject}
 
 -- a valid configuration's address is as long as an address may be, at most
@@ -22,17 +22,8 @@ address_is_short C valid = (address_from_test C.settings.address valid.settings.
 
 -- a code has three octets
 three_octets : (why : LocalReject) → length (code_of why) ≡ 3
-three_octets Unreachable = refl
-three_octets InvalidAmount = refl
-three_octets WrongCondition = refl
 three_octets (AmountTooLarge received most) = refl
-three_octets InternalError = refl
-three_octets PeerUnreachable = refl
-three_octets ConnectorBusy = refl
-three_octets InsufficientLiquidity = refl
-three_octets TransferTimedOut = refl
-three_octets InsufficientSourceAmount = refl
-three_octets InsufficientTimeout = refl
+three_octets _ = refl
 
 -- the octets of a text and of its prefix
 abbrev octets_of : List ℕ → ℕ
@@ -40,17 +31,8 @@ octets_of text = length (oer.prefix (length text)) + length text
 
 -- message and data have at most 34 octets, with their prefixes
 texts_are_short : (why : LocalReject) → octets_of (message_of why) + octets_of (payload_of why) ≤ 34
-texts_are_short Unreachable = omega arith
-texts_are_short InvalidAmount = omega arith
-texts_are_short WrongCondition = omega arith
 texts_are_short (AmountTooLarge received most) = omega arith
-texts_are_short InternalError = omega arith
-texts_are_short PeerUnreachable = omega arith
-texts_are_short ConnectorBusy = omega arith
-texts_are_short InsufficientLiquidity = omega arith
-texts_are_short TransferTimedOut = omega arith
-texts_are_short InsufficientSourceAmount = omega arith
-texts_are_short InsufficientTimeout = omega arith
+texts_are_short _ = omega arith
 
 -- a local Reject is within its limits
 pub local_reject_fits : (C : Configuration) (why : LocalReject) → length C.settings.address ≤ most_address → IsReject (local_reject C why)

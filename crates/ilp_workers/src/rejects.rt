@@ -19,23 +19,23 @@ pub(crate) const LONGEST_LOCAL_REJECT: usize = 1067;
 /// Why the connector itself rejects a Prepare, as RFC 0027 names it.
 #[derive(Clone, Copy, Debug, PartialEq, Eq)]
 pub enum LocalReject {
-    /// No peer gets this destination from this sender.
+    /// No route, or no price, leads from the sender to the destination.
     Unreachable,
-    /// The amount comes to more than a packet carries.
+    /// The amount comes to more than a packet carries in the receiver's asset.
     InvalidAmount,
-    /// The receiver's fulfillment doesn't meet the condition.
+    /// The fulfillment that came doesn't meet the condition.
     WrongCondition,
     /// The amount `received` is above `most`, both in units of the sender's asset.
     AmountTooLarge { received: u64, most: u64 },
-    /// The connector can't do what it should.
+    /// The connector failed, as where memory is denied.
     InternalError,
-    /// The peer that the destination is routed to doesn't answer as it should.
+    /// Neither a Fulfill nor a Reject came from the next peer.
     PeerUnreachable,
-    /// The connector has no room for now.
+    /// The connector has no room for another hold.
     ConnectorBusy,
-    /// The sender, or the connector in this asset, has taken on too much for now.
+    /// The sender may not owe as much, or the holds of an asset would come to too much.
     InsufficientLiquidity,
-    /// The Prepare expired.
+    /// The Prepare expired before it was held, or before its answer came.
     TransferTimedOut,
     /// The amount comes to nothing in the receiver's asset.
     InsufficientSourceAmount,
