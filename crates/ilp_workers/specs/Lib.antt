@@ -1,4 +1,5 @@
 pub mod Links
 pub mod Rejects
+pub mod Rows
 pub mod Worker
 pub mod Forwarding

@@ -3,6 +3,7 @@
 #![tactic(auto)]
 
 mod closing;
+pub mod laws;
 mod links;
 mod parts;
 mod rejects;
