@@ -215,7 +215,7 @@ pub record IsSent (o : Order) (before after : PlainWorker) (hold : ℕ) (answer 
   pub number : held.number ≡ hold
   pub share : Portion
   pub moments : Option (List ℤ)
-  pub holding : IsHolding o before.moments moments before.share share held
+  pub booked : IsHolding o before.moments moments before.share share held
   pub came : Option (List ℕ)
   pub asked : IsAsked o.packet held before.sent after.sent came
   pub told : Told
