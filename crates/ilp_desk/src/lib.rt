@@ -4,6 +4,7 @@
 
 mod desk;
 mod end;
+pub mod laws;
 mod locked;
 mod naming;
 mod record;
