@@ -1,6 +1,6 @@
 -- Ends that are whole add up to what was booked since the opening.
-use Rattle.std.proofs.Common.{◌≡◌, ℕ, zero, suc, ◌+◌, ◌≤◌, true, false, cond, List, [], ◌∷◌, ◌++◌, length, take, drop, get_or, Option, Some, None, option_to_list, refl, sym, ap, ◌∙◌, subst, append_assoc, append-nil, arith}
-use Rattle.std.specs.Prelude.{All, sum_by, unwrap_or, option_map, is_some, nat_le, ◌&&◌, IsSome, IsNone, IfSome}
+use Rattle.std.proofs.Common.{◌≡◌, ℕ, zero, suc, ◌+◌, ◌≤◌, true, false, cond, List, [], ◌∷◌, ◌++◌, length, take, drop, Option, Some, None, option_to_list, refl, sym, ap, ◌∙◌, subst, append_assoc, append-nil, arith}
+use Rattle.std.specs.Prelude.{slice_get, All, sum_by, unwrap_or, option_map, is_some, nat_le, ◌&&◌, IsSome, IsNone, IfSome}
 use Rattle.std.proofs.lemmas.Bool.{le-leb, lt-leb}
 use Rattle.std.proofs.lemmas.List.{take-append-drop}
 use Rattle.std.proofs.lemmas.List.Sums.{sum_by-cons, sum_by-append}
@@ -20,12 +20,14 @@ use Rattle.ilp_desk.specs.declared.record.Record.{Record}
 use Rattle.ilp_desk.specs.declared.record.Recorded.{Recorded}
 use Rattle.ilp_desk.specs.declared.record.EndedHold.{EndedHold}
 use Rattle.ilp_desk.specs.declared.record.Ending.TheVariants.{Fulfilled, Released}
+use Rattle.ilp_desk.specs.declared.gathering.WhyNotGathered.{WhyNotGathered}
+use Rattle.ilp_desk.specs.declared.gathering.WhyNotGathered.TheVariants.{Double, Missing, Disagrees}
 use Rattle.ilp_desk.specs.Desk.{PlainDesk, IsActor, IsBookOf, actors_of}
 use Rattle.ilp_desk.specs.Portion.{Holding}
 use Rattle.ilp_desk.specs.Records.{ended, closed, record_of}
 use Rattle.ilp_desk.specs.Totals.{of_packet, sum_of_packets, sum_of_fulfilled}
-use Rattle.ilp_desk.specs.Gathering.{IsGathered, IsWhole, records_of}
-use Rattle.ilp_desk.proofs.Splits.{listed, split, sum_by_same}
+use Rattle.ilp_desk.specs.Gathering.{IsGathered, IsWhole, IsWhyNotGathered, holders, records_of}
+use Rattle.ilp_desk.proofs.Splits.{All-first, All-rest, listed, split, sum_by_same}
 
 -- ---- what records tell of what was fulfilled
 
@@ -143,30 +145,48 @@ count_since base j each =
 
 -- ---- the whole
 
-module _ (desk : PlainDesk) (book : PlainBook) (ends : List Holding) (of_desk : IsBookOf desk book) (whole : IsWhole desk book ends) (known : All (λ (h : Holding). IsActor desk h.share.actor) ends) where
-  -- each end has its actor's records
-  lists : All (λ (h : Holding). h.kept ≡ records_of book h.share.actor) ends
-  lists k d less = whole.agree (get_or ends k d).share.actor (known k d less) k d less refl
-
+module _ (desk : PlainDesk) (book : PlainBook) (ends : List Holding) (of_desk : IsBookOf desk book) (whole : IsWhole desk book ends) where
   -- the actors of what was booked since the base are known
   acted : All (λ (e : Entry). IsActor desk e.actor) (drop book.base book.entries)
   acted = subst (λ b. All (λ (e : Entry). IsActor desk e.actor) (drop b book.entries)) (sym of_desk.base) of_desk.acted
 
-  -- so the ends tell what was fulfilled
+  -- the ends tell what was fulfilled
   adds : (f : Hold → ℕ) (g : EndedHold → ℕ) → ((n : ℕ) (h : Hold) → of_packet g (ended n Fulfilled h) ≡ f h)
       → sum_by (λ (h : Holding). sum_of_packets g h.kept) ends ≡ sum_of_fulfilled f book.base book.entries
   adds f g tells =
       let w : Record → ℕ = λ r. of_packet g r.what in
-      sum_by_same (λ (h : Holding). sum_by w h.kept) (λ (h : Holding). sum_by w (records_of book h.share.actor)) ends (λ k d less. ap (sum_by w) (lists k d less))
+      sum_by_same (λ (h : Holding). sum_by w h.kept) (λ (h : Holding). sum_by w (records_of book h.share.actor)) ends (λ k d less. ap (sum_by w) (whole.kept k d less))
       ∙ split w book.entries (actors_of desk) ends whole.once book.base (drop book.base book.entries) acted
       ∙ of_entries f g tells book.entries book.base (drop book.base book.entries)
 
   pub gathered : sum_by (λ (h : Holding). h.share.entries) ends + book.base ≡ length book.entries → IsGathered desk book ends
   gathered added = record {
-    one_each = record { once = whole.once; known = known };
-    kept = lists;
+    whole = whole;
     entries_add = added;
     packets_add = adds (λ _. 1) (λ _. 1) (λ n h. refl) ∙ count_since book.base book.entries of_desk.lawful.answers;
     in_adds = λ asset. adds (amount_in (peer_assets book.config) asset) (λ h. cond (has_asset (peer_assets book.config) asset h.from) h.amount 0) (λ n h. refl);
     out_adds = λ asset. adds (amount_out (peer_assets book.config) asset) (λ h. cond (has_asset (peer_assets book.config) asset h.to) h.out 0) (λ n h. refl);
   }
+
+-- ---- why not
+
+-- what holds of each element holds of the one at a place
+at_place : {X : Type 0} (P : X → Type 0) (xs : List X) (k : ℕ) (x : X) → slice_get xs k ≡ Some x → All P xs → P x
+at_place P [] k x at all = absurd cc
+at_place P (y ∷ ys) zero x at all = subst P (cc) (All-first P y ys all)
+at_place P (y ∷ ys) (suc k) x at all = at_place P ys k x at (All-rest P y ys all)
+
+-- where each actor has one end, one can only disagree
+pub only_disagrees : (desk : PlainDesk) (book : PlainBook) (ends : List Holding) (why : WhyNotGathered) → ((actor : ℕ) → IsActor desk actor → holders actor ends ≡ 1)
+    → IsWhyNotGathered desk book ends why → (actor : ℕ) × (why ≡ Disagrees actor)
+only_disagrees desk book ends (Double actor) once is = absurd (omega (arith, is.several, once actor is.known))
+only_disagrees desk book ends (Missing actor) once is = absurd (omega (arith, is.none, once actor is.known))
+only_disagrees desk book ends (Disagrees actor) once is = (actor, refl)
+
+-- and where each has kept its records, none does
+pub never_whole : (desk : PlainDesk) (book : PlainBook) (ends : List Holding) (why : WhyNotGathered) → IsWhole desk book ends → IsWhyNotGathered desk book ends why → ⊥
+never_whole desk book ends (Double actor) whole is = absurd (omega (arith, is.several, whole.once actor is.known))
+never_whole desk book ends (Missing actor) whole is = absurd (omega (arith, is.none, whole.once actor is.known))
+never_whole desk book ends (Disagrees actor) whole is =
+    let other = is.differs in
+    other.other (at_place (λ (h : Holding). h.kept ≡ records_of book h.share.actor) ends other.place other.there other.stands whole.kept ∙ ap (records_of book) other.is_of)

@@ -17,11 +17,6 @@ use Rattle.ilp_desk.specs.Totals.{taken_since, sold_since, packets, packets_in, 
 abbrev pub holders : ℕ → List Holding → ℕ
 holders actor ends = count_by (λ (h : Holding). h.share.actor == actor) ends
 
--- each actor has one end, and each end is an actor's
-pub record IsOneEach (desk : PlainDesk) (ends : List Holding) : Type 0 where
-  pub once : (actor : ℕ) → IsActor desk actor → holders actor ends ≡ 1
-  pub known : All (λ (h : Holding). IsActor desk h.share.actor) ends
-
 -- the actor's records of the book
 abbrev pub records_of : PlainBook → ℕ → List Record
 records_of book actor = records book.entries book.base actor
@@ -38,13 +33,18 @@ pub record Differs (book : PlainBook) (ends : List Holding) (actor : ℕ) : Type
   pub is_of : there.share.actor ≡ actor
   pub other : there.kept ≢ records_of book actor
 
+-- each actor has one end, each end is an actor's, and it has kept the actor's records
+pub record IsWhole (desk : PlainDesk) (book : PlainBook) (ends : List Holding) : Type 0 where
+  pub once : (actor : ℕ) → IsActor desk actor → holders actor ends ≡ 1
+  pub known : All (λ (h : Holding). IsActor desk h.share.actor) ends
+  pub kept : All (λ (h : Holding). h.kept ≡ records_of book h.share.actor) ends
+
 -- ---- gathered
 
--- Each actor has one end, which has its records of the book. Together they have booked what the book gained since the opening:
--- so many entries, so many fulfilled packets, and in each asset such amounts in and out.
+-- The ends are whole, and together they booked what the book gained since the opening: so many entries, so many fulfilled packets,
+-- and in each asset such amounts in and out.
 pub record IsGathered (desk : PlainDesk) (book : PlainBook) (ends : List Holding) : Type 0 where
-  pub one_each : IsOneEach desk ends
-  pub kept : All (λ (h : Holding). h.kept ≡ records_of book h.share.actor) ends
+  pub whole : IsWhole desk book ends
   pub entries_add : sum_by (λ (h : Holding). h.share.entries) ends + book.base ≡ length book.entries
   pub packets_add : sum_by (λ (h : Holding). packets h.kept) ends ≡ fulfilled_since book.base book.entries
   pub in_adds : (asset : ℕ) → sum_by (λ (h : Holding). packets_in (peer_assets book.config) h.kept asset) ends
@@ -83,10 +83,3 @@ IsWhyNotGathered desk book ends (Disagrees actor) = IsDisagreeing desk book ends
 -- that it is so with some book of the desk: what is known once the book is back under its lock
 abbrev pub IsWhyWithSome : PlainDesk → List Holding → WhyNotGathered → Type 0
 IsWhyWithSome desk ends why = (book : PlainBook) × IsBookOf desk book × IsWhyNotGathered desk book ends why
-
--- ---- on the way
-
--- each actor has one end, with its records
-pub record IsWhole (desk : PlainDesk) (book : PlainBook) (ends : List Holding) : Type 0 where
-  pub once : (a : ℕ) → IsActor desk a → holders a ends ≡ 1
-  pub agree : (a : ℕ) → IsActor desk a → Agrees book ends a

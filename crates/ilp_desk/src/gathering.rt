@@ -82,6 +82,7 @@ pub(crate) fn why_not<J: Naming>(
         (IsWhole J.desk book.now ends.now.items)
         (λ why. IsWhyNotGathered J.desk book.now ends.now.items why) }
 {
+    know(ends);
     if let Some(actor) = double(ends, actors) {
         return Some(WhyNotGathered::Double { actor });
     }
@@ -95,7 +96,7 @@ pub(crate) fn why_not<J: Naming>(
 }
 
 // The ends' type keeps that their actors are known, and tells it end by end.
-pub(crate) fn know<J: Naming>(ends: &Vec<End<J>>)
+fn know<J: Naming>(ends: &Vec<End<J>>)
     ensures { All (λ (h : Holding). IsActor J.desk h.share.actor) ends.now.items }
 {
     for end in ends {

@@ -8,10 +8,10 @@ ghost use Rattle.ilp_book.specs.AnswerStep.{answer_step, expire_step};
 ghost use Rattle.ilp_desk.specs.Desk.{IsBookOf, actors_of, base_of, most_workers};
 ghost use Rattle.ilp_desk.specs.Session.{IsSession};
 ghost use Rattle.ilp_desk.specs.Portion.{Holding};
-ghost use Rattle.ilp_desk.specs.Gathering.{IsGathered, IsOneEach, IsWhyNotGathered};
+ghost use Rattle.ilp_desk.specs.Gathering.{IsGathered, IsWhole, IsWhyNotGathered};
 
 use crate::end::End;
-use crate::gathering::{Closed, StillLocked, know, why_not};
+use crate::gathering::{Closed, StillLocked, why_not};
 use crate::naming::Naming;
 use crate::share::Share;
 use ilp_book::{Book, Held, HoldFault, NotOpen, Outcome, PeerReply};
@@ -136,7 +136,6 @@ impl<J: Naming> LockedBook<J> {
         ensures ends { IfErr result (λ left. left.ends.items ≡ ends.items) }
         ensures why { IfErr result (λ left. IsWhyNotGathered J.desk self ends.items left.why) }
     {
-        know(&ends);
         let actors = self.workers + 2;
         match why_not(self.book(), &ends, actors) {
             Some(why) => Err(StillLocked {
@@ -152,7 +151,7 @@ impl<J: Naming> LockedBook<J> {
 
     // The book, once the shares of all ends are put together.
     fn close(self, ends: Vec<End<J>>) -> Book
-        requires { IsOneEach J.desk ends.items }
+        requires { IsWhole J.desk self ends.items }
         ensures book { result ≡ self }
         ensures entries { sum_by (λ (h : Holding). h.share.entries) ends.items + base_of J.desk
             ≡ length self.entries }

@@ -7,4 +7,4 @@ pub returns-in-None-clause-gathered : goal.returns-in-None-clause-gathered
 returns-in-None-clause-gathered g c =
     let desk = g.J.Naming.desk in
     let whole = subst (λ b. IsWhole desk b c.args.ends.items) c.book.ensures.value c.in-None.ensures in
-    gathered desk c.args.self c.args.ends.items c.book.ensures.of_desk whole c.know.ensures (omega (arith, c.close.ensures.entries, c.book.ensures.of_desk.base))
+    gathered desk c.args.self c.args.ends.items c.book.ensures.of_desk whole (omega (arith, c.close.ensures.entries, c.book.ensures.of_desk.base))
