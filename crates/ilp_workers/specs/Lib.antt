@@ -2,4 +2,5 @@ pub mod Links
 pub mod Rejects
 pub mod Rows
 pub mod Worker
+pub mod Sweeper
 pub mod Forwarding

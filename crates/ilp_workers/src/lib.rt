@@ -8,9 +8,11 @@ mod links;
 mod parts;
 mod rejects;
 mod reply;
+mod sweeper;
 mod worker;
 
 pub use links::{Clock, EngineLink, EngineReply, LinkFault, Uplink};
 pub use rejects::LocalReject;
 pub use reply::{BadPacket, Receipt};
+pub use sweeper::Sweeper;
 pub use worker::{NoWorker, Worker};
