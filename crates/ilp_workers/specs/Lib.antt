@@ -3,4 +3,5 @@ pub mod Rejects
 pub mod Rows
 pub mod Worker
 pub mod Sweeper
+pub mod Settler
 pub mod Forwarding

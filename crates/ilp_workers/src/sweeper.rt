@@ -1,9 +1,11 @@
 //! The sweeper: it releases holds whose deadline has come.
-ghost use Rattle.std.specs.Prelude.{◌≡◌};
+ghost use Rattle.std.specs.Prelude.{◌≡◌, []};
+ghost use Rattle.ilp_desk.specs.Portion.{holding};
 ghost use Rattle.ilp_workers.specs.Sweeper.{sweeper, Sweeps};
 
 use crate::links::Clock;
-use ilp_desk::{Desk, Naming, Share};
+use ilp_desk::{Desk, End, Naming, Record, Share};
+use std::alloc::Global;
 use std::marker::Model;
 use std::sync::Wait;
 
@@ -38,12 +40,27 @@ impl<J: Naming, C: Clock + Drop> Sweeper<J, C> {
         &self.share
     }
 
+    /// The records of what it booked: none.
+    pub fn records(&self) -> &[Record]
+        ensures { result.now ≡ [] }
+    {
+        &[]
+    }
+
     /// Releases the open hold of the earliest deadline, if that has come by the clock, and tells its
-    /// number. Whoever waits for the reply of its peer is told then that time ran out.
+    /// number. The worker that waits for the peer's reply tells the sender then that time ran out.
     pub fn turn(&mut self, rt: &impl Wait, desk: &Desk<J>) -> Option<u32>
         ensures { Sweeps J.desk self.old self.new result }
     {
         let now = self.clock.now();
         desk.expire_one(rt, &mut self.share, now)
+    }
+
+    /// What the sweeper hands back in the end. The allocator is for the list of no records, which
+    /// takes no memory.
+    pub fn into_end(self, alloc: Global) -> End<J>
+        ensures { result ≡ holding self.share [] }
+    {
+        End::new(self.share, Vec::new(alloc))
     }
 }
