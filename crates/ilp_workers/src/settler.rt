@@ -9,8 +9,8 @@ use ilp_oer::Octets;
 use std::alloc::{AllocError, Allocator, Global};
 use std::marker::Model;
 
-/// The most octets that the key of a settlement has: RUN-NUMBER, where a run has at most 32 and the
-/// number of an entry at most 10 digits.
+// The most octets that the key of a settlement has: RUN-NUMBER, where a run has at most 32 and the
+// number of an entry at most 10 digits.
 const LONGEST_KEY: usize = 43;
 
 /// The settler of a desk: its share, the records of what it booked, its clock and its way to the
