@@ -15,22 +15,32 @@ use std::sync::Wait;
 pub struct Sweeper<J: Naming, C: Clock + Drop> {
     share: Share<J>,
     clock: C,
+    // None; it is what the sweeper hands back in the end.
+    records: Vec<Record>,
 }
 
 impl<J: Naming, C: Clock + Drop> Model for Sweeper<J, C> {
+    ghost use Rattle.std.specs.Prelude.{◌≡◌, []};
     ghost use Rattle.ilp_workers.specs.Sweeper.{PlainSweeper, sweeper};
 
     ghost Value = { PlainSweeper };
 
     ghost view = { λ s. sweeper s.share (C.told s.clock) };
+
+    ghost invariant = { λ s. s.records.items ≡ [] };
 }
 
 impl<J: Naming, C: Clock + Drop> Sweeper<J, C> {
-    /// A sweeper with this share and this clock.
-    pub fn new(share: Share<J>, clock: C) -> Sweeper<J, C>
+    /// A sweeper with this share and this clock. The allocator is for the list of no records, which
+    /// takes no memory.
+    pub fn new(alloc: Global, share: Share<J>, clock: C) -> Sweeper<J, C>
         ensures { result ≡ sweeper share (C.told clock) }
     {
-        Sweeper { share, clock }
+        Sweeper {
+            share,
+            clock,
+            records: Vec::new(alloc),
+        }
     }
 
     /// The sweeper's share of the desk.
@@ -44,7 +54,7 @@ impl<J: Naming, C: Clock + Drop> Sweeper<J, C> {
     pub fn records(&self) -> &[Record]
         ensures { result.now ≡ [] }
     {
-        &[]
+        self.records.as_slice()
     }
 
     /// Releases the open hold of the earliest deadline, if that has come by the clock, and tells its
@@ -56,11 +66,10 @@ impl<J: Naming, C: Clock + Drop> Sweeper<J, C> {
         desk.expire_one(rt, &mut self.share, now)
     }
 
-    /// What the sweeper hands back in the end. The allocator is for the list of no records, which
-    /// takes no memory.
-    pub fn into_end(self, alloc: Global) -> End<J>
+    /// What the sweeper hands back in the end.
+    pub fn into_end(self) -> End<J>
         ensures { result ≡ holding self.share [] }
     {
-        End::new(self.share, Vec::new(alloc))
+        End::new(self.share, self.records)
     }
 }
