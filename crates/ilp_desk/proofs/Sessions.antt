@@ -1,5 +1,5 @@
 -- A session leaves a book of the desk, and counts what it booked.
-use Rattle.std.proofs.Common.{◌≡◌, ℕ, ◌+◌, ◌≤◌, [], ◌∷◌, ◌++◌, length, drop, Option, Some, None, sym, ap, subst, ◌∙◌, append_assoc, append-nil, arith, length-append}
+use Rattle.std.proofs.Common.{◌≡◌, ℕ, ◌+◌, ◌-◌, ◌≤◌, [], ◌∷◌, ◌++◌, length, drop, Option, Some, None, sym, ap, subst, ◌∙◌, append_assoc, append-nil, arith, length-append}
 use Rattle.std.proofs.lemmas.List.{drop-append-le, drop_all}
 use Rattle.std.proofs.lemmas.List.Elements.{All-nil, All-push}
 use Rattle.std.specs.Prelude.{All}
@@ -49,11 +49,11 @@ pushed_of desk book e was lawful actor =
     }
 
 -- a book of the desk is left, of no fewer entries
-abbrev pub Leaves : PlainDesk → PlainBook → PlainBook → Type 0
+abbrev Leaves : PlainDesk → PlainBook → PlainBook → Type 0
 Leaves desk old new = IsBookOf desk new × (length old.entries ≤ length new.entries)
 
 -- a step leaves one of a book of the desk, where its entry is an actor's
-pub leaves_by : {R : Type 0} (desk : PlainDesk) (old new : PlainBook) (result : R) (made : Made R) (actor : ℕ)
+leaves_by : {R : Type 0} (desk : PlainDesk) (old new : PlainBook) (result : R) (made : Made R) (actor : ℕ)
     → IsBookOf desk old → Does old new result made → IsLawful new → IsActor desk actor → IsBy actor made.entry → Leaves desk old new
 leaves_by desk old new result made actor was does lawful known by = of made.entry does.book by
   where
@@ -64,23 +64,28 @@ leaves_by desk old new result made actor was does lawful known by = of made.entr
       omega (arith, ap (λ (b : PlainBook). length b.entries) same, length-append old.entries (e ∷ [])),
     )
 
--- what is under the lock after a session that counted what it booked
-pub locked_after : (desk : PlainDesk) (parts workers total total' : ℕ) (old new : PlainBook)
-    → IsLocked desk parts workers total old → IsBookOf desk new → total' + length old.entries ≡ total + length new.entries → IsLocked desk parts workers total' new
-locked_after desk parts workers total total' old new was now counted = record {
-  of_desk = now;
-  counted = omega (arith, counted, was.counted, length_booked desk old.entries was.of_desk.begins, length_booked desk new.entries now.begins);
-  cut = was.cut;
-  told = was.told;
-  few = was.few;
-}
+-- what a session leaves: what the lock keeps, and what is told of the session
+abbrev pub LeavesAll : PlainDesk → ℕ → ℕ → ℕ → PlainBook → PlainBook → Portion → Portion → Type 0
+LeavesAll desk parts workers total old new before after = IsLocked desk parts workers total new × IsSession desk old new before after
 
--- a session that counted what it booked
-pub session_after : (desk : PlainDesk) (old new : PlainBook) (before after : Portion) (gained : ℕ)
-    → IsBookOf desk old → IsBookOf desk new → after ≡ portion before.actor (before.entries + gained) → gained + length old.entries ≡ length new.entries → IsSession desk old new before after
-session_after desk old new before after gained was now counted more = record {
-  found = was;
-  left = now;
-  actor = ap (λ (s : Portion). s.actor) counted;
-  raised = omega (arith, ap (λ (s : Portion). s.entries) counted, more);
-}
+-- A session of an actor does a step on the book under the lock, and counts what the journal gained, in the ledger and in the share.
+pub after_session : {R : Type 0} (desk : PlainDesk) (parts workers total total' had has actor : ℕ) (old new : PlainBook) (before after : Portion) (result : R) (made : Made R)
+    → IsLocked desk parts workers total old → Does old new result made → IsLawful new → IsActor desk actor → IsBy actor made.entry
+    → had ≡ length old.entries → has ≡ length new.entries → total' ≡ total + (has - had) → after ≡ portion before.actor (before.entries + (has - had))
+    → LeavesAll desk parts workers total' old new before after
+after_session desk parts workers total total' had has actor old new before after result made was does lawful known by had_is has_is counted raised =
+    let left = leaves_by desk old new result made actor was.of_desk does lawful known by in (
+      record {
+        of_desk = left.0;
+        counted = omega (arith, counted, had_is, has_is, left.1, was.counted, length_booked desk old.entries was.of_desk.begins, length_booked desk new.entries left.0.begins);
+        cut = was.cut;
+        told = was.told;
+        few = was.few;
+      },
+      record {
+        found = was.of_desk;
+        left = left.0;
+        actor = ap (λ (s : Portion). s.actor) raised;
+        raised = omega (arith, ap (λ (s : Portion). s.entries) raised, had_is, has_is, left.1);
+      },
+    )

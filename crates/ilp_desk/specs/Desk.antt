@@ -14,10 +14,6 @@ pub record PlainDesk : Type 0 where
 
 -- ---- actors
 
--- the most workers of a desk
-abbrev pub most_workers : ℕ
-most_workers = 64
-
 -- how many actors there are: the workers, from 0 on, then the sweeper, and last the settler
 abbrev pub actors_of : PlainDesk → ℕ
 actors_of desk = desk.workers + 2

@@ -7,6 +7,7 @@ pub mod Session
 pub mod Opening
 pub use Rattle.ilp_packet.specs.Packet
 pub use Rattle.ilp_accounts.specs.Configuration
+pub use Rattle.ilp_accounts.specs.Limits
 pub use Rattle.ilp_journal.specs.Journal
 pub use Rattle.ilp_book.specs.Book
 pub use Rattle.ilp_book.specs.Configured

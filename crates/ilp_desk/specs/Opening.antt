@@ -1,9 +1,10 @@
 -- How a desk begins, and why none does.
 use Rattle.std.specs.Prelude.{ℕ, ◌<◌, ◌≤◌, ◌⊎◌, List, map}
 use Rattle.std.specs.List.{range_with_len}
+use Rattle.ilp_accounts.specs.Limits.{most_workers}
 use Rattle.ilp_desk.specs.declared.desk.WhyNoDesk.{WhyNoDesk}
 use Rattle.ilp_desk.specs.declared.desk.WhyNoDesk.TheVariants.{BadWorkers, Memory}
-use Rattle.ilp_desk.specs.Desk.{PlainDesk, actors_of, most_workers}
+use Rattle.ilp_desk.specs.Desk.{PlainDesk, actors_of}
 use Rattle.ilp_desk.specs.Portion.{Portion, portion}
 
 -- the shares of all actors, in order, with which nothing is booked yet

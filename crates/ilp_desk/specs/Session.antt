@@ -1,7 +1,8 @@
 -- What is under a desk's lock, and what a session does there.
 use Rattle.std.specs.Prelude.{◌≡◌, ℕ, ◌+◌, ◌≤◌, length}
 use Rattle.ilp_book.specs.Book.{PlainBook, Made, Does}
-use Rattle.ilp_desk.specs.Desk.{PlainDesk, IsBookOf, actors_of, booked, most_workers}
+use Rattle.ilp_accounts.specs.Limits.{most_workers}
+use Rattle.ilp_desk.specs.Desk.{PlainDesk, IsBookOf, actors_of, booked}
 use Rattle.ilp_desk.specs.Portion.{Portion}
 
 -- Under the lock is a book of the desk, with a ledger that has a part for each actor and stands at the number of entries since

@@ -19,7 +19,7 @@ pub struct Closed {
     pub book: Book,
 }
 
-/// A desk that goes on, with the ends that were not gathered.
+/// A desk that was not closed, and the ends that were not gathered.
 #[derive(Drop)]
 pub struct NotGathered<J: Naming> {
     pub desk: Desk<J>,
@@ -51,10 +51,10 @@ pub(crate) struct StillLocked<J: Naming> {
     pub(crate) why: WhyNotGathered,
 }
 
-/// Closes a desk, where each of its actors hands in one end, with its records of the book. What the
-/// ends say then adds up to what was booked since the desk was opened. A refusal hands the desk and
-/// the ends back as they were; where each actor has one end, it is that one disagrees. Takes no
-/// memory, and no lock: nobody else has the desk then.
+/// Closes a desk, where each of its actors hands in one end, with its records of the book: then
+/// what the ends say adds up to what was booked since the desk was opened. A refusal hands back the
+/// desk and the ends as they were. Takes no memory, and waits for no lock, since nobody else has the
+/// desk.
 pub fn gather<J: Naming>(desk: Desk<J>, ends: Vec<End<J>>) -> Result<Closed, NotGathered<J>>
     ensures book { IfOk result (λ closed. IsBookOf J.desk closed.book) }
     ensures gathered { IfOk result (λ closed. IsGathered J.desk closed.book ends.items) }

@@ -1,11 +1,12 @@
 //! What the lock of a desk lends: the book, and its calls as sessions of the desk's actors.
 ghost use Rattle.std.specs.Prelude.{◌≡◌, ◌+◌, ◌≤◌, IfOk, IfErr, OnErr, length, sum_by};
 ghost use Rattle.ilp_packet.specs.Packet.{plain_prepare};
+ghost use Rattle.ilp_accounts.specs.Limits.{most_workers};
 ghost use Rattle.ilp_book.specs.Book.{by, Does};
 ghost use Rattle.ilp_book.specs.Configured.{IsKnown};
 ghost use Rattle.ilp_book.specs.HoldStep.{incoming, hold_step, growth_of};
 ghost use Rattle.ilp_book.specs.AnswerStep.{answer_step, expire_step};
-ghost use Rattle.ilp_desk.specs.Desk.{IsBookOf, actors_of, base_of, most_workers};
+ghost use Rattle.ilp_desk.specs.Desk.{IsBookOf, actors_of, base_of};
 ghost use Rattle.ilp_desk.specs.Session.{IsSession};
 ghost use Rattle.ilp_desk.specs.Portion.{Holding};
 ghost use Rattle.ilp_desk.specs.Gathering.{IsGathered, IsWhole, IsWhyNotGathered};

@@ -1,32 +1,27 @@
-use Rattle.std.proofs.Common.{◌-◌, arith, subst, to_z, of_z}
+use Rattle.std.proofs.Common.{subst, to_z, of_z}
 use Rattle.std.specs.Int.{w64}
 use Rattle.ilp_book.specs.Book.{by}
 use Rattle.ilp_book.specs.AnswerStep.{expire_step}
 use Rattle.ilp_desk.specs.Session.{IsSession}
 use Rattle.ilp_desk.proofs.Callers.{expire_by}
-use Rattle.ilp_desk.proofs.Sessions.{Leaves, leaves_by, locked_after, session_after}
+use Rattle.ilp_desk.proofs.Sessions.{LeavesAll, after_session}
 use Rattle.ilp_desk.proofs.locked.LockedBook.expire_one.Given as given
 use Rattle.ilp_desk.proofs.locked.LockedBook.expire_one.Goals as goal
 
 -- the step is the share's actor's
-leaves : (g : given.Over) (c : goal.After-count g) → Leaves g.J.Naming.desk c.self.inside.book c.expire_one-result.new.self
+leaves : (g : given.Over) (c : goal.After-count g) → LeavesAll g.J.Naming.desk g.J.Ledger.parts c.self.inside.workers c.count.new.total.total c.self.inside.book c.expire_one-result.new.self c.args.share.now c.count.new.self
 leaves g c =
     let old = c.self.inside.book in
     let caller = by c.actor.result (to_z w64 (of_z w64 c.args.now)) in
     let step = c.expire_one-result.ensures in
-    leaves_by g.J.Naming.desk old c.expire_one-result.new.self c.expire_one-result.result (expire_step old caller) c.actor.result
-    c.self.invariant.of_desk step.step step.lawful c.actor.ensures.known (expire_by old caller)
+    after_session g.J.Naming.desk g.J.Ledger.parts c.self.inside.workers c.self.inside.total.total c.count.new.total.total c.len-before.result c.len.result c.actor.result
+    old c.expire_one-result.new.self c.args.share.now c.count.new.self c.expire_one-result.result (expire_step old caller)
+    c.self.invariant step.step step.lawful c.actor.ensures.known (expire_by old caller)
+    c.len-before.ensures c.len.ensures c.count.ensures.total c.count.ensures.share
 
 pub invariant_of-self : goal.invariant_of-self
-invariant_of-self g c =
-    let left = leaves g c in
-    locked_after g.J.Naming.desk g.J.Ledger.parts c.self.inside.workers c.self.inside.total.total c.count.new.total.total
-    c.self.inside.book c.expire_one-result.new.self c.self.invariant left.0
-    (omega (arith, c.count.ensures.total, c.len-before.ensures, c.len.ensures, left.1))
+invariant_of-self g c = (leaves g c).0
 
 pub returns-clause-session : goal.returns-clause-session
 returns-clause-session g c =
-    let left = leaves g c in
-    subst (λ b. IsSession g.J.Naming.desk b c.expire_one-result.new.self c.args.share.now c.count.new.self) c.self.view_is
-    (session_after g.J.Naming.desk c.self.inside.book c.expire_one-result.new.self c.args.share.now c.count.new.self (c.len.result - c.len-before.result)
-    c.self.invariant.of_desk left.0 c.count.ensures.share (omega (arith, c.len-before.ensures, c.len.ensures, left.1)))
+    subst (λ b. IsSession g.J.Naming.desk b c.expire_one-result.new.self c.args.share.now c.count.new.self) c.self.view_is (leaves g c).1
