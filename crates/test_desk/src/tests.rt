@@ -5,8 +5,8 @@ ghost use Rattle.ilp_desk.specs.Desk.{actors_of, base_of};
 
 use ilp_accounts::Config;
 use ilp_book::{Book, Outcome, PeerReply};
-use ilp_packet::Prepare;
 use ilp_desk::{Desk, Naming, Share, WhyNoDesk};
+use ilp_packet::Prepare;
 use std::alloc::{AllocError, Allocator, Global};
 use std::marker::Brand;
 use std::process::Abort;
