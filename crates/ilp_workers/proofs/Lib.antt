@@ -4,3 +4,4 @@ pub mod Sending
 pub mod Passing
 pub mod Outcomes
 pub mod Sweeping
+pub mod Standing

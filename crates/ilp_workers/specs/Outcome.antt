@@ -1,12 +1,20 @@
 -- What a forward comes to for its sender: a Fulfill, or a Reject.
-use Rattle.std.specs.Prelude.{◌≡◌, ℕ, ◌+◌, [], ◌∷◌, ◌++◌, Some, true}
+use Rattle.std.specs.Prelude.{◌≡◌, ℕ, ◌+◌, ◌⊎◌, ◌==◌, nat_lt, [], ◌∷◌, ◌++◌, Option, Some, None, true, if◌then◌else◌}
 use Rattle.ilp_terms.specs.Condition.{meets}
 use Rattle.ilp_packet.specs.Packet.{PlainPrepare, PlainFulfill, PlainReject, prepare, fulfill, reject, Spells}
+use Rattle.ilp_accounts.specs.Configuration.{Configuration, peer_at}
 use Rattle.ilp_book.specs.declared.calls.Held.{Held}
+use Rattle.ilp_book.specs.declared.fault.HoldFault.{HoldFault}
+use Rattle.ilp_book.specs.declared.fault.HoldFault.TheVariants as hold_fault
+use Rattle.ilp_book.specs.HoldStep.{Incoming}
 use Rattle.ilp_desk.specs.declared.record.Ending.TheVariants.{Fulfilled}
+use Rattle.ilp_desk.specs.Desk.{PlainDesk}
 use Rattle.ilp_desk.specs.Portion.{portion}
 use Rattle.ilp_desk.specs.Totals.{packets}
 use Rattle.ilp_workers.specs.declared.reply.Receipt.{Receipt}
+use Rattle.ilp_workers.specs.declared.rejects.LocalReject.{LocalReject}
+use Rattle.ilp_workers.specs.declared.rejects.LocalReject.TheVariants as local
+use Rattle.ilp_workers.specs.Rejects.{local_reject}
 use Rattle.ilp_workers.specs.Worker.{PlainWorker}
 use Rattle.ilp_workers.specs.Forwarding.{Arrival, order, record_of_end}
 
@@ -30,3 +38,22 @@ pub record IsRejected (before after : PlainWorker) : Type 0 where
   pub answer : PlainReject
   pub reply : Spells after.reply (reject answer)
   pub kept : packets after.kept ≡ packets before.kept
+
+-- ---- refusals that no moment changes
+
+-- a destination without a route, or one that is routed to the sender
+abbrev pub route_refusal : ℕ → Option ℕ → Option HoldFault
+route_refusal from None = Some hold_fault.NoRoute
+route_refusal from (Some to) = if to == from then Some hold_fault.BackToSender else None
+
+-- the first refusal of a Prepare that neither the time nor the book has a part in: of its amount and of its route
+abbrev pub standing_refusal : Configuration → Incoming → Option HoldFault
+standing_refusal C sent =
+    let max = (peer_at C sent.from).max_packet in
+    if nat_lt max sent.packet.amount then Some (hold_fault.AmountTooLarge max) else route_refusal sent.from sent.route
+
+-- The sender is answered this Reject of the connector's own, or that it had no memory. Nothing is booked.
+pub record IsRefusedAs (desk : PlainDesk) (after : PlainWorker) (receipt : Receipt) (why : LocalReject) : Type 0 where
+  pub reply : Spells after.reply (reject (local_reject desk.config why)) ⊎ Spells after.reply (reject (local_reject desk.config local.InternalError))
+  pub holds : receipt.hold ≡ None
+  pub answers : receipt.answer ≡ None

@@ -1,17 +1,19 @@
 //! What holds of the definitions. These functions do nothing: their contracts are the laws.
-ghost use Rattle.std.specs.Prelude.{◌≡◌, ◌⊎◌, ℕ, ◌≤◌, length, codes, Ok};
+ghost use Rattle.std.specs.Prelude.{◌≡◌, ◌⊎◌, ℕ, ◌≤◌, length, codes, Some, Ok};
 ghost use Rattle.ilp_oer.specs.Octets.{AreOctets};
 ghost use Rattle.ilp_packet.specs.Address.{most_address};
-ghost use Rattle.ilp_packet.specs.Packet.{reject};
+ghost use Rattle.ilp_packet.specs.Packet.{PlainPrepare, prepare, reject, Spells};
 ghost use Rattle.ilp_packet.specs.Writing.{size};
 ghost use Rattle.ilp_accounts.specs.Configuration.{Configuration};
+ghost use Rattle.ilp_book.specs.declared.fault.HoldFault.{HoldFault};
+ghost use Rattle.ilp_book.specs.HoldStep.{incoming};
 ghost use Rattle.ilp_workers.specs.declared.rejects.LocalReject.{LocalReject};
-ghost use Rattle.ilp_workers.specs.Rejects.{local_reject, longest_local_reject};
+ghost use Rattle.ilp_workers.specs.Rejects.{local_reject, longest_local_reject, reject_of_fault};
 ghost use Rattle.ilp_workers.specs.Rows.{RejectRows};
 ghost use Rattle.ilp_workers.specs.declared.reply.Receipt.{Receipt};
 ghost use Rattle.ilp_workers.specs.Worker.{PlainWorker};
 ghost use Rattle.ilp_workers.specs.Forwarding.{Arrival, Forwards};
-ghost use Rattle.ilp_workers.specs.Outcome.{IsFulfilled, IsRejected};
+ghost use Rattle.ilp_workers.specs.Outcome.{IsFulfilled, IsRejected, IsRefusedAs, standing_refusal};
 
 use crate::rejects::{LONGEST_LOCAL_REJECT, LocalReject};
 
@@ -39,4 +41,14 @@ pub fn fulfills_are_kept()
     ensures { (a : Arrival) (before after : PlainWorker) (receipt : Receipt)
         → AreOctets after.reply → Forwards a before after (Ok receipt)
         → IsFulfilled a before after receipt ⊎ IsRejected before after }
+{}
+
+/// A Prepare of too great an amount, without a route or with one back to its sender is refused as
+/// that, or for want of memory, whatever the time is and whatever the book has.
+pub fn standing_refusals_are_told()
+    ensures { (a : Arrival) (before after : PlainWorker) (receipt : Receipt)
+        (packet : PlainPrepare) (fault : HoldFault)
+        → Forwards a before after (Ok receipt) → Spells a.octets (prepare packet)
+        → standing_refusal a.desk.config (incoming a.desk.config a.from packet) ≡ Some fault
+        → IsRefusedAs a.desk after receipt (reject_of_fault packet.amount fault) }
 {}
