@@ -1,5 +1,6 @@
 pub mod Desk
 pub mod Records
+pub mod Totals
 pub mod Portion
 pub mod Session
 pub mod Opening

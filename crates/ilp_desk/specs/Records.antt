@@ -1,5 +1,5 @@
 -- The records of a journal: what the books say of what an actor booked.
-use Rattle.std.specs.Prelude.{ℕ, ◌+◌, Bool, true, false, ◌&&◌, ◌==◌, List, [], ◌∷◌, ◌++◌, Option, Some, None, option_map, option_to_list, nat_le, if◌then◌else◌}
+use Rattle.std.specs.Prelude.{ℕ, ◌+◌, Bool, true, false, ◌==◌, List, [], ◌∷◌, ◌++◌, drop, Option, Some, None, option_map, option_and_then, option_to_list, slice_get, if◌then◌else◌}
 use Rattle.ilp_journal.specs.declared.entry.Entry.{Entry}
 use Rattle.ilp_journal.specs.declared.entry.Hold.{Hold}
 use Rattle.ilp_journal.specs.declared.entry.Ask.{Ask}
@@ -11,7 +11,6 @@ use Rattle.ilp_journal.specs.Journal.{Entries, hold_at, ask_at}
 use Rattle.ilp_desk.specs.declared.record.Record.{Record}
 use Rattle.ilp_desk.specs.declared.record.Recorded.{Recorded}
 use Rattle.ilp_desk.specs.declared.record.Recorded.TheVariants as recorded
-use Rattle.ilp_desk.specs.declared.record.EndedHold.{EndedHold}
 use Rattle.ilp_desk.specs.declared.record.Ending.{Ending}
 use Rattle.ilp_desk.specs.declared.record.Ending.TheVariants.{Fulfilled, Released}
 
@@ -46,20 +45,28 @@ recorded_of j (what.Undone n) = option_map (closed n false) (ask_at j n)
 abbrev pub record_of : Entries → ℕ → Entry → Option Record
 record_of j n e = option_map (λ (kept : Recorded). record { number = n; what = kept }) (recorded_of j e.what)
 
+-- what is kept of the entry under the number n, if there is one
+abbrev pub record_at : Entries → ℕ → Option Record
+record_at j n = option_and_then (λ (e : Entry). record_of j n e) (slice_get j n)
+
+-- what is kept of it, if it is the actor's
+abbrev pub record_by : Entries → ℕ → ℕ → Option Record
+record_by j n actor = option_and_then (λ (e : Entry). if actor == e.actor then record_of j n e else None) (slice_get j n)
+
 -- ---- lists of records
 
--- the records that f makes of each place and element, in order, the first place being n
+-- what f makes of each place and element, in order, the first place being n
 abbrev pub listed_from : {X Y : Type 0} → (ℕ → X → Option Y) → ℕ → List X → List Y
 listed_from f n [] = []
 listed_from f n (x ∷ xs) = option_to_list (f n x) ++ listed_from f (n + 1) xs
 
 -- the records of the entries from the place base on whose actor passes the test
 abbrev pub records_by : (ℕ → Bool) → Entries → ℕ → List Record
-records_by test j base = listed_from (λ n (e : Entry). if nat_le base n && test e.actor then record_of j n e else None) 0 j
+records_by test j base = listed_from (λ n (e : Entry). if test e.actor then record_of j n e else None) base (drop base j)
 
 -- those of one actor
 abbrev pub records : Entries → ℕ → ℕ → List Record
-records j base actor = records_by (λ a. a == actor) j base
+records j base actor = records_by (λ a. actor == a) j base
 
 -- those of all actors
 abbrev pub all_records : Entries → ℕ → List Record

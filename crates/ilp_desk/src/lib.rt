@@ -3,12 +3,16 @@
 #![tactic(auto)]
 
 mod desk;
+mod end;
+pub mod laws;
 mod locked;
 mod naming;
 mod record;
+mod records;
 mod share;
 
 pub use desk::{Desk, NoDesk, WhyNoDesk};
+pub use end::End;
 pub use locked::LockedBook;
 pub use naming::Naming;
 pub use record::{EndedHold, Ending, Record, Recorded};

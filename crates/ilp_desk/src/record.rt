@@ -18,7 +18,10 @@ pub enum Recorded {
     /// A hold ended, for another cause than its deadline.
     Ended(EndedHold),
     /// A settlement from a peer: what its balance rose by, in units of its asset.
-    Credited { peer: u32, amount: u64 },
+    Credited {
+        peer: u32,
+        amount: u64,
+    },
     /// A settlement to a peer, in units of its asset, which its engine made or refused.
     Closed {
         ask: u32,

@@ -69,4 +69,17 @@ impl<J: Naming> Share<J> {
         total.add(part, u64::from(gained));
         self.entries += gained;
     }
+
+    // The part of the ledger that it is.
+    pub(crate) fn into_part(self) -> ledger::Share<J>
+        ensures parts { result.parts ≡ 1 }
+        ensures amount { result.amount ≡ self.entries }
+    {
+        let Share {
+            actor: _,
+            entries: _,
+            part,
+        } = self;
+        part
+    }
 }

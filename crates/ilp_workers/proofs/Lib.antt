@@ -1,1 +1,4 @@
 pub mod Rejecting
+pub mod Sessions
+pub mod Sending
+pub mod Passing

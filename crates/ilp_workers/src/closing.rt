@@ -30,11 +30,7 @@ pub struct Closing {
 }
 
 // What came for a Prepare of this condition: the octets of the reply, if the link has no fault.
-pub(crate) fn closing_by(
-    condition: &[u8; 32],
-    came: Result<(), LinkFault>,
-    reply: &[u8],
-) -> Closing
+pub(crate) fn closing_by(condition: &[u8; 32], came: Result<(), LinkFault>, reply: &[u8]) -> Closing
     ensures { result ≡ closing_of condition.now (came_of came reply.now) }
 {
     let Ok(()) = came else {

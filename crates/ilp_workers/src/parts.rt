@@ -55,9 +55,13 @@ pub(crate) struct Passed {
     pub(crate) receipt: Receipt,
 }
 
-impl<J: Naming, C: Clock + Drop, U: Uplink + Drop, E: EngineLink + Drop, A: Allocator>
-    Parts<J, C, U, E, A>
-{
+impl<J: Naming, C: Clock + Drop, U: Uplink + Drop, E: EngineLink + Drop, A: Allocator> Parts<
+    J,
+    C,
+    U,
+    E,
+    A,
+> {
     // Holds a Prepare of these octets, hands it on, and books what came back. The lock is free while
     // the peer is asked.
     pub(crate) fn pass_on(
@@ -213,7 +217,8 @@ impl<J: Naming, C: Clock + Drop, U: Uplink + Drop, E: EngineLink + Drop, A: Allo
                 entry: Some(entry),
             };
         }
-        self.records.push_reserved(record_of(from, packet, held, ending, entry));
+        self.records
+            .push_reserved(record_of(from, packet, held, ending, entry));
         Ended {
             told: closing.told,
             entry: Some(entry),

@@ -30,8 +30,7 @@ pub struct Worker<
 }
 
 impl<J: Naming, C: Clock + Drop, U: Uplink + Drop, E: EngineLink + Drop, A: Allocator> Model
-    for Worker<J, C, U, E, A>
-{
+    for Worker<J, C, U, E, A> {
     ghost use Rattle.ilp_workers.specs.Worker.{PlainWorker, worker, reply_of};
 
     ghost Value = { PlainWorker };
@@ -48,9 +47,13 @@ pub struct NoWorker<J: Naming, C: Clock + Drop, U: Uplink + Drop, E: EngineLink 
     pub engine: E,
 }
 
-impl<J: Naming, C: Clock + Drop, U: Uplink + Drop, E: EngineLink + Drop, A: Allocator>
-    Worker<J, C, U, E, A>
-{
+impl<J: Naming, C: Clock + Drop, U: Uplink + Drop, E: EngineLink + Drop, A: Allocator> Worker<
+    J,
+    C,
+    U,
+    E,
+    A,
+> {
     /// A worker with this share and these links, which keeps no record yet. Room is made for any
     /// Reject of the connector's own; where memory for that is denied, all is handed back.
     pub fn new(

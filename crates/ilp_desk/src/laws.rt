@@ -1,0 +1,28 @@
+//! What holds of every book of a desk. These functions do nothing: their contracts are the laws.
+
+ghost use Rattle.std.specs.Prelude.{◌≡◌, ℕ, ◌≤◌};
+ghost use Rattle.ilp_book.specs.Quote.{most};
+ghost use Rattle.ilp_journal.specs.Journal.{IsBase};
+ghost use Rattle.ilp_journal.specs.TrialBalance.{total_in, total_out};
+ghost use Rattle.ilp_book.specs.Book.{PlainBook};
+ghost use Rattle.ilp_book.specs.Configured.{peer_assets};
+ghost use Rattle.ilp_book.specs.Lawful.{IsLawful};
+ghost use Rattle.ilp_desk.specs.Totals.{taken_since, sold_since};
+
+/// In a lawful book that was opened where no hold was open, what was fulfilled since keeps, in each
+/// asset, within the totals of the book, and so within what one packet can carry. So no sum of the
+/// amounts that actors keep wraps.
+pub fn packets_fit()
+    ensures taken { (book : PlainBook) (asset : ℕ)
+        → IsLawful book → IsBase book.entries book.base
+        → taken_since (peer_assets book.config) book.base book.entries asset
+        ≤ total_in (peer_assets book.config) book.base book.entries asset }
+    ensures sold { (book : PlainBook) (asset : ℕ)
+        → IsLawful book → IsBase book.entries book.base
+        → sold_since (peer_assets book.config) book.base book.entries asset
+        ≤ total_out (peer_assets book.config) book.base book.entries asset }
+    ensures most_in { (book : PlainBook) (asset : ℕ) → IsLawful book
+        → total_in (peer_assets book.config) book.base book.entries asset ≤ most }
+    ensures most_out { (book : PlainBook) (asset : ℕ) → IsLawful book
+        → total_out (peer_assets book.config) book.base book.entries asset ≤ most }
+{}

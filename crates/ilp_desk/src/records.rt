@@ -1,0 +1,79 @@
+//! What the entries of a book are kept as.
+ghost use Rattle.std.specs.Prelude.{◌≡◌, ◌==◌, None, option_map, if◌then◌else◌};
+ghost use Rattle.ilp_journal.specs.Journal.{hold_at, ask_at};
+ghost use Rattle.ilp_desk.specs.Records.{ended, closed, record_at, record_by};
+
+use crate::record::{EndedHold, Ending, Record, Recorded};
+use ilp_book::Book;
+use ilp_journal::{Cause, What};
+
+// The record of the entry of this number, if it is the actor's.
+pub(crate) fn record_by(book: &Book, number: u32, actor: u32) -> Option<Record>
+    ensures { result ≡ record_by book.now.entries number actor }
+{
+    let entry = book.entry(number)?;
+    if actor == entry.actor {
+        record_of(book, number)
+    } else {
+        None
+    }
+}
+
+// The record of the entry of this number, if anything is kept of it.
+fn record_of(book: &Book, number: u32) -> Option<Record>
+    ensures { result ≡ record_at book.now.entries number }
+{
+    let entry = book.entry(number)?;
+    let what = match &entry.what {
+        What::Hold(_) | What::Asked(_) => return None,
+        What::Fulfilled { hold, .. } => ended(book, *hold, Ending::Fulfilled)?,
+        What::Released { hold, cause } => {
+            if *cause == Cause::Late {
+                return None;
+            }
+            ended(book, *hold, Ending::Released(*cause))?
+        }
+        What::Credited(credit) => Recorded::Credited {
+            peer: credit.peer,
+            amount: credit.credited,
+        },
+        What::Confirmed { ask } => closed(book, *ask, true)?,
+        What::Undone { ask } => closed(book, *ask, false)?,
+    };
+    Some(Record { number, what })
+}
+
+// The hold of this number, if there is one, and how it ended.
+fn ended(book: &Book, number: u32, ending: Ending) -> Option<Recorded>
+    ensures { result ≡ option_map (ended number ending) (hold_at book.now.entries number) }
+{
+    let entry = book.entry(number)?;
+    let What::Hold(hold) = &entry.what else {
+        return None;
+    };
+    Some(Recorded::Ended(EndedHold {
+        hold: number,
+        from: hold.from,
+        to: hold.to,
+        amount: hold.amount,
+        out: hold.out,
+        condition: hold.condition,
+        ending,
+    }))
+}
+
+// The settlement of this number, if there is one, and whether it was made.
+fn closed(book: &Book, number: u32, accepted: bool) -> Option<Recorded>
+    ensures { result ≡ option_map (closed number accepted) (ask_at book.now.entries number) }
+{
+    let entry = book.entry(number)?;
+    let What::Asked(ask) = &entry.what else {
+        return None;
+    };
+    Some(Recorded::Closed {
+        ask: number,
+        peer: ask.peer,
+        amount: ask.amount,
+        accepted,
+    })
+}

@@ -1,0 +1,53 @@
+use Rattle.std.proofs.Common.{ap, sym, ◌∙◌, refl, subst, rules, inl, inr, Some, None, ◌++◌, ◌∷◌, []}
+use Rattle.std.specs.Prelude.{FitsSigned, Result, Ok, Err}
+use Rattle.std.specs.Int.{w64}
+use Rattle.std.proofs.lemmas.Int.{to_z-of_z}
+use Rattle.ilp_packet.specs.Packet.{plain_prepare}
+use Rattle.ilp_book.specs.declared.calls.Outcome.{Outcome}
+use Rattle.ilp_book.specs.declared.fault.NotOpen.{NotOpen}
+use Rattle.ilp_desk.specs.Portion.{holding}
+use Rattle.ilp_workers.specs.Forwarding.{order, IsAnsweredAt, record_of_end}
+use Rattle.ilp_workers.proofs.Sessions.{ended_by}
+use Rattle.ilp_workers.proofs.parts.Parts.end.Goals as goal
+
+-- the hold was over
+pub returns-in_default-clause-ended : goal.returns-in_default-clause-ended
+returns-in_default-clause-ended g c =
+    let o = order g.J.Naming.desk c.args.from (plain_prepare c.args.packet.now) in
+    let later = c.now-later.result in
+    let reply : Result Outcome NotOpen = Err c.in_default.field-0 in
+    let fits : FitsSigned w64 later = search rules in
+    let at : IsAnsweredAt o later c.args.held.now.number c.args.closing.now.answer c.args.self.now.share c.answer.new.share reply =
+    subst (λ t. IsAnsweredAt o t c.args.held.now.number c.args.closing.now.answer c.args.self.now.share c.answer.new.share reply) (to_z-of_z w64 later fits) c.in_default.ensures in
+    ended_by o c.args.held.now c.args.closing.now (g.C.Clock.told c.args.self.now.clock) (g.C.Clock.told c.now-later.new.self)
+    (holding c.args.self.now.share c.args.self.now.records.items) (holding c.answer.new.share c.args.self.now.records.items) _ None later reply c.now-later.ensures at refl (refl, refl)
+
+-- the hold ended otherwise than what came back says
+pub returns-then-not-same-clause-ended : goal.returns-then-not-same-clause-ended
+returns-then-not-same-clause-ended g c =
+    let o = order g.J.Naming.desk c.args.from (plain_prepare c.args.packet.now) in
+    let later = c.now-later.result in
+    let reply : Result Outcome NotOpen = Ok c.in-Ok.outcome in
+    let fits : FitsSigned w64 later = search rules in
+    let at : IsAnsweredAt o later c.args.held.now.number c.args.closing.now.answer c.args.self.now.share c.answer.new.share reply =
+    subst (λ t. IsAnsweredAt o t c.args.held.now.number c.args.closing.now.answer c.args.self.now.share c.answer.new.share reply) (to_z-of_z w64 later fits) c.in-Ok.ensures in
+    ended_by o c.args.held.now c.args.closing.now (g.C.Clock.told c.args.self.now.clock) (g.C.Clock.told c.now-later.new.self)
+    (holding c.args.self.now.share c.args.self.now.records.items) (holding c.answer.new.share c.args.self.now.records.items) _ (Some c.end_of-entry.result.0) later reply c.now-later.ensures at
+    (ap (λ r. Some r.0) (sym c.end_of-entry.ensures)) (inr (refl, refl))
+
+-- the hold ended by what came back
+pub returns-clause-ended : goal.returns-clause-ended
+returns-clause-ended g c =
+    let o = order g.J.Naming.desk c.args.from (plain_prepare c.args.packet.now) in
+    let held = c.args.held.now in
+    let later = c.now-later.result in
+    let entry = c.end_of-entry.result.0 in
+    let kept = c.args.self.now.records.items in
+    let reply : Result Outcome NotOpen = Ok c.in-Ok.outcome in
+    let fits : FitsSigned w64 later = search rules in
+    let at : IsAnsweredAt o later held.number c.args.closing.now.answer c.args.self.now.share c.answer.new.share reply =
+    subst (λ t. IsAnsweredAt o t held.number c.args.closing.now.answer c.args.self.now.share c.answer.new.share reply) (to_z-of_z w64 later fits) c.in-Ok.ensures in
+    let told = c.record_of.ensures g.J.Naming.desk ∙ ap (λ ending. record_of_end o held ending entry) c.if-not-same.ensures in
+    ended_by o held c.args.closing.now (g.C.Clock.told c.args.self.now.clock) (g.C.Clock.told c.now-later.new.self)
+    (holding c.args.self.now.share kept) (holding c.answer.new.share c.push_reserved.new.self.items) _ (Some entry) later reply c.now-later.ensures at
+    (ap (λ r. Some r.0) (sym c.end_of-entry.ensures)) (inl (refl, c.push_reserved.ensures.items ∙ ap (λ r. kept ++ r ∷ []) told))
