@@ -97,7 +97,7 @@ since_less f base j (Some n) = by (nat_le base n)
 -- A total to which a hold brings f of it, and from which a release takes f of a hold that stands since the base
 module _ (f : Hold → ℕ) (total : Entries → ℕ) (front : Entries)
     (grows : (j : Entries) (e : Entry) → Each AnswersOnce j → AnswersOnce j e
-      → total (j ++ e ∷ []) + of_named j f (since (length front) (released e.what)) ≡ total j + cond (nat_le (length front) (length j)) (of_hold f e.what) 0)
+    → total (j ++ e ∷ []) + of_named j f (since (length front) (released e.what)) ≡ total j + cond (nat_le (length front) (length j)) (of_hold f e.what) 0)
     (none : sum_of_holds (is_unanswered front) f front ≡ 0) where
   -- what the entries of es fulfill, looked up in j
   abbrev paid : Entries → Entries → ℕ
@@ -151,7 +151,7 @@ module _ (base : ℕ) (j : Entries) (each : Each AnswersOnce j) (is : IsBase j b
 
   within_total : (f : Hold → ℕ) (total : Entries → ℕ)
       → ((k : Entries) (e : Entry) → Each AnswersOnce k → AnswersOnce k e
-        → total (k ++ e ∷ []) + of_named k f (since base (released e.what)) ≡ total k + cond (nat_le base (length k)) (of_hold f e.what) 0)
+      → total (k ++ e ∷ []) + of_named k f (since base (released e.what)) ≡ total k + cond (nat_le base (length k)) (of_hold f e.what) 0)
       → sum_of_fulfilled f base j ≤ total j
   within_total f total grows =
       let front : Entries = take base j in

@@ -1,3 +1,6 @@
 pub mod Callers
 pub mod Sessions
 pub mod Fulfilled
+pub mod Splits
+pub mod Walks
+pub mod Gathered

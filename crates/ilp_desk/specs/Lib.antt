@@ -2,6 +2,7 @@ pub mod Desk
 pub mod Records
 pub mod Totals
 pub mod Portion
+pub mod Gathering
 pub mod Session
 pub mod Opening
 pub use Rattle.ilp_packet.specs.Packet

@@ -83,8 +83,8 @@ impl<J: Naming> Desk<J> {
         };
         let (total, parts) = blanks.open::<J>();
         let shares = cut(room, parts, actors);
-        let locked = Mutex::new(LockedBook::new(book, total, workers));
-        Ok((Desk { config, locked }, shares))
+        let locked = LockedBook::new(book, total, workers);
+        Ok((Desk::new(config, locked), shares))
     }
 
     /// What the desk is configured to do, without the lock.
@@ -98,6 +98,22 @@ impl<J: Naming> Desk<J> {
     /// it again waits forever.
     pub fn lock(&self, rt: &impl Wait) -> MutexGuard<'_, LockedBook<J>> {
         self.locked.lock(rt)
+    }
+
+    // What it consists of, once nobody else has it.
+    pub(crate) fn into_parts(self) -> (Config, LockedBook<J>)
+        ensures { result.0 ≡ J.desk.config }
+    {
+        let Desk { config, locked } = self;
+        (config, locked.into_inner())
+    }
+
+    // A book under its lock, and its configuration.
+    pub(crate) fn new(config: Config, locked: LockedBook<J>) -> Desk<J>
+        requires { config ≡ J.desk.config }
+    {
+        let locked = Mutex::new(locked);
+        Desk { config, locked }
     }
 
     /// `LockedBook::hold`, with the lock taken for this session alone.

@@ -1,13 +1,18 @@
 //! What holds of every book of a desk. These functions do nothing: their contracts are the laws.
 
-ghost use Rattle.std.specs.Prelude.{◌≡◌, ℕ, ◌≤◌};
+ghost use Rattle.std.specs.Prelude.{◌≡◌, ℕ, ◌≤◌, List};
 ghost use Rattle.ilp_book.specs.Quote.{most};
 ghost use Rattle.ilp_journal.specs.Journal.{IsBase};
 ghost use Rattle.ilp_journal.specs.TrialBalance.{total_in, total_out};
 ghost use Rattle.ilp_book.specs.Book.{PlainBook};
 ghost use Rattle.ilp_book.specs.Configured.{peer_assets};
 ghost use Rattle.ilp_book.specs.Lawful.{IsLawful};
+ghost use Rattle.ilp_desk.specs.declared.gathering.WhyNotGathered.{WhyNotGathered};
+ghost use Rattle.ilp_desk.specs.declared.gathering.WhyNotGathered.TheVariants as Why;
+ghost use Rattle.ilp_desk.specs.Desk.{PlainDesk, IsActor};
+ghost use Rattle.ilp_desk.specs.Portion.{Holding};
 ghost use Rattle.ilp_desk.specs.Totals.{taken_since, sold_since};
+ghost use Rattle.ilp_desk.specs.Gathering.{IsWhole, IsWhyNotGathered, holders};
 
 /// In a lawful book that was opened where no hold was open, what was fulfilled since keeps, in each
 /// asset, within the totals of the book, and so within what one packet can carry. So no sum of the
@@ -25,4 +30,15 @@ pub fn packets_fit()
         → total_in (peer_assets book.config) book.base book.entries asset ≤ most }
     ensures most_out { (book : PlainBook) (asset : ℕ) → IsLawful book
         → total_out (peer_assets book.config) book.base book.entries asset ≤ most }
+{}
+
+/// Where each actor hands in one end, the only reason not to gather is that one disagrees; where
+/// each has kept its records of the book, there is none.
+pub fn whole_ends_are_gathered()
+    ensures once { (desk : PlainDesk) (book : PlainBook) (ends : List Holding)
+        (why : WhyNotGathered) → ((actor : ℕ) → IsActor desk actor → holders actor ends ≡ 1)
+        → IsWhyNotGathered desk book ends why
+        → (actor : ℕ) × (why ≡ Why.Disagrees actor) }
+    ensures whole { (desk : PlainDesk) (book : PlainBook) (ends : List Holding)
+        (why : WhyNotGathered) → IsWhole desk book ends → ¬ (IsWhyNotGathered desk book ends why) }
 {}

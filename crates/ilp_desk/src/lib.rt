@@ -4,6 +4,7 @@
 
 mod desk;
 mod end;
+mod gathering;
 pub mod laws;
 mod locked;
 mod naming;
@@ -13,6 +14,7 @@ mod share;
 
 pub use desk::{Desk, NoDesk, WhyNoDesk};
 pub use end::End;
+pub use gathering::{Closed, NotGathered, WhyNotGathered, gather};
 pub use locked::LockedBook;
 pub use naming::Naming;
 pub use record::{EndedHold, Ending, Record, Recorded};

@@ -1,5 +1,5 @@
 //! What the lock of a desk lends: the book, and its calls as sessions of the desk's actors.
-ghost use Rattle.std.specs.Prelude.{◌≡◌, ◌≤◌, OnErr};
+ghost use Rattle.std.specs.Prelude.{◌≡◌, ◌+◌, ◌≤◌, IfOk, IfErr, OnErr, length, sum_by};
 ghost use Rattle.ilp_packet.specs.Packet.{plain_prepare};
 ghost use Rattle.ilp_book.specs.Book.{by, Does};
 ghost use Rattle.ilp_book.specs.Configured.{IsKnown};
@@ -7,7 +7,11 @@ ghost use Rattle.ilp_book.specs.HoldStep.{incoming, hold_step, growth_of};
 ghost use Rattle.ilp_book.specs.AnswerStep.{answer_step, expire_step};
 ghost use Rattle.ilp_desk.specs.Desk.{IsBookOf, actors_of, base_of, most_workers};
 ghost use Rattle.ilp_desk.specs.Session.{IsSession};
+ghost use Rattle.ilp_desk.specs.Portion.{Holding};
+ghost use Rattle.ilp_desk.specs.Gathering.{IsGathered, IsWhole, IsWhyNotGathered};
 
+use crate::end::End;
+use crate::gathering::{Closed, StillLocked, why_not};
 use crate::naming::Naming;
 use crate::share::Share;
 use ilp_book::{Book, Held, HoldFault, NotOpen, Outcome, PeerReply};
@@ -120,5 +124,52 @@ impl<J: Naming> LockedBook<J> {
         let result = self.book.expire_one(share.actor(), now);
         share.count(&mut self.total, self.book.len() - before);
         result
+    }
+
+    // Closes the book, where each actor hands in one end, with its records of the book. A refusal
+    // hands back the book and the ends as they were.
+    pub(crate) fn gather(self, ends: Vec<End<J>>) -> Result<Closed, StillLocked<J>>
+        ensures book { IfOk result (λ closed. closed.book ≡ self) }
+        ensures gathered { IfOk result (λ closed. IsGathered J.desk self ends.items) }
+        ensures of_desk { IsBookOf J.desk self }
+        ensures locked { IfErr result (λ left. left.locked ≡ self) }
+        ensures ends { IfErr result (λ left. left.ends.items ≡ ends.items) }
+        ensures why { IfErr result (λ left. IsWhyNotGathered J.desk self ends.items left.why) }
+    {
+        let actors = self.workers + 2;
+        match why_not(self.book(), &ends, actors) {
+            Some(why) => Err(StillLocked {
+                locked: self,
+                ends,
+                why,
+            }),
+            None => Ok(Closed {
+                book: self.close(ends),
+            }),
+        }
+    }
+
+    // The book, once the shares of all ends are put together.
+    fn close(self, ends: Vec<End<J>>) -> Book
+        requires { IsWhole J.desk self ends.items }
+        ensures book { result ≡ self }
+        ensures entries { sum_by (λ (h : Holding). h.share.entries) ends.items + base_of J.desk
+            ≡ length self.entries }
+    {
+        let LockedBook {
+            book,
+            mut total,
+            workers: _,
+        } = self;
+        let mut left = ends;
+        let Some(first) = left.pop() else {
+            unreachable!();
+        };
+        let mut all = first.into_part();
+        while let Some(end) = left.pop() {
+            all.merge(end.into_part());
+        }
+        total.audit(&mut all);
+        book
     }
 }

@@ -2,3 +2,4 @@ pub mod Rejecting
 pub mod Sessions
 pub mod Sending
 pub mod Passing
+pub mod Outcomes

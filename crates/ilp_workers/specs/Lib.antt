@@ -3,3 +3,4 @@ pub mod Rejects
 pub mod Rows
 pub mod Worker
 pub mod Forwarding
+pub mod Outcome

@@ -17,10 +17,10 @@ use crate::rejects::{LONGEST_LOCAL_REJECT, LocalReject, put_local_reject};
 use crate::reply::Receipt;
 use ilp_accounts::Config;
 use ilp_book::{Held, Outcome};
-use ilp_desk::{Desk, EndedHold, Ending, Naming, Record, Recorded, Share};
+use ilp_desk::{Desk, End, EndedHold, Ending, Naming, Record, Recorded, Share};
 use ilp_oer::Octets;
 use ilp_packet::{Prepare, write_prepare};
-use std::alloc::{AllocError, Allocator};
+use std::alloc::{AllocError, Allocator, Global};
 use std::sync::Wait;
 
 // What a worker has: its share and its records, its links, and room for octets.
@@ -248,6 +248,26 @@ impl<J: Naming, C: Clock + Drop, U: Uplink + Drop, E: EngineLink + Drop, A: Allo
             Told::Passed => self.incoming.as_slice(),
             Told::Rejected(_) => self.rejected.as_slice(),
         }
+    }
+}
+
+impl<J: Naming, C: Clock + Drop, U: Uplink + Drop, E: EngineLink + Drop> Parts<J, C, U, E, Global> {
+    // The share and the records; the rest ends here.
+    pub(crate) fn into_end(self) -> End<J>
+        ensures { result ≡ holding self.share self.records.items }
+    {
+        let Parts {
+            share,
+            records,
+            clock: _,
+            uplink: _,
+            engine: _,
+            outgoing: _,
+            incoming: _,
+            rejected: _,
+            told: _,
+        } = self;
+        End::new(share, records)
     }
 }
 

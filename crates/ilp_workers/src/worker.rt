@@ -2,6 +2,7 @@
 ghost use Rattle.std.specs.Prelude.{◌≡◌, [], IfOk, IfErr};
 ghost use Rattle.ilp_book.specs.Configured.{IsKnown};
 ghost use Rattle.ilp_packet.specs.Packet.{plain_prepare, prepare, Spells};
+ghost use Rattle.ilp_desk.specs.Portion.{holding};
 ghost use Rattle.ilp_workers.specs.Worker.{worker};
 ghost use Rattle.ilp_workers.specs.Forwarding.{arrival, IsBad, Forwards};
 
@@ -10,7 +11,7 @@ use crate::links::{Clock, EngineLink, Uplink};
 use crate::parts::Parts;
 use crate::rejects::LONGEST_LOCAL_REJECT;
 use crate::reply::{BadPacket, Receipt};
-use ilp_desk::{Desk, Naming, Record, Share};
+use ilp_desk::{Desk, End, Naming, Record, Share};
 use ilp_oer::Octets;
 use ilp_packet::{Packet, Prepare};
 use std::alloc::{AllocError, Allocator, Global};
@@ -136,6 +137,16 @@ impl<J: Naming, C: Clock + Drop, U: Uplink + Drop, E: EngineLink + Drop, A: Allo
         let passed = self.parts.pass_on(rt, desk, from, &prepare, octets.len());
         self.parts.tell(desk.config(), passed.told);
         Ok(passed.receipt)
+    }
+}
+
+impl<J: Naming, C: Clock + Drop, U: Uplink + Drop, E: EngineLink + Drop> Worker<J, C, U, E> {
+    /// What the worker hands back in the end: its share and its records.
+    pub fn into_end(self) -> End<J>
+        ensures { result ≡ holding self.share self.kept }
+    {
+        let Worker { parts } = self;
+        parts.into_end()
     }
 }
 

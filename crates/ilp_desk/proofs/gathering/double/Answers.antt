@@ -1,0 +1,7 @@
+use Rattle.std.proofs.Common.{◌≤◌, arith}
+use borrow.Author.Count.{below_more}
+use Rattle.ilp_desk.specs.Gathering.{holders}
+use Rattle.ilp_desk.proofs.gathering.double.Goals as goal
+
+pub loop-actor-preserved : goal.loop-actor-preserved
+loop-actor-preserved g c = below_more (λ a. holders a c.args.ends.now.items ≤ 1) c.loop-actor.actor c.loop-actor.invariant (omega (arith, c.holders.ensures))

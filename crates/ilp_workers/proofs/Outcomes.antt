@@ -1,0 +1,117 @@
+-- A forward ends by a Fulfill that the worker keeps, or by a Reject.
+use Rattle.std.proofs.Common.{◌≡◌, ℕ, ◌+◌, Bool, true, false, List, [], ◌∷◌, ◌++◌, Option, Some, None, ◌⊎◌, inl, inr, refl, sym, ap, ◌∙◌, subst, arith}
+use Rattle.std.specs.Prelude.{Result, Ok, Err, if◌then◌else◌}
+use Rattle.std.proofs.lemmas.List.Sums.{sum_by-append}
+use Rattle.ilp_oer.specs.Octets.{AreOctets}
+use Rattle.ilp_terms.specs.Condition.{meets}
+use Rattle.ilp_packet.specs.declared.fault.PacketFault.{PacketFault}
+use Rattle.ilp_packet.specs.Packet.{PlainPacket, PlainPrepare, PlainFulfill, prepare, fulfill, reject, Spells}
+use Rattle.ilp_packet.specs.Reading.{reading}
+use Rattle.ilp_packet.proofs.ReadingLemmas.{reading_spelled}
+use Rattle.ilp_accounts.specs.Configuration.{Configuration}
+use Rattle.ilp_journal.specs.declared.entry.Cause.{Cause}
+use Rattle.ilp_journal.specs.declared.entry.Cause.TheVariants as cause
+use Rattle.ilp_book.specs.declared.calls.PeerReply.TheVariants as peer_reply
+use Rattle.ilp_book.specs.declared.calls.Held.{Held}
+use Rattle.ilp_desk.specs.declared.record.Record.{Record}
+use Rattle.ilp_desk.specs.declared.record.Ending.TheVariants.{Fulfilled, Released}
+use Rattle.ilp_desk.specs.Portion.{Portion, portion}
+use Rattle.ilp_desk.specs.Totals.{packets, of_packet}
+use Rattle.ilp_workers.specs.declared.reply.Receipt.{Receipt}
+use Rattle.ilp_workers.specs.declared.rejects.LocalReject.{LocalReject}
+use Rattle.ilp_workers.specs.declared.rejects.LocalReject.TheVariants as local
+use Rattle.ilp_workers.specs.declared.closing.Closing.{Closing}
+use Rattle.ilp_workers.specs.declared.closing.Told.{Told}
+use Rattle.ilp_workers.specs.declared.closing.Told.TheVariants.{Passed, Rejected}
+use Rattle.ilp_workers.specs.Rejects.{local_reject}
+use Rattle.ilp_workers.specs.Worker.{PlainWorker}
+use Rattle.ilp_workers.specs.Forwarding.{Arrival, Order, order, IsTold, EndsLate, IsSent, IsForwardedBy, Forwards, closing, closing_of, closing_of_packet, record_of_end}
+use Rattle.ilp_workers.specs.Outcome.{IsFulfilled, IsRejected}
+
+-- ---- packets
+
+-- a released hold is no packet
+released_kept : (o : Order) (held : Held) (c : Cause) (entry : ℕ) (kept kept' : List Record) → kept' ≡ kept ++ record_of_end o held (Released c) entry ∷ [] → packets kept' ≡ packets kept
+released_kept o held c entry kept kept' is =
+    let f = λ (r : Record). of_packet (λ _. 1) r.what in
+    ap packets is ∙ (sum_by-append f kept (record_of_end o held (Released c) entry ∷ []) ∙ omega arith)
+
+-- ---- what the sender is told
+
+-- a Reject of the connector's own
+own : (o : Order) (before after : PlainWorker) (came : Option (List ℕ)) (told : Told) (why : LocalReject) → IsTold o.desk.config came told after.reply → told ≡ Rejected why
+    → packets after.kept ≡ packets before.kept → IsRejected before after
+own o before after came told why is_told is kept =
+    record { answer = local_reject o.desk.config why; reply = subst (λ t. IsTold o.desk.config came t after.reply) is is_told; kept = kept }
+
+-- what is passed on stands for the packet that came
+passed_spells : (C : Configuration) (octets reply : List ℕ) (told : Told) (packet : PlainPacket) → AreOctets reply → reading octets ≡ Ok packet → IsTold C (Some octets) told reply → told ≡ Passed → Spells reply packet
+passed_spells C octets reply told packet are read is_told is =
+    let came : Some octets ≡ Some reply = subst (λ t. IsTold C (Some octets) t reply) is is_told in
+    let same : octets ≡ reply = cc in
+    reading_spelled reply packet are (ap reading (sym same) ∙ read)
+
+-- ---- a hold that ended by what came back
+
+-- what a Fulfill comes to, by whether its preimage meets the condition
+abbrev closing_if : List ℕ → Bool → Closing
+closing_if preimage b = if b then closing (peer_reply.Fulfil preimage) Fulfilled Passed else closing peer_reply.BadFulfil (Released cause.WrongPreimage) (Rejected local.WrongCondition)
+
+module _ (a : Arrival) (packet : PlainPrepare) (before after : PlainWorker) (receipt : Receipt) (held : Held) (entry : ℕ) (told : Told) (came : Spells a.octets (prepare packet)) (holds : receipt.hold ≡ Some held.number)
+    (answers : receipt.answer ≡ Some entry) (raised : after.share ≡ portion before.share.actor (before.share.entries + 2)) (are : AreOctets after.reply) where
+  -- the worker keeps what the reply comes to, and the sender is told it
+  abbrev Closed : Closing → Type 0
+  Closed c = (told ≡ c.told) × (after.kept ≡ before.kept ++ record_of_end (order a.desk a.from packet) held c.ending entry ∷ [])
+
+  rejected : (answer : Option (List ℕ)) (c : Cause) (why : LocalReject) → IsTold a.desk.config answer told after.reply → told ≡ Rejected why
+      → after.kept ≡ before.kept ++ record_of_end (order a.desk a.from packet) held (Released c) entry ∷ [] → IsFulfilled a before after receipt ⊎ IsRejected before after
+  rejected answer c why is_told is kept =
+      inr (own (order a.desk a.from packet) before after answer told why is_told is (released_kept (order a.desk a.from packet) held c entry before.kept after.kept kept))
+
+  by_fulfill : (octets : List ℕ) (f : PlainFulfill) (b : Bool) → reading octets ≡ Ok (fulfill f) → meets packet.condition f.preimage ≡ b
+      → IsTold a.desk.config (Some octets) told after.reply → Closed (closing_if f.preimage b) → IsFulfilled a before after receipt ⊎ IsRejected before after
+  by_fulfill octets f true read met is_told closed =
+      inl (record { packet = packet; held = held; entry = entry; answer = f; came = came; reply = passed_spells a.desk.config octets after.reply told (fulfill f) are read is_told closed.0; met = met; holds = holds; answers = answers; raised = raised; kept = closed.1 })
+  by_fulfill octets f false read met is_told closed = rejected (Some octets) cause.WrongPreimage local.WrongCondition is_told closed.0 closed.1
+
+  by_packet : (octets : List ℕ) (r : Result PlainPacket PacketFault) → reading octets ≡ r → IsTold a.desk.config (Some octets) told after.reply → Closed (closing_of_packet packet.condition r)
+      → IsFulfilled a before after receipt ⊎ IsRejected before after
+  by_packet octets (Err fault) read is_told closed = rejected (Some octets) cause.NoReply local.PeerUnreachable is_told closed.0 closed.1
+  by_packet octets (Ok (prepare p)) read is_told closed = rejected (Some octets) cause.NoReply local.PeerUnreachable is_told closed.0 closed.1
+  by_packet octets (Ok (fulfill f)) read is_told closed = by_fulfill octets f (meets packet.condition f.preimage) read refl is_told closed
+  by_packet octets (Ok (reject r)) read is_told closed =
+      inr (record { answer = r; reply = passed_spells a.desk.config octets after.reply told (reject r) are read is_told closed.0; kept = released_kept (order a.desk a.from packet) held (cause.Peer r.code) entry before.kept after.kept closed.1 })
+
+  in_time : (answer : Option (List ℕ)) → IsTold a.desk.config answer told after.reply → Closed (closing_of packet.condition answer) → IsFulfilled a before after receipt ⊎ IsRejected before after
+  in_time (Some octets) is_told closed = by_packet octets (reading octets) refl is_told closed
+  in_time None is_told closed = rejected None cause.NoReply local.PeerUnreachable is_told closed.0 closed.1
+
+-- ---- a Prepare that was forwarded
+
+-- an end that nothing is kept of
+late : (o : Order) (before after : PlainWorker) (answer : Option (List ℕ)) (told : Told) → IsTold o.desk.config answer told after.reply → EndsLate before.kept after.kept told → IsRejected before after
+late o before after answer told is_told ends = own o before after answer told local.TransferTimedOut is_told ends.0 (ap packets ends.1)
+
+sent_outcome : (a : Arrival) (packet : PlainPrepare) (before after : PlainWorker) (receipt : Receipt) (hold : ℕ) (answer : Option ℕ) → AreOctets after.reply → Spells a.octets (prepare packet)
+    → receipt.hold ≡ Some hold → receipt.answer ≡ answer → IsSent (order a.desk a.from packet) before after hold answer → IsFulfilled a before after receipt ⊎ IsRejected before after
+sent_outcome a packet before after receipt hold None are came holds answers sent = inr (late (order a.desk a.from packet) before after sent.came sent.told sent.reply sent.ended.ends)
+sent_outcome a packet before after receipt hold (Some entry) are came holds answers sent =
+    elim sent.ended.ends [
+      | inl ends ↦ in_time a packet before after receipt sent.held entry sent.told came (holds ∙ ap Some (sym sent.number)) answers
+          (raised_by_two before.share after.share sent.share sent.booked.raised sent.ended.raised) are sent.came sent.reply ends
+      | inr ends ↦ inr (late (order a.desk a.from packet) before after sent.came sent.told sent.reply ends)
+    ]
+  where
+    raised_by_two : (first last mid : Portion) → mid ≡ portion first.actor (first.entries + 1) → last ≡ portion mid.actor (mid.entries + 1) → last ≡ portion first.actor (first.entries + 2)
+    raised_by_two first last mid one two =
+        let sum : first.entries + 1 + 1 ≡ first.entries + 2 = omega arith in
+        two ∙ (ap (λ (s : Portion). portion s.actor (s.entries + 1)) one ∙ ap (portion first.actor) sum)
+
+pub forwarded_outcome : (a : Arrival) (before after : PlainWorker) (receipt : Receipt) → AreOctets after.reply → Forwards a before after (Ok receipt) → IsFulfilled a before after receipt ⊎ IsRejected before after
+forwarded_outcome a before after receipt are forwards = of receipt.hold receipt.answer refl refl forwards.2
+  where
+    of : (hold answer : Option ℕ) → receipt.hold ≡ hold → receipt.answer ≡ answer → IsForwardedBy (order a.desk a.from forwards.0) before after hold answer → IsFulfilled a before after receipt ⊎ IsRejected before after
+    of None None holds answers refused =
+        inr (record { answer = local_reject a.desk.config refused.why; reply = refused.told; kept = ap packets refused.kept })
+    of None (Some n) holds answers none = absurd none
+    of (Some hold) answer holds answers sent = sent_outcome a forwards.0 before after receipt hold answer are forwards.1 holds answers sent
