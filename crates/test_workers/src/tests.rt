@@ -21,6 +21,11 @@ mod memory;
 mod rows;
 mod sweeping;
 
+use at_once::Two;
+use memory::Denied;
+use rows::{Case, refuse_all};
+use sweeping::forward_slowly;
+
 // 2025-01-01T00:00:00Z.
 const START: i64 = 1_735_689_600_000;
 
@@ -57,23 +62,45 @@ const PEER_UNREACHABLE: &str = "0e1e54303108746573742e687562107065657220756e7265
 const TIMED_OUT: &str = "0e1752303008746573742e6875620974696d6564206f757400";
 
 // What is done with a desk that was opened for it.
-trait Scene: Drop {
+#[derive(Drop)]
+enum Scene<'a> {
+    // A packet of alice is forwarded.
+    Row(Case<'a>),
+    // Octets are refused that are no Prepare.
+    Bad,
+    // A hold is swept while its peer is asked.
+    Swept,
+    // A growth is denied.
+    Denied(Denied<'a>),
+    // Two packets are forwarded at once.
+    Two(Two<'a>),
+}
+
+impl Scene<'_> {
     fn play<J: Naming + Send + Sync, R: Threads + Wait + Abort + Sync>(
-        self,
+        &self,
         rt: &R,
-        desk: Desk<J>,
+        desk: &Desk<J>,
         shares: Vec<Share<J>>,
-    ) -> Result<(), Fail>;
+    ) -> Result<(), Fail> {
+        match self {
+            Scene::Row(case) => case.play(rt, desk, shares),
+            Scene::Bad => refuse_all(rt, desk, shares),
+            Scene::Swept => forward_slowly(rt, desk, shares),
+            Scene::Denied(denied) => denied.play(rt, desk, shares),
+            Scene::Two(two) => two.play(rt, desk, shares),
+        }
+    }
 }
 
 // Opens a desk over this book, and plays the scene there.
-fn play_on<J: Naming + Send + Sync, R: Threads + Wait + Abort + Sync, S: Scene>(
+fn play_on<J: Naming + Send + Sync, R: Threads + Wait + Abort + Sync>(
     rt: &R,
     config: &Config,
     book: Book,
     workers: u32,
     blanks: Blank,
-    scene: S,
+    scene: &Scene<'_>,
 ) -> Result<(), Fail>
     requires config { (config.now ≡ J.desk.config) × (book.config ≡ J.desk.config) }
     requires workers { workers ≡ J.desk.workers }
@@ -82,21 +109,21 @@ fn play_on<J: Naming + Send + Sync, R: Threads + Wait + Abort + Sync, S: Scene>(
     requires parts { J.parts ≡ actors_of J.desk }
 {
     match Desk::<J>::open(config.allocator(), config, book, workers, blanks) {
-        Ok((desk, shares)) => scene.play(rt, desk, shares),
+        Ok((desk, shares)) => scene.play(rt, &desk, shares),
         Err(_) => Err("no desk".into()),
     }
 }
 
 // The same over a book of no entries.
-fn play<R: Threads + Wait + Abort + Sync, S: Scene>(
+fn play<R: Threads + Wait + Abort + Sync>(
     rt: &R,
     config: &Config,
     workers: u32,
-    scene: S,
+    scene: &Scene<'_>,
 ) -> Result<(), Fail> {
     let book = Book::new(config.allocator(), config)?;
     let blanks = Blank::new(u64::from(workers) + 2);
-    play_on::<Brand, R, S>(rt, config, book, workers, blanks, scene)
+    play_on::<Brand, R>(rt, config, book, workers, blanks, scene)
 }
 
 // The share of the first worker.

@@ -62,32 +62,31 @@ impl Uplink for Patient<'_> {
 // Two workers: once the first one's peer is asked, the second one forwards, and once it has answered,
 // that peer replies. So no lock is held while a peer is asked.
 #[derive(Drop)]
-struct Two<'a> {
+pub(super) struct Two<'a> {
     packet: &'a [u8],
     handed: &'a [u8],
     fulfill: &'a [u8],
 }
 
-impl Scene for Two<'_> {
-    fn play<J: Naming + Send + Sync, R: Threads + Wait + Abort + Sync>(
-        self,
+impl Two<'_> {
+    // Has both workers forward, and compares what is booked.
+    pub(super) fn play<J: Naming + Send + Sync, R: Threads + Wait + Abort + Sync>(
+        &self,
         rt: &R,
-        desk: Desk<J>,
+        desk: &Desk<J>,
         shares: Vec<Share<J>>,
     ) -> Result<(), Fail> {
         let mut shares = shares.into_iter();
         let first = shares.next().ok_or("a share")?;
         let second = shares.next().ok_or("a share")?;
-        self.forward_both(rt, &desk, first, second);
+        self.forward_both(rt, desk, first, second);
         let guard = desk.lock(rt);
         let book = guard.book();
         assert_eq!(rt; book.len(), 4);
         assert_eq!(rt; (book.balance(ALICE), book.balance(BOB)), (-100, 100));
         Ok(())
     }
-}
 
-impl Two<'_> {
     fn forward_both<J: Naming + Send + Sync, R: Threads + Wait + Abort + Sync>(
         &self,
         rt: &R,
@@ -194,5 +193,5 @@ fn two_at_once(rt: HostRuntime) -> Result<(), Fail> {
         handed: &handed,
         fulfill: &fulfill,
     };
-    play(&rt, &config, 2, two)
+    play(&rt, &config, 2, &Scene::Two(two))
 }

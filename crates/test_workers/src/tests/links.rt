@@ -5,7 +5,7 @@ ghost use Rattle.std.specs.Prelude.{◌≡◌};
 use super::{BOB, DEADLINE};
 use ilp_oer::Octets;
 use ilp_workers::{Clock, EngineLink, EngineReply, LinkFault, Uplink};
-use std::alloc::{Allocator, Global};
+use std::alloc::{AllocError, Allocator, Global};
 use std::process::Abort;
 use std::sync::atomic::{AtomicU64, Ordering};
 
@@ -163,12 +163,9 @@ impl<U: Uplink + Drop> Uplink for Noting<U> {
         reply: &mut Octets<A>,
     ) -> Result<(), LinkFault> {
         let result = self.uplink.send(to, packet, deadline, reply);
-        let came = match result {
-            Ok(()) => Some(reply.as_slice()),
-            Err(LinkFault) => None,
-        };
+        let came = came_of(self.alloc, result, reply.as_slice());
         let noted = note(self.alloc, to, packet, deadline, came);
-        if let (Some(mut sent), Some(noted)) = (self.sent.take(), noted) {
+        if let (Some(mut sent), Ok(noted)) = (self.sent.take(), noted) {
             if sent.push(noted).is_ok() {
                 self.sent = Some(sent);
             }
@@ -177,14 +174,29 @@ impl<U: Uplink + Drop> Uplink for Noting<U> {
     }
 }
 
+// A copy of the octets that came, if any did; none of it where memory is denied.
+fn came_of(
+    alloc: Global,
+    replied: Result<(), LinkFault>,
+    octets: &[u8],
+) -> Result<Option<Vec<u8>>, AllocError> {
+    match replied {
+        Ok(()) => Ok(Some(octets.to_vec(alloc)?)),
+        Err(LinkFault) => Ok(None),
+    }
+}
+
 // What was handed and what came, if there is memory for it.
-fn note(alloc: Global, to: u32, packet: &[u8], deadline: i64, came: Option<&[u8]>) -> Option<Sent> {
-    let packet = packet.to_vec(alloc).ok()?;
-    let came = match came {
-        Some(octets) => Some(octets.to_vec(alloc).ok()?),
-        None => None,
-    };
-    Some(Sent {
+fn note(
+    alloc: Global,
+    to: u32,
+    packet: &[u8],
+    deadline: i64,
+    came: Result<Option<Vec<u8>>, AllocError>,
+) -> Result<Sent, AllocError> {
+    let came = came?;
+    let packet = packet.to_vec(alloc)?;
+    Ok(Sent {
         to,
         packet,
         deadline,

@@ -46,7 +46,7 @@ fn deny_each<R: Threads + Wait + Abort + Sync>(rt: &R, config: &Config) -> Resul
             granted,
             denied: &denied,
         };
-        play(rt, config, 1, scene)?;
+        play(rt, config, 1, &Scene::Denied(scene))?;
         if !denied.load(Ordering::SeqCst) {
             assert!(rt; granted > 3);
             return Ok(());
@@ -68,22 +68,23 @@ struct Packets<'a> {
 
 // A worker of which one growth is denied, if it makes so many.
 #[derive(Drop)]
-struct Denied<'a> {
+pub(super) struct Denied<'a> {
     packets: Packets<'a>,
     granted: u64,
     denied: &'a AtomicBool,
 }
 
-impl Scene for Denied<'_> {
-    fn play<J: Naming + Send + Sync, R: Threads + Wait + Abort + Sync>(
-        self,
+impl Denied<'_> {
+    // Runs a worker over that, and tells whether the growth was denied.
+    pub(super) fn play<J: Naming, R: Wait + Abort>(
+        &self,
         rt: &R,
-        desk: Desk<J>,
+        desk: &Desk<J>,
         shares: Vec<Share<J>>,
     ) -> Result<(), Fail> {
         let share = first_of(shares).ok_or("a share")?;
         let heap = DenyingAllocator::after(desk.config().allocator(), self.granted);
-        forward_over(rt, &desk, share, &heap, &self.packets);
+        forward_over(rt, desk, share, &heap, &self.packets);
         self.denied.store(heap.has_denied(), Ordering::SeqCst);
         Ok(())
     }

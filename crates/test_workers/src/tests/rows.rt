@@ -142,19 +142,20 @@ fn play_row<R: Threads + Wait + Abort + Sync>(
     let alloc = config.allocator();
     let packet = hex::decode(alloc, row.packet)?;
     let handed = hex::decode(alloc, row.handed)?;
-    let came = hex::decode(alloc, row.came.unwrap_or(""))?;
+    let replied = hex::decode(alloc, row.came.unwrap_or(""))?;
+    let came = row.came.map(|_| replied.as_slice());
     let answer = hex::decode(alloc, row.answer)?;
     let case = Case {
         name: row.name,
         packet: &packet,
         condition: row.condition,
         handed: &handed,
-        came: row.came.map(|_| came.as_slice()),
+        came,
         later: row.later,
         answer: &answer,
         ending: row.ending,
     };
-    play(rt, config, 1, case)
+    play(rt, config, 1, &Scene::Row(case))
 }
 
 // A Fulfill with the most data that there can be is passed on octet for octet.
@@ -170,17 +171,18 @@ fn play_longest<R: Threads + Wait + Abort + Sync>(rt: &R, config: &Config) -> Re
     let handed = hex::decode(alloc, HANDED)?;
     let fulfill = longest(alloc)?;
     assert_eq!(rt; fulfill.len(), 32_806);
+    let came = Some(fulfill.as_slice());
     let case = Case {
         name: "the most data",
         packet: &packet,
         condition: CONDITION,
         handed: &handed,
-        came: Some(&fulfill),
+        came,
         later: START,
         answer: &fulfill,
         ending: Some(Ending::Fulfilled),
     };
-    play(rt, config, 1, case)
+    play(rt, config, 1, &Scene::Row(case))
 }
 
 // A Fulfill of 32 zero octets with 32,767 octets of data.
@@ -198,7 +200,7 @@ fn longest(alloc: Global) -> Result<Vec<u8>, Fail> {
 
 // A row over octets.
 #[derive(Drop)]
-struct Case<'a> {
+pub(super) struct Case<'a> {
     name: &'static str,
     packet: &'a [u8],
     condition: [u8; 32],
@@ -209,21 +211,20 @@ struct Case<'a> {
     ending: Option<Ending>,
 }
 
-impl Scene for Case<'_> {
-    fn play<J: Naming + Send + Sync, R: Threads + Wait + Abort + Sync>(
-        self,
+impl Case<'_> {
+    // Has a worker of the desk forward the packet, and compares what is booked.
+    pub(super) fn play<J: Naming, R: Wait + Abort>(
+        &self,
         rt: &R,
-        desk: Desk<J>,
+        desk: &Desk<J>,
         shares: Vec<Share<J>>,
     ) -> Result<(), Fail> {
         let share = first_of(shares).ok_or("a share")?;
-        self.forward(rt, &desk, share);
+        self.forward(rt, desk, share);
         self.compare(rt, desk.lock(rt).book());
         Ok(())
     }
-}
 
-impl Case<'_> {
     // Has a worker forward the packet, and compares what it answers and keeps.
     fn forward<J: Naming, R: Wait + Abort>(&self, rt: &R, desk: &Desk<J>, share: Share<J>) {
         let alloc = desk.config().allocator();
@@ -338,26 +339,12 @@ const BAD: [(&str, BadPacket); 3] = [
     ("0e06463939000000", BadPacket::NotPrepare),
 ];
 
-#[derive(Drop)]
-struct Bad;
-
-impl Scene for Bad {
-    fn play<J: Naming + Send + Sync, R: Threads + Wait + Abort + Sync>(
-        self,
-        rt: &R,
-        desk: Desk<J>,
-        shares: Vec<Share<J>>,
-    ) -> Result<(), Fail> {
-        let share = first_of(shares).ok_or("a share")?;
-        refuse_all(rt, &desk, share)
-    }
-}
-
-fn refuse_all<J: Naming, R: Wait + Abort>(
+pub(super) fn refuse_all<J: Naming, R: Wait + Abort>(
     rt: &R,
     desk: &Desk<J>,
-    share: Share<J>,
+    shares: Vec<Share<J>>,
 ) -> Result<(), Fail> {
+    let share = first_of(shares).ok_or("a share")?;
     let alloc = desk.config().allocator();
     let made = Worker::new(alloc, share, Unasked(rt), Unasked(rt), NoEngine);
     let mut worker = made.ok().ok_or("a worker")?;
@@ -374,5 +361,5 @@ fn refuse_all<J: Naming, R: Wait + Abort>(
 #[test]
 fn no_prepare(rt: HostRuntime) -> Result<(), Fail> {
     let config = configured(rt.alloc(), "")?;
-    play(&rt, &config, 1, Bad)
+    play(&rt, &config, 1, &Scene::Bad)
 }

@@ -11,7 +11,6 @@ use std::alloc::Allocator;
 use std::process::Abort;
 use std::sync::Wait;
 use std::test::Fail;
-use std::thread::Threads;
 
 // A peer who replies this once the hold was swept.
 #[derive(Drop)]
@@ -39,30 +38,15 @@ impl<J: Naming, R: Wait + Abort> Uplink for Slow<'_, J, R> {
     }
 }
 
-#[derive(Drop)]
-struct Swept;
-
-impl Scene for Swept {
-    fn play<J: Naming + Send + Sync, R: Threads + Wait + Abort + Sync>(
-        self,
-        rt: &R,
-        desk: Desk<J>,
-        shares: Vec<Share<J>>,
-    ) -> Result<(), Fail> {
-        let mut shares = shares.into_iter();
-        let worker = shares.next().ok_or("a worker's share")?;
-        let sweeper = shares.next().ok_or("the sweeper's share")?;
-        forward_slowly(rt, &desk, worker, sweeper)
-    }
-}
-
 // The peer fulfills the hold after it was released: it stays released, and its sender is told so.
-fn forward_slowly<J: Naming, R: Wait + Abort>(
+pub(super) fn forward_slowly<J: Naming, R: Wait + Abort>(
     rt: &R,
     desk: &Desk<J>,
-    share: Share<J>,
-    sweeper: Share<J>,
+    shares: Vec<Share<J>>,
 ) -> Result<(), Fail> {
+    let mut shares = shares.into_iter();
+    let share = shares.next().ok_or("a worker's share")?;
+    let sweeper = shares.next().ok_or("the sweeper's share")?;
     let alloc = desk.config().allocator();
     let packet = hex::decode(alloc, PREPARE)?;
     let fulfill = hex::decode(alloc, FULFILL)?;
@@ -90,5 +74,5 @@ fn forward_slowly<J: Naming, R: Wait + Abort>(
 #[test]
 fn swept_while_asked(rt: HostRuntime) -> Result<(), Fail> {
     let config = configured(rt.alloc(), "")?;
-    play(&rt, &config, 1, Swept)
+    play(&rt, &config, 1, &Scene::Swept)
 }
