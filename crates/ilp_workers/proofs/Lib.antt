@@ -3,3 +3,4 @@ pub mod Sessions
 pub mod Sending
 pub mod Passing
 pub mod Outcomes
+pub mod Sweeping

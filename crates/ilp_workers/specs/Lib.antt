@@ -2,5 +2,7 @@ pub mod Links
 pub mod Rejects
 pub mod Rows
 pub mod Worker
+pub mod Sweeper
+pub mod Settler
 pub mod Forwarding
 pub mod Outcome

@@ -8,9 +8,13 @@ mod links;
 mod parts;
 mod rejects;
 mod reply;
+mod settler;
+mod sweeper;
 mod worker;
 
 pub use links::{Clock, EngineLink, EngineReply, LinkFault, Uplink};
 pub use rejects::LocalReject;
 pub use reply::{BadPacket, Receipt};
+pub use settler::{NoSettler, Settler};
+pub use sweeper::Sweeper;
 pub use worker::{NoWorker, Worker};
