@@ -16,12 +16,16 @@ use std::test::Fail;
 use std::thread::Threads;
 
 mod at_once;
+mod gathering;
 mod links;
+mod many;
 mod memory;
 mod rows;
 mod sweeping;
 
 use at_once::Two;
+use gathering::Gathering;
+use many::forward_all;
 use memory::Denied;
 use rows::{Case, refuse_all};
 use sweeping::forward_slowly;
@@ -74,21 +78,27 @@ enum Scene<'a> {
     Denied(Denied<'a>),
     // Two packets are forwarded at once.
     Two(Two<'a>),
+    // Many are.
+    Many,
+    // Ends are gathered.
+    Gathering(Gathering),
 }
 
 impl Scene<'_> {
     fn play<J: Naming + Send + Sync, R: Threads + Wait + Abort + Sync>(
         &self,
         rt: &R,
-        desk: &Desk<J>,
+        desk: Desk<J>,
         shares: Vec<Share<J>>,
     ) -> Result<(), Fail> {
         match self {
-            Scene::Row(case) => case.play(rt, desk, shares),
-            Scene::Bad => refuse_all(rt, desk, shares),
-            Scene::Swept => forward_slowly(rt, desk, shares),
-            Scene::Denied(denied) => denied.play(rt, desk, shares),
-            Scene::Two(two) => two.play(rt, desk, shares),
+            Scene::Row(case) => case.play(rt, &desk, shares),
+            Scene::Bad => refuse_all(rt, &desk, shares),
+            Scene::Swept => forward_slowly(rt, &desk, shares),
+            Scene::Denied(denied) => denied.play(rt, &desk, shares),
+            Scene::Two(two) => two.play(rt, &desk, shares),
+            Scene::Many => forward_all(rt, desk, shares),
+            Scene::Gathering(gathering) => gathering.play(rt, desk, shares),
         }
     }
 }
@@ -109,7 +119,7 @@ fn play_on<J: Naming + Send + Sync, R: Threads + Wait + Abort + Sync>(
     requires parts { J.parts ≡ actors_of J.desk }
 {
     match Desk::<J>::open(config.allocator(), config, book, workers, blanks) {
-        Ok((desk, shares)) => scene.play(rt, &desk, shares),
+        Ok((desk, shares)) => scene.play(rt, desk, shares),
         Err(_) => Err("no desk".into()),
     }
 }
