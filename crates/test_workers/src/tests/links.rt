@@ -1,11 +1,13 @@
 //! Links in memory.
 
-ghost use Rattle.std.specs.Prelude.{◌≡◌};
+ghost use Rattle.std.specs.Prelude.{◌≡◌, [], ◌∷◌, ◌++◌, IfSome, IfOk, IsOkAnd, IsSomeAnd};
+ghost use Rattle.ilp_workers.specs.Links.{came_of, sending};
 
 use super::{BOB, DEADLINE};
 use ilp_oer::Octets;
 use ilp_workers::{Clock, EngineLink, EngineReply, LinkFault, Uplink};
 use std::alloc::{AllocError, Allocator, Global};
+use std::marker::Model;
 use std::process::Abort;
 use std::sync::atomic::{AtomicU64, Ordering};
 
@@ -139,6 +141,16 @@ pub(super) struct Sent {
     came: Option<Vec<u8>>,
 }
 
+impl Model for Sent {
+    ghost use Rattle.std.specs.Prelude.{option_map};
+    ghost use Rattle.std.specs.declared.vec.Vec.{Vec};
+    ghost use Rattle.ilp_workers.specs.Links.{Sending, sending};
+
+    ghost Value = { Sending };
+
+    ghost view = { λ s. sending s.to s.packet.items s.deadline (option_map (λ came. came.items) s.came) };
+}
+
 // A way to the peers that notes what they were handed, for as long as there is memory.
 #[derive(Drop)]
 pub(super) struct Noting<U: Uplink + Drop> {
@@ -148,12 +160,10 @@ pub(super) struct Noting<U: Uplink + Drop> {
 }
 
 impl<U: Uplink + Drop> Uplink for Noting<U> {
-    ghost use Rattle.std.specs.Prelude.{map, option_map};
-    ghost use Rattle.ilp_workers.specs.Links.{sending};
+    ghost use Rattle.std.specs.Prelude.{option_map};
     ghost use Rattle.std.specs.declared.vec.Vec.{Vec};
-    ghost use Rattle.test_workers.specs.declared.tests.links.Sent.{Sent};
 
-    ghost told = { λ peer. option_map (λ sent. map (λ (s : Sent). sending s.to s.packet.items s.deadline (option_map (λ came. came.items) s.came)) sent.items) peer.sent };
+    ghost told = { λ peer. option_map (λ sent. sent.items) peer.sent };
 
     fn send<A: Allocator>(
         &mut self,
@@ -163,27 +173,25 @@ impl<U: Uplink + Drop> Uplink for Noting<U> {
         reply: &mut Octets<A>,
     ) -> Result<(), LinkFault> {
         let result = self.uplink.send(to, packet, deadline, reply);
-        let came = came_of(self.alloc, result, reply.as_slice());
-        let noted = note(self.alloc, to, packet, deadline, came);
-        if let (Some(mut sent), Ok(noted)) = (self.sent.take(), noted) {
-            if sent.push(noted).is_ok() {
-                self.sent = Some(sent);
-            }
-        }
+        let noted = note(self.alloc, to, packet, deadline, result, reply.as_slice());
+        self.sent = with(self.sent.take(), noted);
         result
     }
 }
 
-// A copy of the octets that came, if any did; none of it where memory is denied.
-fn came_of(
-    alloc: Global,
-    replied: Result<(), LinkFault>,
-    octets: &[u8],
-) -> Result<Option<Vec<u8>>, AllocError> {
-    match replied {
-        Ok(()) => Ok(Some(octets.to_vec(alloc)?)),
-        Err(LinkFault) => Ok(None),
-    }
+// One more, if there is memory for it and was for those before.
+fn with(sent: Option<Vec<Sent>>, noted: Result<Sent, AllocError>) -> Option<Vec<Sent>>
+    ensures { IfSome result (λ after. IsOkAnd noted (λ one. IsSomeAnd sent (λ before.
+        after.items ≡ before.items ++ one ∷ []))) }
+{
+    let mut sent = sent?;
+    let Ok(noted) = noted else {
+        return None;
+    };
+    let Ok(()) = sent.push(noted) else {
+        return None;
+    };
+    Some(sent)
 }
 
 // What was handed and what came, if there is memory for it.
@@ -192,10 +200,16 @@ fn note(
     to: u32,
     packet: &[u8],
     deadline: i64,
-    came: Result<Option<Vec<u8>>, AllocError>,
-) -> Result<Sent, AllocError> {
-    let came = came?;
+    replied: Result<(), LinkFault>,
+    octets: &[u8],
+) -> Result<Sent, AllocError>
+    ensures { IfOk result (λ s. s ≡ sending to packet.now deadline (came_of replied octets.now)) }
+{
     let packet = packet.to_vec(alloc)?;
+    let came = match replied {
+        Ok(()) => Some(octets.to_vec(alloc)?),
+        Err(LinkFault) => None,
+    };
     Ok(Sent {
         to,
         packet,
