@@ -1,14 +1,15 @@
 #!/bin/sh
 # Runs the benchmark bench/NAME: main.rt.in, a Rattle program over this repository's crates, and
 # baseline.rs, the same work in plain Rust. Prints the nanoseconds of a turn and their ratio, and then
-# the instructions of a turn, which don't move with the machine (but for `book`, whose rows are no
-# input).
+# the instructions of a turn, which don't move with the machine (but for `book` and `desk`, whose rows
+# are no input). For `desk` it prints forwards a second too.
 #
 #     scripts/bench.sh packets
 #     scripts/bench.sh quote
 #     scripts/bench.sh quantity
 #     scripts/bench.sh http
 #     scripts/bench.sh book
+#     scripts/bench.sh desk
 #
 # It works on a copy of the repository in a temporary folder (TMPDIR says where). It needs rt, rustc
 # and python3, and valgrind for the instructions. The Rattle program is proved before it is built
@@ -29,6 +30,7 @@ mkdir "$copy"
 cp -r "$top/crates" "$top/crates.txt" "$top/HANDLES" "$copy"
 mkdir -p "$copy/crates/bench_$name/src"
 cp "$bench/main.rt.in" "$copy/crates/bench_$name/src/main.rt"
+if [ -d "$bench/proofs" ]; then cp -r "$bench/proofs" "$copy/crates/bench_$name"; fi
 printf '\nbench_%s: %s\n' "$name" "$(cat "$bench/uses")" >>"$copy/crates.txt"
 if [ -f "$bench/$name.py" ]; then python3 "$bench/$name.py"; fi >"$work/input"
 
@@ -46,6 +48,12 @@ if [ "$rounds" -gt 0 ]; then
     done >"$work/rows"
     echo "Nanoseconds of a turn, the least of $rounds rounds."
     python3 "$top/scripts/bench_table.py" "$work/rows"
+    if [ "$name" = desk ]; then
+        echo "Forwards a second, the most of $rounds rounds."
+        awk '{ row = $1 " " $2; rate = $3 * 1e9 / $4; if (!(row in most)) rows[++n] = row
+            if (rate > most[row]) most[row] = rate }
+            END { for (i = 1; i <= n; i++) printf "%-30s %10d\n", rows[i], most[rows[i]] }' "$work/rows"
+    fi
 fi
 if [ -s "$work/input" ] && command -v valgrind >/dev/null; then
     echo "Instructions of a turn, by callgrind."

@@ -1,0 +1,171 @@
+//! The end of a desk: what its actors hand back, and what is gathered of it.
+
+use super::links::{Bob, NoEngine, Still};
+use super::{
+    ALICE, BOB, CONDITION, FULFILL, HANDED, PREPARE, START, Scene, configured, forward, play,
+};
+use ilp_book::PeerReply;
+use ilp_desk::{Closed, Desk, End, Naming, NotGathered, Share, WhyNotGathered, gather};
+use ilp_packet::Prepare;
+use ilp_workers::{Settler, Sweeper, Worker};
+use std::process::Abort;
+use std::sync::Wait;
+use std::sync::atomic::AtomicU64;
+use std::test::Fail;
+
+// What is gathered.
+#[derive(Clone, Copy)]
+pub(super) enum Gathering {
+    // The ends of all actors.
+    Whole,
+    // Those but the sweeper's, and then that one too.
+    WithoutSweeper,
+    // Those of all actors, of which the worker kept no record of what it booked beside its forwards.
+    Beside,
+}
+
+// A Prepare of 100 to test.bob.
+const BESIDE: Prepare<'static> = Prepare {
+    amount: 100,
+    expires: START + 30_000,
+    condition: &CONDITION,
+    destination: b"test.bob",
+    payload: b"",
+};
+
+impl Gathering {
+    // One packet is forwarded, or booked beside, and then the desk is closed.
+    pub(super) fn play<J: Naming, R: Wait + Abort>(
+        self,
+        rt: &R,
+        desk: Desk<J>,
+        shares: Vec<Share<J>>,
+    ) -> Result<(), Fail> {
+        let alloc = desk.config().allocator();
+        let mut shares = shares.into_iter();
+        let worker = shares.next().ok_or("a worker's share")?;
+        let sweeper = shares.next().ok_or("the sweeper's share")?;
+        let settler = shares.next().ok_or("the settler's share")?;
+        let mut ends = Vec::new(alloc);
+        ends.push(match self {
+            Gathering::Beside => book_beside(rt, &desk, worker),
+            Gathering::Whole | Gathering::WithoutSweeper => forward_one(rt, &desk, worker)?,
+        })?;
+        let settler = Settler::new(alloc, settler, Still(START), NoEngine);
+        ends.push(settler.ok().ok_or("a settler")?.into_end())?;
+        let mut sweeper = Sweeper::new(alloc, sweeper, Still(START));
+        assert_eq!(rt; sweeper.turn(rt, &desk), None);
+        match self {
+            Gathering::Whole => close(rt, desk, ends, sweeper.into_end()),
+            Gathering::WithoutSweeper => close_later(rt, desk, ends, sweeper.into_end()),
+            Gathering::Beside => disagree(rt, desk, ends, sweeper.into_end()),
+        }
+    }
+}
+
+// A worker forwards a packet, which is fulfilled.
+fn forward_one<J: Naming, R: Wait + Abort>(
+    rt: &R,
+    desk: &Desk<J>,
+    share: Share<J>,
+) -> Result<End<J>, Fail> {
+    let alloc = desk.config().allocator();
+    let packet = hex::decode(alloc, PREPARE)?;
+    let handed = hex::decode(alloc, HANDED)?;
+    let fulfill = hex::decode(alloc, FULFILL)?;
+    let asked = AtomicU64::new(0);
+    let uplink = Bob {
+        rt,
+        expected: handed.as_slice(),
+        reply: Some(fulfill.as_slice()),
+        asked: &asked,
+    };
+    let made = Worker::new(alloc, share, Still(START), uplink, NoEngine);
+    let mut worker = made.ok().ok_or("a worker")?;
+    assert!(rt; forward(rt, &mut worker, desk, ALICE, &packet).is_ok());
+    let end = worker.into_end();
+    assert_eq!(rt;
+        (end.actor(), end.entries(), end.records().len()),
+        (0, 2, 1)
+    );
+    Ok(end)
+}
+
+// A worker's share books a packet, of which no record is kept.
+fn book_beside<J: Naming>(rt: &(impl Wait + Abort), desk: &Desk<J>, share: Share<J>) -> End<J> {
+    let alloc = desk.config().allocator();
+    let mut share = share;
+    assert!(rt; ALICE < desk.config().peers());
+    let held = desk.hold(rt, &mut share, ALICE, &BESIDE, START);
+    let number = held.ok().expect(rt, "a hold").number;
+    let reply = PeerReply::Fulfil([0; 32]);
+    assert!(rt; desk.answer(rt, &mut share, number, reply, START).is_ok());
+    End::new(share, Vec::new(alloc))
+}
+
+// The desk is closed, with what the packet left.
+fn close<J: Naming>(
+    rt: &impl Abort,
+    desk: Desk<J>,
+    ends: Vec<End<J>>,
+    sweeper: End<J>,
+) -> Result<(), Fail> {
+    let mut ends = ends;
+    ends.push(sweeper)?;
+    let closed = gather(desk, ends).ok().ok_or("a closed desk")?;
+    compare(rt, &closed);
+    Ok(())
+}
+
+fn compare(rt: &impl Abort, closed: &Closed) {
+    let book = &closed.book;
+    assert_eq!(rt;
+        (book.len(), book.balance(ALICE), book.balance(BOB)),
+        (2, -100, 100)
+    );
+}
+
+// The desk is not closed without the sweeper's end, goes on, and is closed with it.
+fn close_later<J: Naming>(
+    rt: &impl Abort,
+    desk: Desk<J>,
+    ends: Vec<End<J>>,
+    sweeper: End<J>,
+) -> Result<(), Fail> {
+    let Err(left) = gather(desk, ends) else {
+        return Err("a desk that is not closed".into());
+    };
+    let NotGathered { desk, ends, why } = left;
+    assert_eq!(rt; why, WhyNotGathered::Missing { actor: 1 });
+    assert_eq!(rt; ends.len(), 2);
+    close(rt, desk, ends, sweeper)
+}
+
+// The desk is not closed, since the worker kept nothing of what it booked.
+fn disagree<J: Naming>(
+    rt: &impl Abort,
+    desk: Desk<J>,
+    ends: Vec<End<J>>,
+    sweeper: End<J>,
+) -> Result<(), Fail> {
+    let mut ends = ends;
+    ends.push(sweeper)?;
+    let Err(left) = gather(desk, ends) else {
+        return Err("a desk that is not closed".into());
+    };
+    assert_eq!(rt; left.why, WhyNotGathered::Disagrees { actor: 0 });
+    Ok(())
+}
+
+#[test]
+fn gathered(rt: HostRuntime) -> Result<(), Fail> {
+    let config = configured(rt.alloc(), "")?;
+    for gathering in [
+        Gathering::Whole,
+        Gathering::WithoutSweeper,
+        Gathering::Beside,
+    ] {
+        play(&rt, &config, 1, &Scene::Gathering(gathering))?;
+    }
+    Ok(())
+}

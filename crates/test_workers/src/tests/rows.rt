@@ -1,0 +1,365 @@
+//! One packet of alice: what bob is handed and replies, what alice is answered, and what is booked.
+
+use super::links::{Bob, NoEngine, Noting, TwoMoments, Unasked};
+use super::{
+    ALICE, BOB, CONDITION, DEADLINE, FULFILL, HANDED, PEER_UNREACHABLE, PREPARE, START, Scene,
+    TIMED_OUT, configured, first_of, forward, play,
+};
+use ilp_accounts::Config;
+use ilp_book::Book;
+use ilp_desk::{Desk, EndedHold, Ending, Naming, Record, Recorded, Share};
+use ilp_journal::{Cause, Entry, What};
+use ilp_packet::PacketFault;
+use ilp_workers::{BadPacket, Receipt, Worker};
+use std::alloc::Global;
+use std::process::Abort;
+use std::sync::Wait;
+use std::sync::atomic::{AtomicU64, Ordering};
+use std::test::Fail;
+use std::thread::Threads;
+
+// A row: packets as hexadecimal.
+#[derive(Clone, Copy)]
+struct Row {
+    name: &'static str,
+    // What alice sends.
+    packet: &'static str,
+    condition: [u8; 32],
+    // What bob is handed, or nothing.
+    handed: &'static str,
+    // What he replies, unless his link has a fault.
+    came: Option<&'static str>,
+    // When that is booked.
+    later: i64,
+    // What alice is answered.
+    answer: &'static str,
+    // How the hold ends, if there is one.
+    ending: Option<Ending>,
+}
+
+const FULFILLED: Row = Row {
+    name: "fulfilled",
+    packet: PREPARE,
+    condition: CONDITION,
+    handed: HANDED,
+    came: Some(FULFILL),
+    later: START,
+    answer: FULFILL,
+    ending: Some(Ending::Fulfilled),
+};
+
+const WITHOUT_ANSWER: Row = Row {
+    answer: PEER_UNREACHABLE,
+    ending: Some(Ending::Released(Cause::NoReply)),
+    ..FULFILLED
+};
+
+const ROWS: [Row; 10] = [
+    FULFILLED,
+    Row {
+        name: "fulfilled one millisecond before the deadline",
+        later: DEADLINE - 1,
+        ..FULFILLED
+    },
+    Row {
+        name: "fulfilled at the deadline",
+        later: DEADLINE,
+        answer: TIMED_OUT,
+        ending: Some(Ending::Released(Cause::Late)),
+        ..FULFILLED
+    },
+    Row {
+        name: "another condition",
+        packet: "0c4300000000000000643230323530313031303030303330303030010101010101010101010101010101010101010101010101010101010101010108746573742e626f6200",
+        condition: [1; 32],
+        handed: "0c4300000000000000643230323530313031303030303239303030010101010101010101010101010101010101010101010101010101010101010108746573742e626f6200",
+        answer: "0e1d46303508746573742e6875620f77726f6e6720636f6e646974696f6e00",
+        ending: Some(Ending::Released(Cause::WrongPreimage)),
+        ..FULFILLED
+    },
+    Row {
+        name: "rejected",
+        came: Some("0e06463939000000"),
+        later: START + 5,
+        answer: "0e06463939000000",
+        ending: Some(Ending::Released(Cause::Peer(*b"F99"))),
+        ..FULFILLED
+    },
+    Row {
+        name: "no packet in reply",
+        came: Some("0d2100"),
+        ..WITHOUT_ANSWER
+    },
+    Row {
+        name: "no octet in reply",
+        came: Some(""),
+        ..WITHOUT_ANSWER
+    },
+    Row {
+        name: "a Prepare in reply",
+        came: Some(PREPARE),
+        ..WITHOUT_ANSWER
+    },
+    Row {
+        name: "no reply",
+        came: None,
+        ..WITHOUT_ANSWER
+    },
+    Row {
+        name: "to an address of the scheme peer",
+        packet: "0c460000000000000064323032353031303130303030333030303066687aadf862bd776c8fc18b8e9f8e20089714856ee233b3902a591d0d5f29250b706565722e736574746c6500",
+        handed: "",
+        answer: "0e1946303208746573742e6875620b756e726561636861626c6500",
+        ending: None,
+        ..FULFILLED
+    },
+];
+
+// A configuration in which alice may send 10 units at most.
+const TOO_LARGE: Row = Row {
+    name: "too large an amount",
+    handed: "",
+    answer: "0e2e46303808746573742e68756210616d6f756e7420746f6f206c61726765100000000000000064000000000000000a",
+    ending: None,
+    ..FULFILLED
+};
+
+#[test]
+fn rows(rt: HostRuntime) -> Result<(), Fail> {
+    let config = configured(rt.alloc(), "")?;
+    for row in ROWS {
+        play_row(&rt, &config, &row)?;
+    }
+    let config = configured(rt.alloc(), "max_packet = 10")?;
+    play_row(&rt, &config, &TOO_LARGE)
+}
+
+fn play_row<R: Threads + Wait + Abort + Sync>(
+    rt: &R,
+    config: &Config,
+    row: &Row,
+) -> Result<(), Fail> {
+    let alloc = config.allocator();
+    let packet = hex::decode(alloc, row.packet)?;
+    let handed = hex::decode(alloc, row.handed)?;
+    let replied = hex::decode(alloc, row.came.unwrap_or(""))?;
+    let came = row.came.map(|_| replied.as_slice());
+    let answer = hex::decode(alloc, row.answer)?;
+    let case = Case {
+        name: row.name,
+        packet: &packet,
+        condition: row.condition,
+        handed: &handed,
+        came,
+        later: row.later,
+        answer: &answer,
+        ending: row.ending,
+    };
+    play(rt, config, 1, &Scene::Row(case))
+}
+
+// A Fulfill with the most data that there can be is passed on octet for octet.
+#[test]
+fn longest_fulfill(rt: HostRuntime) -> Result<(), Fail> {
+    let config = configured(rt.alloc(), "")?;
+    play_longest(&rt, &config)
+}
+
+fn play_longest<R: Threads + Wait + Abort + Sync>(rt: &R, config: &Config) -> Result<(), Fail> {
+    let alloc = config.allocator();
+    let packet = hex::decode(alloc, PREPARE)?;
+    let handed = hex::decode(alloc, HANDED)?;
+    let fulfill = longest(alloc)?;
+    assert_eq!(rt; fulfill.len(), 32_806);
+    let came = Some(fulfill.as_slice());
+    let case = Case {
+        name: "the most data",
+        packet: &packet,
+        condition: CONDITION,
+        handed: &handed,
+        came,
+        later: START,
+        answer: &fulfill,
+        ending: Some(Ending::Fulfilled),
+    };
+    play(rt, config, 1, &Scene::Row(case))
+}
+
+// A Fulfill of 32 zero octets with 32,767 octets of data.
+fn longest(alloc: Global) -> Result<Vec<u8>, Fail> {
+    let mut octets = hex::decode(alloc, "0d828022")?;
+    for _ in 0..32 {
+        octets.push(0)?;
+    }
+    octets.extend_from_slice(&[0x82, 0x7f, 0xff])?;
+    for place in 0..32_767u16 {
+        octets.push(place.to_be_bytes()[1])?;
+    }
+    Ok(octets)
+}
+
+// A row over octets.
+#[derive(Drop)]
+pub(super) struct Case<'a> {
+    name: &'static str,
+    packet: &'a [u8],
+    condition: [u8; 32],
+    handed: &'a [u8],
+    came: Option<&'a [u8]>,
+    later: i64,
+    answer: &'a [u8],
+    ending: Option<Ending>,
+}
+
+impl Case<'_> {
+    // Has a worker of the desk forward the packet, and compares what is booked.
+    pub(super) fn play<J: Naming, R: Wait + Abort>(
+        &self,
+        rt: &R,
+        desk: &Desk<J>,
+        shares: Vec<Share<J>>,
+    ) -> Result<(), Fail> {
+        let share = first_of(shares).ok_or("a share")?;
+        self.forward(rt, desk, share);
+        self.compare(rt, desk.lock(rt).book());
+        Ok(())
+    }
+
+    // Has a worker forward the packet, and compares what it answers and keeps.
+    fn forward<J: Naming, R: Wait + Abort>(&self, rt: &R, desk: &Desk<J>, share: Share<J>) {
+        let alloc = desk.config().allocator();
+        let asked = AtomicU64::new(0);
+        let clock = TwoMoments {
+            next: START,
+            later: self.later,
+            given: Some(Vec::new(alloc)),
+        };
+        let uplink = Bob {
+            rt,
+            expected: self.handed,
+            reply: self.came,
+            asked: &asked,
+        };
+        let uplink = Noting {
+            uplink,
+            alloc,
+            sent: Some(Vec::new(alloc)),
+        };
+        let made = Worker::new(alloc, share, clock, uplink, NoEngine);
+        let mut worker = made.ok().expect(rt, "a worker");
+        let outcome = forward(rt, &mut worker, desk, ALICE, self.packet);
+        assert_eq!(rt; outcome, Ok(self.receipt()), "{}", self.name);
+        assert_eq!(rt; worker.reply(), self.answer, "{}", self.name);
+        assert_eq!(rt;
+            worker.records().len(),
+            usize::from(self.record().is_some()),
+            "{}",
+            self.name
+        );
+        assert_eq!(rt;
+            worker.records().first().copied(),
+            self.record(),
+            "{}",
+            self.name
+        );
+        assert_eq!(rt; worker.share().entries(), self.entries(), "{}", self.name);
+        assert_eq!(rt;
+            asked.load(Ordering::SeqCst),
+            u64::from(self.ending.is_some())
+        );
+    }
+
+    fn entries(&self) -> u32 {
+        match self.ending {
+            Some(_) => 2,
+            None => 0,
+        }
+    }
+
+    fn receipt(&self) -> Receipt {
+        Receipt {
+            hold: self.ending.map(|_| 0),
+            answer: self.ending.map(|_| 1),
+        }
+    }
+
+    // What the worker keeps of a hold that ended in time.
+    fn record(&self) -> Option<Record> {
+        let ending = self.ending?;
+        if ending == Ending::Released(Cause::Late) {
+            return None;
+        }
+        let ended = EndedHold {
+            hold: 0,
+            from: ALICE,
+            to: BOB,
+            amount: 100,
+            out: 100,
+            condition: self.condition,
+            ending,
+        };
+        Some(Record {
+            number: 1,
+            what: Recorded::Ended(ended),
+        })
+    }
+
+    // Compares the book.
+    fn compare(&self, rt: &impl Abort, book: &Book) {
+        let balances = match self.ending {
+            Some(Ending::Fulfilled) => (-100, 100),
+            _ => (0, 0),
+        };
+        assert_eq!(rt; book.len(), self.entries(), "{}", self.name);
+        assert_eq!(rt;
+            (book.balance(ALICE), book.balance(BOB)),
+            balances,
+            "{}",
+            self.name
+        );
+        let ended = book.entry(1).map(|entry| (entry.moment, ending_of(entry)));
+        let wanted = self.ending.map(|ending| (self.later, Some(ending)));
+        assert_eq!(rt; ended, wanted, "{}", self.name);
+    }
+}
+
+// How an entry ends a hold, if it does.
+fn ending_of(entry: &Entry) -> Option<Ending> {
+    match &entry.what {
+        What::Fulfilled { .. } => Some(Ending::Fulfilled),
+        What::Released { cause, .. } => Some(Ending::Released(*cause)),
+        _ => None,
+    }
+}
+
+// Octets that are no Prepare, with why: nobody is asked anything then, and nothing is booked.
+const BAD: [(&str, BadPacket); 3] = [
+    ("0c", BadPacket::Unread(PacketFault::Truncated)),
+    (FULFILL, BadPacket::NotPrepare),
+    ("0e06463939000000", BadPacket::NotPrepare),
+];
+
+pub(super) fn refuse_all<J: Naming, R: Wait + Abort>(
+    rt: &R,
+    desk: &Desk<J>,
+    shares: Vec<Share<J>>,
+) -> Result<(), Fail> {
+    let share = first_of(shares).ok_or("a share")?;
+    let alloc = desk.config().allocator();
+    let made = Worker::new(alloc, share, Unasked(rt), Unasked(rt), NoEngine);
+    let mut worker = made.ok().ok_or("a worker")?;
+    for (packet, why) in BAD {
+        let octets = hex::decode(alloc, packet)?;
+        assert_eq!(rt; forward(rt, &mut worker, desk, ALICE, &octets), Err(why));
+    }
+    assert_eq!(rt; worker.reply(), b"".as_slice());
+    assert_eq!(rt; (worker.records().len(), worker.share().entries()), (0, 0));
+    assert_eq!(rt; desk.lock(rt).book().len(), 0);
+    Ok(())
+}
+
+#[test]
+fn no_prepare(rt: HostRuntime) -> Result<(), Fail> {
+    let config = configured(rt.alloc(), "")?;
+    play(&rt, &config, 1, &Scene::Bad)
+}
