@@ -77,8 +77,8 @@ impl Two<'_> {
         shares: Vec<Share<J>>,
     ) -> Result<(), Fail> {
         let mut shares = shares.into_iter();
-        let first = shares.next().ok_or("a share")?;
-        let second = shares.next().ok_or("a share")?;
+        let first = shares.next().expect(rt, "a share");
+        let second = shares.next().expect(rt, "a share");
         self.forward_both(rt, desk, first, second);
         let guard = desk.lock(rt);
         let book = guard.book();

@@ -43,16 +43,18 @@ impl Gathering {
     ) -> Result<(), Fail> {
         let alloc = desk.config().allocator();
         let mut shares = shares.into_iter();
-        let worker = shares.next().ok_or("a worker's share")?;
-        let sweeper = shares.next().ok_or("the sweeper's share")?;
-        let settler = shares.next().ok_or("the settler's share")?;
+        let worker = shares.next().expect(rt, "a worker's share");
+        let sweeper = shares.next().expect(rt, "the sweeper's share");
+        let settler = shares.next().expect(rt, "the settler's share");
         let mut ends = Vec::new(alloc);
         ends.push(match self {
             Gathering::Beside => book_beside(rt, &desk, worker),
-            Gathering::Whole | Gathering::WithoutSweeper => forward_one(rt, &desk, worker)?,
-        })?;
+            Gathering::Whole | Gathering::WithoutSweeper => forward_one(rt, &desk, worker),
+        })
+        .expect(rt, "memory");
         let settler = Settler::new(alloc, settler, Still(START), NoEngine);
-        ends.push(settler.ok().ok_or("a settler")?.into_end())?;
+        ends.push(settler.ok().expect(rt, "a settler").into_end())
+            .expect(rt, "memory");
         let mut sweeper = Sweeper::new(alloc, sweeper, Still(START));
         assert_eq!(rt; sweeper.turn(rt, &desk), None);
         match self {
@@ -64,15 +66,11 @@ impl Gathering {
 }
 
 // A worker forwards a packet, which is fulfilled.
-fn forward_one<J: Naming, R: Wait + Abort>(
-    rt: &R,
-    desk: &Desk<J>,
-    share: Share<J>,
-) -> Result<End<J>, Fail> {
+fn forward_one<J: Naming, R: Wait + Abort>(rt: &R, desk: &Desk<J>, share: Share<J>) -> End<J> {
     let alloc = desk.config().allocator();
-    let packet = hex::decode(alloc, PREPARE)?;
-    let handed = hex::decode(alloc, HANDED)?;
-    let fulfill = hex::decode(alloc, FULFILL)?;
+    let packet = hex::decode(alloc, PREPARE).expect(rt, "hexadecimal");
+    let handed = hex::decode(alloc, HANDED).expect(rt, "hexadecimal");
+    let fulfill = hex::decode(alloc, FULFILL).expect(rt, "hexadecimal");
     let asked = AtomicU64::new(0);
     let uplink = Bob {
         rt,
@@ -81,14 +79,14 @@ fn forward_one<J: Naming, R: Wait + Abort>(
         asked: &asked,
     };
     let made = Worker::new(alloc, share, Still(START), uplink, NoEngine);
-    let mut worker = made.ok().ok_or("a worker")?;
+    let mut worker = made.ok().expect(rt, "a worker");
     assert!(rt; forward(rt, &mut worker, desk, ALICE, &packet).is_ok());
     let end = worker.into_end();
     assert_eq!(rt;
         (end.actor(), end.entries(), end.records().len()),
         (0, 2, 1)
     );
-    Ok(end)
+    end
 }
 
 // A worker's share books a packet, of which no record is kept.
@@ -111,8 +109,8 @@ fn close<J: Naming>(
     sweeper: End<J>,
 ) -> Result<(), Fail> {
     let mut ends = ends;
-    ends.push(sweeper)?;
-    let closed = gather(desk, ends).ok().ok_or("a closed desk")?;
+    ends.push(sweeper).expect(rt, "memory");
+    let closed = gather(desk, ends).ok().expect(rt, "a closed desk");
     compare(rt, &closed);
     Ok(())
 }
@@ -149,7 +147,7 @@ fn disagree<J: Naming>(
     sweeper: End<J>,
 ) -> Result<(), Fail> {
     let mut ends = ends;
-    ends.push(sweeper)?;
+    ends.push(sweeper).expect(rt, "memory");
     let Err(left) = gather(desk, ends) else {
         return Err("a desk that is not closed".into());
     };

@@ -224,36 +224,36 @@ pub(super) fn forward_all<J: Naming + Send + Sync, R: Threads + Wait + Abort + S
 ) -> Result<(), Fail> {
     let alloc = desk.config().allocator();
     let mut shares = shares;
-    let settler = shares.pop().ok_or("the settler's share")?;
-    let sweeper = shares.pop().ok_or("the sweeper's share")?;
+    let settler = shares.pop().expect(rt, "the settler's share");
+    let sweeper = shares.pop().expect(rt, "the sweeper's share");
     let settler = Settler::new(alloc, settler, Still(START), NoEngine);
-    let settler = settler.ok().ok_or("a settler")?;
+    let settler = settler.ok().expect(rt, "a settler");
     let sweeper = Sweeper::new(alloc, sweeper, Still(START));
     let shared = &desk;
-    let worked = map_vec(rt, shares, &|share| work(rt, shared, share))?;
+    let worked = map_vec(rt, shares, &|share| work(rt, shared, share)).expect(rt, "memory");
     let mut ends = Vec::new(alloc);
-    let fulfilled = hand_in(worked, &mut ends)?;
-    ends.push(sweeper.into_end())?;
-    ends.push(settler.into_end())?;
+    let fulfilled = hand_in(rt, worked, &mut ends);
+    ends.push(sweeper.into_end()).expect(rt, "memory");
+    ends.push(settler.into_end()).expect(rt, "memory");
     let totals = totals_of_ends(&ends);
     assert_eq!(rt; totals.fulfilled, fulfilled);
     assert_eq!(rt; totals.entries, 2 * u64::from(WORKERS) * u64::from(PACKETS));
-    let closed = gather(desk, ends).ok().ok_or("a closed desk")?;
+    let closed = gather(desk, ends).ok().expect(rt, "a closed desk");
     assert_eq!(rt; totals, totals_of_book(&closed.book));
     Ok(())
 }
 
 // The workers' ends, in their order, and how many senders were answered with a Fulfill.
-fn hand_in<J: Naming>(worked: Vec<Worked<J>>, ends: &mut Vec<End<J>>) -> Result<u64, Fail> {
+fn hand_in<J: Naming>(rt: &impl Abort, worked: Vec<Worked<J>>, ends: &mut Vec<End<J>>) -> u64 {
     let mut fulfilled = 0u64;
     for Worked {
         end,
         fulfilled: more,
     } in worked {
         fulfilled = fulfilled.wrapping_add(u64::from(more));
-        ends.push(end)?;
+        ends.push(end).expect(rt, "memory");
     }
-    Ok(fulfilled)
+    fulfilled
 }
 
 #[test]

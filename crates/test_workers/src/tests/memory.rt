@@ -27,11 +27,11 @@ fn each_growth_denied(rt: HostRuntime) -> Result<(), Fail> {
 
 fn deny_each<R: Threads + Wait + Abort + Sync>(rt: &R, config: &Config) -> Result<(), Fail> {
     let alloc = config.allocator();
-    let prepare = hex::decode(alloc, PREPARE)?;
-    let handed = hex::decode(alloc, HANDED)?;
-    let fulfill = hex::decode(alloc, FULFILL)?;
-    let internal_error = hex::decode(alloc, INTERNAL_ERROR)?;
-    let peer_unreachable = hex::decode(alloc, PEER_UNREACHABLE)?;
+    let prepare = hex::decode(alloc, PREPARE).expect(rt, "hexadecimal");
+    let handed = hex::decode(alloc, HANDED).expect(rt, "hexadecimal");
+    let fulfill = hex::decode(alloc, FULFILL).expect(rt, "hexadecimal");
+    let internal_error = hex::decode(alloc, INTERNAL_ERROR).expect(rt, "hexadecimal");
+    let peer_unreachable = hex::decode(alloc, PEER_UNREACHABLE).expect(rt, "hexadecimal");
     let packets = Packets {
         prepare: &prepare,
         handed: &handed,
@@ -82,7 +82,7 @@ impl Denied<'_> {
         desk: &Desk<J>,
         shares: Vec<Share<J>>,
     ) -> Result<(), Fail> {
-        let share = first_of(shares).ok_or("a share")?;
+        let share = first_of(shares).expect(rt, "a share");
         let heap = DenyingAllocator::after(desk.config().allocator(), self.granted);
         forward_over(rt, desk, share, &heap, &self.packets);
         self.denied.store(heap.has_denied(), Ordering::SeqCst);

@@ -140,11 +140,11 @@ fn play_row<R: Threads + Wait + Abort + Sync>(
     row: &Row,
 ) -> Result<(), Fail> {
     let alloc = config.allocator();
-    let packet = hex::decode(alloc, row.packet)?;
-    let handed = hex::decode(alloc, row.handed)?;
-    let replied = hex::decode(alloc, row.came.unwrap_or(""))?;
+    let packet = hex::decode(alloc, row.packet).expect(rt, "hexadecimal");
+    let handed = hex::decode(alloc, row.handed).expect(rt, "hexadecimal");
+    let replied = hex::decode(alloc, row.came.unwrap_or("")).expect(rt, "hexadecimal");
     let came = row.came.map(|_| replied.as_slice());
-    let answer = hex::decode(alloc, row.answer)?;
+    let answer = hex::decode(alloc, row.answer).expect(rt, "hexadecimal");
     let case = Case {
         name: row.name,
         packet: &packet,
@@ -167,9 +167,9 @@ fn longest_fulfill(rt: HostRuntime) -> Result<(), Fail> {
 
 fn play_longest<R: Threads + Wait + Abort + Sync>(rt: &R, config: &Config) -> Result<(), Fail> {
     let alloc = config.allocator();
-    let packet = hex::decode(alloc, PREPARE)?;
-    let handed = hex::decode(alloc, HANDED)?;
-    let fulfill = longest(alloc)?;
+    let packet = hex::decode(alloc, PREPARE).expect(rt, "hexadecimal");
+    let handed = hex::decode(alloc, HANDED).expect(rt, "hexadecimal");
+    let fulfill = longest(rt, alloc);
     assert_eq!(rt; fulfill.len(), 32_806);
     let came = Some(fulfill.as_slice());
     let case = Case {
@@ -186,16 +186,18 @@ fn play_longest<R: Threads + Wait + Abort + Sync>(rt: &R, config: &Config) -> Re
 }
 
 // A Fulfill of 32 zero octets with 32,767 octets of data.
-fn longest(alloc: Global) -> Result<Vec<u8>, Fail> {
-    let mut octets = hex::decode(alloc, "0d828022")?;
+fn longest(rt: &impl Abort, alloc: Global) -> Vec<u8> {
+    let mut octets = hex::decode(alloc, "0d828022").expect(rt, "hexadecimal");
     for _ in 0..32 {
-        octets.push(0)?;
+        octets.push(0).expect(rt, "memory");
     }
-    octets.extend_from_slice(&[0x82, 0x7f, 0xff])?;
+    octets
+        .extend_from_slice(&[0x82, 0x7f, 0xff])
+        .expect(rt, "memory");
     for place in 0..32_767u16 {
-        octets.push(place.to_be_bytes()[1])?;
+        octets.push(place.to_be_bytes()[1]).expect(rt, "memory");
     }
-    Ok(octets)
+    octets
 }
 
 // A row over octets.
@@ -219,7 +221,7 @@ impl Case<'_> {
         desk: &Desk<J>,
         shares: Vec<Share<J>>,
     ) -> Result<(), Fail> {
-        let share = first_of(shares).ok_or("a share")?;
+        let share = first_of(shares).expect(rt, "a share");
         self.forward(rt, desk, share);
         self.compare(rt, desk.lock(rt).book());
         Ok(())
@@ -344,12 +346,12 @@ pub(super) fn refuse_all<J: Naming, R: Wait + Abort>(
     desk: &Desk<J>,
     shares: Vec<Share<J>>,
 ) -> Result<(), Fail> {
-    let share = first_of(shares).ok_or("a share")?;
+    let share = first_of(shares).expect(rt, "a share");
     let alloc = desk.config().allocator();
     let made = Worker::new(alloc, share, Unasked(rt), Unasked(rt), NoEngine);
-    let mut worker = made.ok().ok_or("a worker")?;
+    let mut worker = made.ok().expect(rt, "a worker");
     for (packet, why) in BAD {
-        let octets = hex::decode(alloc, packet)?;
+        let octets = hex::decode(alloc, packet).expect(rt, "hexadecimal");
         assert_eq!(rt; forward(rt, &mut worker, desk, ALICE, &octets), Err(why));
     }
     assert_eq!(rt; worker.reply(), b"".as_slice());

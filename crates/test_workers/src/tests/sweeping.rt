@@ -45,12 +45,12 @@ pub(super) fn forward_slowly<J: Naming, R: Wait + Abort>(
     shares: Vec<Share<J>>,
 ) -> Result<(), Fail> {
     let mut shares = shares.into_iter();
-    let share = shares.next().ok_or("a worker's share")?;
-    let sweeper = shares.next().ok_or("the sweeper's share")?;
+    let share = shares.next().expect(rt, "a worker's share");
+    let sweeper = shares.next().expect(rt, "the sweeper's share");
     let alloc = desk.config().allocator();
-    let packet = hex::decode(alloc, PREPARE)?;
-    let fulfill = hex::decode(alloc, FULFILL)?;
-    let timed_out = hex::decode(alloc, TIMED_OUT)?;
+    let packet = hex::decode(alloc, PREPARE).expect(rt, "hexadecimal");
+    let fulfill = hex::decode(alloc, FULFILL).expect(rt, "hexadecimal");
+    let timed_out = hex::decode(alloc, TIMED_OUT).expect(rt, "hexadecimal");
     let uplink = Slow {
         rt,
         desk,
@@ -58,7 +58,7 @@ pub(super) fn forward_slowly<J: Naming, R: Wait + Abort>(
         reply: &fulfill,
     };
     let made = Worker::new(alloc, share, Still(START), uplink, NoEngine);
-    let mut worker = made.ok().ok_or("a worker")?;
+    let mut worker = made.ok().expect(rt, "a worker");
     let receipt = Receipt {
         hold: Some(0),
         answer: None,
