@@ -41,28 +41,58 @@ impl Gathering {
         desk: Desk<J>,
         shares: Vec<Share<J>>,
     ) -> Result<(), Fail> {
-        let alloc = desk.config().allocator();
-        let mut shares = shares.into_iter();
-        let worker = shares.next().expect(rt, "a worker's share");
-        let sweeper = shares.next().expect(rt, "the sweeper's share");
-        let settler = shares.next().expect(rt, "the settler's share");
-        let mut ends = Vec::new(alloc);
-        ends.push(match self {
-            Gathering::Beside => book_beside(rt, &desk, worker),
-            Gathering::Whole | Gathering::WithoutSweeper => forward_one(rt, &desk, worker),
-        })
-        .expect(rt, "memory");
-        let settler = Settler::new(alloc, settler, Still(START), NoEngine);
-        ends.push(settler.ok().expect(rt, "a settler").into_end())
-            .expect(rt, "memory");
-        let mut sweeper = Sweeper::new(alloc, sweeper, Still(START));
-        assert_eq!(rt; sweeper.turn(rt, &desk), None);
+        let mut shares = shares;
+        let settler = settler_end(rt, &desk, shares.pop());
+        let sweeper = sweeper_end(rt, &desk, shares.pop());
+        let worker = self.worker_end(rt, &desk, shares.pop());
+        let ends = two_ends(rt, &desk, worker, settler);
         match self {
-            Gathering::Whole => close(rt, desk, ends, sweeper.into_end()),
-            Gathering::WithoutSweeper => close_later(rt, desk, ends, sweeper.into_end()),
-            Gathering::Beside => disagree(rt, desk, ends, sweeper.into_end()),
+            Gathering::Whole => close(rt, desk, ends, sweeper),
+            Gathering::WithoutSweeper => close_later(rt, desk, ends, sweeper),
+            Gathering::Beside => disagree(rt, desk, ends, sweeper),
         }
     }
+
+    // What the worker hands in.
+    fn worker_end<J: Naming, R: Wait + Abort>(
+        self,
+        rt: &R,
+        desk: &Desk<J>,
+        share: Option<Share<J>>,
+    ) -> End<J> {
+        let share = share.expect(rt, "a worker's share");
+        match self {
+            Gathering::Beside => book_beside(rt, desk, share),
+            Gathering::Whole => forward_one(rt, desk, share),
+            Gathering::WithoutSweeper => forward_one(rt, desk, share),
+        }
+    }
+}
+
+// The end of a settler that had no turn.
+fn settler_end<J: Naming>(rt: &impl Abort, desk: &Desk<J>, share: Option<Share<J>>) -> End<J> {
+    let share = share.expect(rt, "the settler's share");
+    let made = Settler::new(desk.config().allocator(), share, Still(START), NoEngine);
+    made.ok().expect(rt, "a settler").into_end()
+}
+
+// The end of a sweeper that found nothing due.
+fn sweeper_end<J: Naming, R: Wait + Abort>(
+    rt: &R,
+    desk: &Desk<J>,
+    share: Option<Share<J>>,
+) -> End<J> {
+    let share = share.expect(rt, "the sweeper's share");
+    let mut sweeper = Sweeper::new(desk.config().allocator(), share, Still(START));
+    assert_eq!(rt; sweeper.turn(rt, desk), None);
+    sweeper.into_end()
+}
+
+fn two_ends<J: Naming>(rt: &impl Abort, desk: &Desk<J>, one: End<J>, other: End<J>) -> Vec<End<J>> {
+    let mut ends = Vec::new(desk.config().allocator());
+    ends.push(one).expect(rt, "memory");
+    ends.push(other).expect(rt, "memory");
+    ends
 }
 
 // A worker forwards a packet, which is fulfilled.

@@ -1,19 +1,22 @@
 //! 64 workers that forward at once, and what their ends add up to.
 
 use super::links::{NoEngine, Still, put};
-use super::{ALICE, BOB, CONDITION, START, Scene, forward, play};
+use super::{ALICE, BOB, PREPARE, START, Scene, forward, play};
 use ilp_accounts::Config;
 use ilp_book::Book;
 use ilp_desk::{Desk, End, EndedHold, Ending, Naming, Recorded, Share, gather};
 use ilp_journal::What;
 use ilp_oer::Octets;
-use ilp_packet::{Prepare, write_prepare};
 use ilp_workers::{LinkFault, Settler, Sweeper, Uplink, Worker};
 use std::alloc::Allocator;
 use std::process::Abort;
 use std::sync::Wait;
 use std::test::Fail;
 use std::thread::{Threads, map_vec};
+
+// A Prepare of 100 to test.alice, otherwise as `PREPARE`.
+const TO_ALICE: &str =
+    "0c450000000000000064323032353031303130303030333030303066687aadf862bd776c8fc18b8e9f8e20089714856ee233b3902a591d0d5f29250a746573742e616c69636500";
 
 const WORKERS: u32 = 64;
 
@@ -111,13 +114,17 @@ fn work<J: Naming, R: Wait + Abort>(rt: &R, desk: &Desk<J>, share: Share<J>) -> 
     let uplink = Fickle(dice);
     let made = Worker::new(alloc, share, Still(START), uplink, NoEngine);
     let mut worker = made.ok().expect(rt, "a worker");
-    let mut packet = Octets::new(alloc);
+    let mut to_bob = hex::decode(alloc, PREPARE).expect(rt, "hexadecimal");
+    let mut to_alice = hex::decode(alloc, TO_ALICE).expect(rt, "hexadecimal");
     let mut fulfilled = 0u32;
     for _packet in 0..PACKETS {
-        let (from, prepare) = prepare_by(dice.roll());
-        packet.clear();
-        write_prepare(&mut packet, &prepare).expect(rt, "room for a packet");
-        assert!(rt; forward(rt, &mut worker, desk, from, packet.as_slice()).is_ok());
+        let amount = dice.roll();
+        let (from, packet) = if amount % 2 == 0 {
+            (ALICE, of_amount(rt, &mut to_bob, amount))
+        } else {
+            (BOB, of_amount(rt, &mut to_alice, amount))
+        };
+        assert!(rt; forward(rt, &mut worker, desk, from, packet).is_ok());
         if worker.reply().first().copied() == Some(0x0d) {
             fulfilled = fulfilled.saturating_add(1);
         }
@@ -126,22 +133,12 @@ fn work<J: Naming, R: Wait + Abort>(rt: &R, desk: &Desk<J>, share: Share<J>) -> 
     Worked { end, fulfilled }
 }
 
-// A Prepare of one peer to the other, with its sender.
-fn prepare_by(number: u64) -> (u32, Prepare<'static>) {
-    let from = if number % 2 == 0 { ALICE } else { BOB };
-    let destination: &[u8] = if from == ALICE {
-        b"test.bob"
-    } else {
-        b"test.alice"
-    };
-    let prepare = Prepare {
-        amount: number,
-        expires: START + 30_000,
-        condition: &CONDITION,
-        destination,
-        payload: b"",
-    };
-    (from, prepare)
+// The Prepare with another amount, which stands behind its type and its length.
+fn of_amount<'a>(rt: &impl Abort, packet: &'a mut Vec<u8>, amount: u64) -> &'a [u8] {
+    let octets = packet.as_mut_slice();
+    assert!(rt; octets.len() > 10);
+    octets[2..10].copy_from_slice(&amount.to_be_bytes());
+    octets
 }
 
 // What was booked: how many entries, how many holds that were fulfilled, and their amounts in and

@@ -37,6 +37,16 @@ struct Row {
     ending: Option<Ending>,
 }
 
+impl Row {
+    // What bob replies, as hexadecimal; nothing where his link has a fault.
+    fn replied(&self) -> &'static str {
+        match self.came {
+            Some(came) => came,
+            None => "",
+        }
+    }
+}
+
 const FULFILLED: Row = Row {
     name: "fulfilled",
     packet: PREPARE,
@@ -139,21 +149,27 @@ fn play_row<R: Threads + Wait + Abort + Sync>(
     config: &Config,
     row: &Row,
 ) -> Result<(), Fail> {
+    let replied = hex::decode(config.allocator(), row.replied()).expect(rt, "hexadecimal");
+    play_with(rt, config, row, replied.as_slice())
+}
+
+// Plays a row in which bob replies this, if he replies.
+fn play_with<R: Threads + Wait + Abort + Sync>(
+    rt: &R,
+    config: &Config,
+    row: &Row,
+    replied: &[u8],
+) -> Result<(), Fail> {
     let alloc = config.allocator();
     let packet = hex::decode(alloc, row.packet).expect(rt, "hexadecimal");
     let handed = hex::decode(alloc, row.handed).expect(rt, "hexadecimal");
-    let replied = hex::decode(alloc, row.came.unwrap_or("")).expect(rt, "hexadecimal");
-    let came = row.came.map(|_| replied.as_slice());
     let answer = hex::decode(alloc, row.answer).expect(rt, "hexadecimal");
     let case = Case {
-        name: row.name,
+        row,
         packet: &packet,
-        condition: row.condition,
         handed: &handed,
-        came,
-        later: row.later,
+        replied,
         answer: &answer,
-        ending: row.ending,
     };
     play(rt, config, 1, &Scene::Row(case))
 }
@@ -171,16 +187,12 @@ fn play_longest<R: Threads + Wait + Abort + Sync>(rt: &R, config: &Config) -> Re
     let handed = hex::decode(alloc, HANDED).expect(rt, "hexadecimal");
     let fulfill = longest(rt, alloc);
     assert_eq!(rt; fulfill.len(), 32_806);
-    let came = Some(fulfill.as_slice());
     let case = Case {
-        name: "the most data",
+        row: &FULFILLED,
         packet: &packet,
-        condition: CONDITION,
         handed: &handed,
-        came,
-        later: START,
+        replied: &fulfill,
         answer: &fulfill,
-        ending: Some(Ending::Fulfilled),
     };
     play(rt, config, 1, &Scene::Row(case))
 }
@@ -188,29 +200,22 @@ fn play_longest<R: Threads + Wait + Abort + Sync>(rt: &R, config: &Config) -> Re
 // A Fulfill of 32 zero octets with 32,767 octets of data.
 fn longest(rt: &impl Abort, alloc: Global) -> Vec<u8> {
     let mut octets = hex::decode(alloc, "0d828022").expect(rt, "hexadecimal");
-    for _ in 0..32 {
-        octets.push(0).expect(rt, "memory");
-    }
+    octets.resize(36, 0).expect(rt, "memory");
     octets
         .extend_from_slice(&[0x82, 0x7f, 0xff])
         .expect(rt, "memory");
-    for place in 0..32_767u16 {
-        octets.push(place.to_be_bytes()[1]).expect(rt, "memory");
-    }
+    octets.resize(32_806, 0x5a).expect(rt, "memory");
     octets
 }
 
 // A row over octets.
 #[derive(Drop)]
 pub(super) struct Case<'a> {
-    name: &'static str,
+    row: &'a Row,
     packet: &'a [u8],
-    condition: [u8; 32],
     handed: &'a [u8],
-    came: Option<&'a [u8]>,
-    later: i64,
+    replied: &'a [u8],
     answer: &'a [u8],
-    ending: Option<Ending>,
 }
 
 impl Case<'_> {
@@ -233,13 +238,13 @@ impl Case<'_> {
         let asked = AtomicU64::new(0);
         let clock = TwoMoments {
             next: START,
-            later: self.later,
+            later: self.row.later,
             given: Some(Vec::new(alloc)),
         };
         let uplink = Bob {
             rt,
             expected: self.handed,
-            reply: self.came,
+            reply: self.reply(),
             asked: &asked,
         };
         let uplink = Noting {
@@ -250,29 +255,42 @@ impl Case<'_> {
         let made = Worker::new(alloc, share, clock, uplink, NoEngine);
         let mut worker = made.ok().expect(rt, "a worker");
         let outcome = forward(rt, &mut worker, desk, ALICE, self.packet);
-        assert_eq!(rt; outcome, Ok(self.receipt()), "{}", self.name);
-        assert_eq!(rt; worker.reply(), self.answer, "{}", self.name);
+        assert_eq!(rt; outcome, Ok(self.receipt()), "{}", self.row.name);
+        assert_eq!(rt; worker.reply(), self.answer, "{}", self.row.name);
         assert_eq!(rt;
             worker.records().len(),
             usize::from(self.record().is_some()),
             "{}",
-            self.name
+            self.row.name
         );
         assert_eq!(rt;
             worker.records().first().copied(),
             self.record(),
             "{}",
-            self.name
+            self.row.name
         );
-        assert_eq!(rt; worker.share().entries(), self.entries(), "{}", self.name);
+        assert_eq!(rt;
+            worker.share().entries(),
+            self.entries(),
+            "{}",
+            self.row.name
+        );
         assert_eq!(rt;
             asked.load(Ordering::SeqCst),
-            u64::from(self.ending.is_some())
+            u64::from(self.row.ending.is_some())
         );
     }
 
+    // What bob replies, unless his link has a fault.
+    fn reply(&self) -> Option<&[u8]> {
+        match self.row.came {
+            Some(_) => Some(self.replied),
+            None => None,
+        }
+    }
+
     fn entries(&self) -> u32 {
-        match self.ending {
+        match self.row.ending {
             Some(_) => 2,
             None => 0,
         }
@@ -280,14 +298,14 @@ impl Case<'_> {
 
     fn receipt(&self) -> Receipt {
         Receipt {
-            hold: self.ending.map(|_| 0),
-            answer: self.ending.map(|_| 1),
+            hold: self.row.ending.map(|_| 0),
+            answer: self.row.ending.map(|_| 1),
         }
     }
 
     // What the worker keeps of a hold that ended in time.
     fn record(&self) -> Option<Record> {
-        let ending = self.ending?;
+        let ending = self.row.ending?;
         if ending == Ending::Released(Cause::Late) {
             return None;
         }
@@ -297,7 +315,7 @@ impl Case<'_> {
             to: BOB,
             amount: 100,
             out: 100,
-            condition: self.condition,
+            condition: self.row.condition,
             ending,
         };
         Some(Record {
@@ -308,20 +326,20 @@ impl Case<'_> {
 
     // Compares the book.
     fn compare(&self, rt: &impl Abort, book: &Book) {
-        let balances = match self.ending {
+        let balances = match self.row.ending {
             Some(Ending::Fulfilled) => (-100, 100),
             _ => (0, 0),
         };
-        assert_eq!(rt; book.len(), self.entries(), "{}", self.name);
+        assert_eq!(rt; book.len(), self.entries(), "{}", self.row.name);
         assert_eq!(rt;
             (book.balance(ALICE), book.balance(BOB)),
             balances,
             "{}",
-            self.name
+            self.row.name
         );
         let ended = book.entry(1).map(|entry| (entry.moment, ending_of(entry)));
-        let wanted = self.ending.map(|ending| (self.later, Some(ending)));
-        assert_eq!(rt; ended, wanted, "{}", self.name);
+        let wanted = self.row.ending.map(|ending| (self.row.later, Some(ending)));
+        assert_eq!(rt; ended, wanted, "{}", self.row.name);
     }
 }
 

@@ -38,19 +38,18 @@ impl<J: Naming, R: Wait + Abort> Uplink for Slow<'_, J, R> {
     }
 }
 
-// The peer fulfills the hold after it was released: it stays released, and its sender is told so.
+// The peer fulfills the hold after it was released.
 pub(super) fn forward_slowly<J: Naming, R: Wait + Abort>(
     rt: &R,
     desk: &Desk<J>,
     shares: Vec<Share<J>>,
 ) -> Result<(), Fail> {
-    let mut shares = shares.into_iter();
-    let share = shares.next().expect(rt, "a worker's share");
-    let sweeper = shares.next().expect(rt, "the sweeper's share");
+    let mut shares = shares;
+    let _settler = shares.pop();
+    let sweeper = shares.pop().expect(rt, "the sweeper's share");
+    let share = shares.pop().expect(rt, "a worker's share");
     let alloc = desk.config().allocator();
-    let packet = hex::decode(alloc, PREPARE).expect(rt, "hexadecimal");
     let fulfill = hex::decode(alloc, FULFILL).expect(rt, "hexadecimal");
-    let timed_out = hex::decode(alloc, TIMED_OUT).expect(rt, "hexadecimal");
     let uplink = Slow {
         rt,
         desk,
@@ -59,16 +58,28 @@ pub(super) fn forward_slowly<J: Naming, R: Wait + Abort>(
     };
     let made = Worker::new(alloc, share, Still(START), uplink, NoEngine);
     let mut worker = made.ok().expect(rt, "a worker");
+    lapse(rt, desk, &mut worker);
+    Ok(())
+}
+
+// The hold stays released, and its sender is told so.
+fn lapse<J: Naming, R: Wait + Abort, U: Uplink + Drop>(
+    rt: &R,
+    desk: &Desk<J>,
+    worker: &mut Worker<J, Still, U, NoEngine>,
+) {
+    let alloc = desk.config().allocator();
+    let packet = hex::decode(alloc, PREPARE).expect(rt, "hexadecimal");
+    let timed_out = hex::decode(alloc, TIMED_OUT).expect(rt, "hexadecimal");
     let receipt = Receipt {
         hold: Some(0),
         answer: None,
     };
-    assert_eq!(rt; forward(rt, &mut worker, desk, ALICE, &packet), Ok(receipt));
+    assert_eq!(rt; forward(rt, worker, desk, ALICE, &packet), Ok(receipt));
     assert_eq!(rt; worker.reply(), timed_out.as_slice());
     assert_eq!(rt; (worker.records().len(), worker.share().entries()), (0, 1));
     let guard = desk.lock(rt);
     assert_eq!(rt; (guard.book().len(), guard.book().balance(ALICE)), (2, 0));
-    Ok(())
 }
 
 #[test]
