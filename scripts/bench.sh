@@ -30,7 +30,10 @@ mkdir "$copy"
 cp -r "$top/crates" "$top/crates.txt" "$top/HANDLES" "$copy"
 mkdir -p "$copy/crates/bench_$name/src"
 cp "$bench/main.rt.in" "$copy/crates/bench_$name/src/main.rt"
-if [ -d "$bench/proofs" ]; then cp -r "$bench/proofs" "$copy/crates/bench_$name"; fi
+if [ -d "$bench/proofs" ]; then
+    cp -r "$bench/proofs" "$copy/crates/bench_$name"
+    find "$copy/crates/bench_$name/proofs" -name '*.in' | while read -r file; do mv "$file" "${file%.in}"; done
+fi
 printf '\nbench_%s: %s\n' "$name" "$(cat "$bench/uses")" >>"$copy/crates.txt"
 if [ -f "$bench/$name.py" ]; then python3 "$bench/$name.py"; fi >"$work/input"
 
