@@ -66,7 +66,7 @@ const PEER_UNREACHABLE: &str = "0e1e54303108746573742e687562107065657220756e7265
 const TIMED_OUT: &str = "0e1752303008746573742e6875620974696d6564206f757400";
 
 // What is done with a desk that was opened for it.
-#[derive(Drop)]
+#[derive(Clone, Copy)]
 enum Scene<'a> {
     // A packet of alice is forwarded.
     Row(Case<'a>),

@@ -61,7 +61,7 @@ impl Uplink for Patient<'_> {
 
 // Two workers: once the first one's peer is asked, the second one forwards, and once it has answered,
 // that peer replies. So no lock is held while a peer is asked.
-#[derive(Drop)]
+#[derive(Clone, Copy)]
 pub(super) struct Two<'a> {
     packet: &'a [u8],
     handed: &'a [u8],

@@ -67,7 +67,7 @@ struct Packets<'a> {
 }
 
 // A worker of which one growth is denied, if it makes so many.
-#[derive(Drop)]
+#[derive(Clone, Copy)]
 pub(super) struct Denied<'a> {
     packets: Packets<'a>,
     granted: u64,

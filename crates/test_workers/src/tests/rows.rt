@@ -209,7 +209,7 @@ fn longest(rt: &impl Abort, alloc: Global) -> Vec<u8> {
 }
 
 // A row over octets.
-#[derive(Drop)]
+#[derive(Clone, Copy)]
 pub(super) struct Case<'a> {
     row: &'a Row,
     packet: &'a [u8],
