@@ -64,7 +64,7 @@ const WITHOUT_ANSWER: Row = Row {
     ..FULFILLED
 };
 
-const ROWS: [Row; 10] = [
+static ROWS: [Row; 10] = [
     FULFILLED,
     Row {
         name: "fulfilled one millisecond before the deadline",
@@ -126,7 +126,7 @@ const ROWS: [Row; 10] = [
 ];
 
 // A configuration in which alice may send 10 units at most.
-const TOO_LARGE: Row = Row {
+static TOO_LARGE: Row = Row {
     name: "too large an amount",
     handed: "",
     answer: "0e2e46303808746573742e68756210616d6f756e7420746f6f206c61726765100000000000000064000000000000000a",
@@ -137,11 +137,20 @@ const TOO_LARGE: Row = Row {
 #[test]
 fn rows(rt: HostRuntime) -> Result<(), Fail> {
     let config = configured(rt.alloc(), "")?;
-    for row in ROWS {
-        play_row(&rt, &config, &row)?;
-    }
+    play_rows(&rt, &config)
+}
+
+#[test]
+fn too_large_an_amount(rt: HostRuntime) -> Result<(), Fail> {
     let config = configured(rt.alloc(), "max_packet = 10")?;
     play_row(&rt, &config, &TOO_LARGE)
+}
+
+fn play_rows<R: Threads + Wait + Abort + Sync>(rt: &R, config: &Config) -> Result<(), Fail> {
+    for row in &ROWS {
+        play_row(rt, config, row)?;
+    }
+    Ok(())
 }
 
 fn play_row<R: Threads + Wait + Abort + Sync>(
