@@ -13,6 +13,8 @@ use Rattle.ilp_journal.specs.declared.entry.Cause.{Cause}
 use Rattle.ilp_journal.specs.declared.entry.Cause.TheVariants as cause
 use Rattle.ilp_book.specs.declared.calls.PeerReply.TheVariants as peer_reply
 use Rattle.ilp_book.specs.declared.calls.Held.{Held}
+use Rattle.ilp_book.specs.declared.calls.Outcome.{Outcome}
+use Rattle.ilp_book.specs.declared.fault.NotOpen.{NotOpen}
 use Rattle.ilp_desk.specs.declared.record.Record.{Record}
 use Rattle.ilp_desk.specs.declared.record.Ending.TheVariants.{Fulfilled, Released}
 use Rattle.ilp_desk.specs.Portion.{Portion, portion}
@@ -25,7 +27,7 @@ use Rattle.ilp_workers.specs.declared.closing.Told.{Told}
 use Rattle.ilp_workers.specs.declared.closing.Told.TheVariants.{Passed, Rejected}
 use Rattle.ilp_workers.specs.Rejects.{local_reject}
 use Rattle.ilp_workers.specs.Worker.{PlainWorker}
-use Rattle.ilp_workers.specs.Forwarding.{Arrival, Order, order, IsTold, EndsLate, IsSent, IsForwardedBy, Forwards, closing, closing_of, closing_of_packet, record_of_end}
+use Rattle.ilp_workers.specs.Forwarding.{Arrival, Order, order, IsTold, Ends, EndsLate, end_of, entry_of, count_of, IsSent, IsForwardedBy, Forwards, closing, closing_of, closing_of_packet, record_of_end}
 use Rattle.ilp_workers.specs.Outcome.{IsFulfilled, IsRejected}
 
 -- ---- packets
@@ -94,18 +96,22 @@ late o before after answer told is_told ends = own o before after answer told lo
 
 sent_outcome : (a : Arrival) (packet : PlainPrepare) (before after : PlainWorker) (receipt : Receipt) (hold : ℕ) (answer : Option ℕ) → AreOctets after.reply → Spells a.octets (prepare packet)
     → receipt.hold ≡ Some hold → receipt.answer ≡ answer → IsSent (order a.desk a.from packet) before after hold answer → IsFulfilled a before after receipt ⊎ IsRejected before after
-sent_outcome a packet before after receipt hold None are came holds answers sent = inr (late (order a.desk a.from packet) before after sent.came sent.told sent.reply sent.ended.ends)
-sent_outcome a packet before after receipt hold (Some entry) are came holds answers sent =
-    elim sent.ended.ends [
-      | inl ends ↦ in_time a packet before after receipt sent.held entry sent.told came (holds ∙ ap Some (sym sent.number)) answers
-          (raised_by_two before.share after.share sent.share sent.booked.raised sent.ended.raised) are sent.came sent.reply ends
-      | inr ends ↦ inr (late (order a.desk a.from packet) before after sent.came sent.told sent.reply ends)
-    ]
+sent_outcome a packet before after receipt hold answer are came holds answers sent = of sent.ended.reply sent.ended.ends sent.ended.entry_is
   where
     raised_by_two : (first last mid : Portion) → mid ≡ portion first.actor (first.entries + 1) → last ≡ portion mid.actor (mid.entries + 1) → last ≡ portion first.actor (first.entries + 2)
     raised_by_two first last mid one two =
         let sum : first.entries + 1 + 1 ≡ first.entries + 2 = omega arith in
         two ∙ (ap (λ (s : Portion). portion s.actor (s.entries + 1)) one ∙ ap (portion first.actor) sum)
+
+    of : (reply : Result Outcome NotOpen) → Ends (order a.desk a.from packet) sent.held (closing_of packet.condition sent.came) reply before.kept after.kept sent.told → entry_of reply ≡ answer
+        → IsFulfilled a before after receipt ⊎ IsRejected before after
+    of (Err fault) ends is = inr (late (order a.desk a.from packet) before after sent.came sent.told sent.reply ends)
+    of (Ok outcome) ends is =
+        elim ends [
+          | inl counted ↦ in_time a packet before after receipt sent.held (end_of outcome).0 sent.told came (holds ∙ ap Some (sym sent.number)) (answers ∙ sym is)
+              (raised_by_two before.share after.share sent.share sent.booked.raised (sent.ended.raised ∙ ap (λ x. portion sent.share.actor (sent.share.entries + count_of x)) (sym is))) are sent.came sent.reply counted.1
+          | inr over ↦ inr (late (order a.desk a.from packet) before after sent.came sent.told sent.reply over.1)
+        ]
 
 pub forwarded_outcome : (a : Arrival) (before after : PlainWorker) (receipt : Receipt) → AreOctets after.reply → Forwards a before after (Ok receipt) → IsFulfilled a before after receipt ⊎ IsRejected before after
 forwarded_outcome a before after receipt are forwards = of receipt.hold receipt.answer refl refl forwards.2

@@ -3,6 +3,8 @@ use Rattle.std.proofs.Common.{◌≡◌, ℕ, ℤ, List, Option, Some, None, ◌
 use Rattle.std.specs.Prelude.{Result, Ok, Err}
 use Rattle.ilp_accounts.specs.Configuration.{Configuration}
 use Rattle.ilp_book.specs.declared.calls.Held.{Held}
+use Rattle.ilp_book.specs.declared.calls.Outcome.{Outcome}
+use Rattle.ilp_book.specs.declared.fault.NotOpen.{NotOpen}
 use Rattle.ilp_desk.specs.declared.record.Record.{Record}
 use Rattle.ilp_desk.specs.Portion.{Portion, holding}
 use Rattle.ilp_workers.specs.declared.links.LinkFault.{LinkFault}
@@ -20,9 +22,9 @@ use Rattle.ilp_workers.specs.Forwarding.{Order, IsHolding, IsAsked, IsEnded, IsS
 abbrev IsToldBy : Closing → Told → Type 0
 IsToldBy c told = (told ≡ c.told) ⊎ (told ≡ Rejected local.TransferTimedOut)
 
-told_by_end : (o : Order) (held : Held) (c : Closing) (entry : Option ℕ) (kept kept' : List Record) (told : Told) → Ends o held c entry kept kept' told → IsToldBy c told
-told_by_end o held c None kept kept' told ends = inr ends.0
-told_by_end o held c (Some entry) kept kept' told ends = elim ends [ inl in_time ↦ inl in_time.0 | inr late ↦ inr late.0 ]
+told_by_end : (o : Order) (held : Held) (c : Closing) (reply : Result Outcome NotOpen) (kept kept' : List Record) (told : Told) → Ends o held c reply kept kept' told → IsToldBy c told
+told_by_end o held c (Err fault) kept kept' told ends = inr ends.0
+told_by_end o held c (Ok outcome) kept kept' told ends = elim ends [ inl in_time ↦ inl in_time.1.0 | inr late ↦ inr late.1.0 ]
 
 -- no reply is passed on where none came
 not_passed : (condition : List ℕ) → IsToldBy (closing_of condition None) Passed → ⊥
@@ -64,7 +66,7 @@ sent_by o before after held share share' moments moments' kept sent sent' answer
       told = told;
       ended = whole;
       engine = engine;
-      reply = passed_came o.desk.config o.packet.condition answer incoming told after.reply (told_by_end o held (closing_of o.packet.condition came) entry before.kept after.kept told whole.ends) told_is;
+      reply = passed_came o.desk.config o.packet.condition answer incoming told after.reply (told_by_end o held (closing_of o.packet.condition came) whole.reply before.kept after.kept told whole.ends) told_is;
     }
 
 -- ---- workers that are one

@@ -131,7 +131,7 @@ held_on_its_way o now before after held at =
 
 -- what came back was told to a book, and how the hold ended follows from its reply
 pub ended_by : (o : Order) (held : Held) (c : Closing) (moments moments' : Option (List ℤ)) (before after : Holding) (told : Told) (entry : Option ℕ) (later : ℤ) (reply : Result Outcome NotOpen)
-    → Tells moments later moments' → IsAnsweredAt o later held.number c.answer before.share after.share reply → entry_of reply ≡ entry → Ends o held c entry before.kept after.kept told
+    → Tells moments later moments' → IsAnsweredAt o later held.number c.answer before.share after.share reply → entry_of reply ≡ entry → Ends o held c reply before.kept after.kept told
     → IsEnded o held c moments moments' before after told entry
 ended_by o held c moments moments' before after told entry later reply asked at is ends = record {
   later = later;

@@ -1,6 +1,6 @@
 -- What becomes of a packet that a worker is to forward: what is booked, what the next peer is handed, and what the sender is
 -- answered.
-use Rattle.std.specs.Prelude.{◌≡◌, ℕ, ◌+◌, ℤ, pos, ◌+ℤ◌, ◌≤ℤ◌, ◌⊎◌, List, [], ◌∷◌, ◌++◌, Option, Some, None, Result, Ok, Err, ⊤, if◌then◌else◌}
+use Rattle.std.specs.Prelude.{◌≡◌, ◌≢◌, ℕ, ◌+◌, ℤ, pos, ◌+ℤ◌, ◌≤ℤ◌, ◌⊎◌, List, [], ◌∷◌, ◌++◌, Option, Some, None, Result, Ok, Err, ⊤, if◌then◌else◌}
 use Rattle.std.specs.Int.{int_min, int_max}
 use Rattle.ilp_terms.specs.Condition.{meets}
 use Rattle.ilp_terms.specs.Expiry.{last_of_all}
@@ -177,10 +177,13 @@ EndsInTime o held c entry kept kept' told = (told ≡ c.told) × (kept' ≡ kept
 abbrev pub EndsLate : List Record → List Record → Told → Type 0
 EndsLate kept kept' told = (told ≡ Rejected local.TransferTimedOut) × (kept' ≡ kept)
 
--- Where the book has no entry of this answer, the hold was over.
-abbrev pub Ends : Order → Held → Closing → Option ℕ → List Record → List Record → Told → Type 0
-Ends o held c None kept kept' told = EndsLate kept kept' told
-Ends o held c (Some entry) kept kept' told = EndsInTime o held c entry kept kept' told ⊎ EndsLate kept kept' told
+-- An end that the book has counts by what came back just where it is the one that this comes to. Where the book has none, the hold
+-- was over.
+abbrev pub Ends : Order → Held → Closing → Result Outcome NotOpen → List Record → List Record → Told → Type 0
+Ends o held c (Err fault) kept kept' told = EndsLate kept kept' told
+Ends o held c (Ok outcome) kept kept' told =
+    (((end_of outcome).1 ≡ c.ending) × EndsInTime o held c (end_of outcome).0 kept kept' told)
+    ⊎ (((end_of outcome).1 ≢ c.ending) × EndsLate kept kept' told)
 
 -- What came back is told to a book at a moment that the clock gives, and the worker's share and records are raised by that.
 pub record IsEnded (o : Order) (held : Held) (c : Closing) (moments moments' : Option (List ℤ)) (before after : Holding) (told : Told) (entry : Option ℕ) : Type 0 where
@@ -190,7 +193,7 @@ pub record IsEnded (o : Order) (held : Held) (c : Closing) (moments moments' : O
   pub booked : IsAnsweredAt o later held.number c.answer before.share after.share reply
   pub entry_is : entry_of reply ≡ entry
   pub raised : after.share ≡ portion before.share.actor (before.share.entries + count_of entry)
-  pub ends : Ends o held c entry before.kept after.kept told
+  pub ends : Ends o held c reply before.kept after.kept told
 
 -- ---- a Prepare that is forwarded
 
