@@ -1,0 +1,3 @@
+pub mod PeerLemmas
+pub mod TargetLemmas
+pub mod TokenLemmas

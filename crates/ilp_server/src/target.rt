@@ -1,0 +1,74 @@
+//! What the target of a request asks for.
+ghost use Rattle.std.specs.Prelude.{◌≡◌, ℕ, ◌≢◌, ◌++◌, List, MatchOption};
+ghost use Rattle.ilp_server.specs.Found.{Finds};
+ghost use Rattle.ilp_server.specs.Targets.{account_target, IsOfPeer, AsksFor};
+
+use ilp_accounts::Config;
+
+/// Who connects: each side has a listener of its own.
+#[derive(Clone, Copy, Debug, PartialEq, Eq)]
+pub enum Side {
+    /// Peers, which send packets (RFC 0035).
+    Ilp,
+    /// Settlement engines, and the operator (RFC 0038).
+    Engine,
+}
+
+/// What a request asks for. Peers are named by their places in the configuration.
+#[derive(Clone, Copy, Debug, PartialEq, Eq)]
+pub enum Target {
+    /// Forward a packet.
+    Packet,
+    /// Credit a settlement that came in from the peer.
+    Settlement { peer: u32 },
+    /// Hand a message to the peer's settlement engine.
+    Message { peer: u32 },
+    /// Close the connector.
+    Close,
+}
+
+/// What a path asks for at a side; none where it asks for nothing there.
+///
+/// Paths are compared octet for octet: one with a query, with another case or with octets that are
+/// written in hexadecimal asks for nothing, and so does one with a name that no peer has.
+pub fn target_of(config: &Config, side: Side, path: &[u8]) -> Option<Target>
+    ensures { Finds (AsksFor config.now side path.now) result }
+{
+    match side {
+        Side::Ilp if path == config.path().as_bytes() => Some(Target::Packet),
+        Side::Ilp => None,
+        Side::Engine => engine_target(config, path),
+    }
+}
+
+// What a path asks for at the side of the engines.
+fn engine_target(config: &Config, path: &[u8]) -> Option<Target>
+    ensures { Finds (AsksFor config.now Side.Engine path.now) result }
+{
+    if path == b"/close".as_slice() {
+        return Some(Target::Close);
+    }
+    if let Some(peer) = peer_in(config, path, b"/settlements") {
+        return Some(Target::Settlement { peer });
+    }
+    let peer = peer_in(config, path, b"/messages")?;
+    Some(Target::Message { peer })
+}
+
+// The peer of whose account a path is that ends so.
+fn peer_in(config: &Config, path: &[u8], call: &[u8]) -> Option<u32>
+    ensures { Finds (IsOfPeer config.now (account_target call.now) path.now) result }
+{
+    let name = between(path, b"/accounts/", call)?;
+    config.peer_by_name(name)
+}
+
+// What stands between two texts that octets begin and end with.
+fn between<'a>(octets: &'a [u8], before: &[u8], after: &[u8]) -> Option<&'a [u8]>
+    ensures { MatchOption result
+        ((middle : List ℕ) → octets.now ≢ before.now ++ (middle ++ after.now))
+        (λ middle. octets.now ≡ before.now ++ (middle.now ++ after.now)) }
+{
+    let rest = octets.strip_prefix(before)?;
+    rest.strip_suffix(after)
+}
