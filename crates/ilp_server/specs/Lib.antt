@@ -1,3 +1,5 @@
 pub mod Found
 pub mod Targets
 pub mod Fields
+pub mod Requests
+pub mod Exchange

@@ -2,8 +2,17 @@
 //! goes to them.
 #![tactic(auto)]
 
+mod exchange;
 mod fields;
+mod requests;
+mod short_text;
 mod target;
 
+pub use exchange::{PostFault, post};
 pub use fields::{key_of, sender_of};
+pub use requests::{
+    account_head, account_text, message_head, messages_target, packet_head, settlement_head,
+    settlements_target,
+};
+pub use short_text::ShortText;
 pub use target::{Side, Target, target_of};
