@@ -4,15 +4,21 @@
 
 mod exchange;
 mod fields;
+mod handled;
+mod replies;
 mod requests;
 mod short_text;
 mod target;
+mod unserved;
 
 pub use exchange::{PostFault, post};
 pub use fields::{key_of, sender_of};
+pub use handled::{ConnectionFault, Handled};
+pub use replies::{has_account, message_reply, packet_reply, settlement_reply};
 pub use requests::{
     account_head, account_text, message_head, messages_target, packet_head, settlement_head,
     settlements_target,
 };
 pub use short_text::ShortText;
 pub use target::{Side, Target, target_of};
+pub use unserved::{NotServed, unread};

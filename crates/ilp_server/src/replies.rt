@@ -1,0 +1,71 @@
+//! What a response of a peer or of a settlement engine comes to.
+ghost use Rattle.std.specs.Prelude.{◌≡◌, ◌&&◌, not};
+ghost use Rattle.ilp_server.specs.Replies as replies;
+ghost use Rattle.ilp_server.specs.Replies.{octets_of};
+
+use crate::exchange::PostFault;
+use ilp_http::Response;
+use ilp_workers::{EngineReply, LinkFault};
+
+/// A peer's answer to a packet (RFC 0035): the body of a 200. Every other status is a fault of the
+/// link, those from 100 to 199 among them, and so is no response.
+pub fn packet_reply<'b>(came: Result<Response<'b>, PostFault>) -> Result<&'b [u8], LinkFault>
+    ensures { octets_of result ≡ replies.packet_reply came.entry }
+{
+    match came {
+        Ok(response) if response.status == 200 => Ok(response.body),
+        Ok(_) => Err(LinkFault),
+        Err(_) => Err(LinkFault),
+    }
+}
+
+/// An engine's answer to a message (RFC 0038): the body of a 200 to 299. Every other status is a
+/// fault of the link, and so is no response.
+pub fn message_reply<'b>(came: Result<Response<'b>, PostFault>) -> Result<&'b [u8], LinkFault>
+    ensures { octets_of result ≡ replies.message_reply came.entry }
+{
+    match came {
+        Ok(response) if is_success(response.status) => Ok(response.body),
+        Ok(_) => Err(LinkFault),
+        Err(_) => Err(LinkFault),
+    }
+}
+
+/// What an engine says of a settlement (RFC 0038): 200 to 299 accepts it, and 400 to 499 refuses it,
+/// but for 409, which says that the key is in use. Whatever else came leaves it unknown.
+pub fn settlement_reply(came: Result<Response<'_>, PostFault>) -> EngineReply
+    ensures { result ≡ replies.settlement_reply came.entry }
+{
+    match came {
+        Ok(response) if is_success(response.status) => EngineReply::Accepted,
+        Ok(response) if is_refused(response.status) => EngineReply::Refused,
+        Ok(_) => EngineReply::Unknown,
+        Err(_) => EngineReply::Unknown,
+    }
+}
+
+/// Whether an engine has the account that it was told of: after 200 to 299, and after 409, which
+/// says that it had it.
+pub fn has_account(came: Result<Response<'_>, PostFault>) -> bool
+    ensures { result ≡ replies.has_account came.entry }
+{
+    match came {
+        Ok(response) => is_success(response.status) || response.status == CONFLICT,
+        Err(_) => false,
+    }
+}
+
+// The key of a settlement is in use, or the account is there already.
+const CONFLICT: u16 = 409;
+
+fn is_success(status: u16) -> bool
+    ensures { result ≡ replies.is_success status }
+{
+    200 <= status && status <= 299
+}
+
+fn is_refused(status: u16) -> bool
+    ensures { result ≡ (replies.is_client_error status && not (replies.is_conflict status)) }
+{
+    400 <= status && status <= 499 && status != CONFLICT
+}

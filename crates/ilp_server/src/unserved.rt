@@ -1,0 +1,75 @@
+//! Why a request is not served.
+ghost use Rattle.std.specs.Prelude.{◌≡◌};
+ghost use Rattle.ilp_server.specs.Statuses as statuses;
+ghost use Rattle.ilp_server.specs.Statuses.{status_of};
+
+use crate::handled::ConnectionFault;
+use ilp_book::CreditFault;
+use ilp_http::{Refusal, RequestFault, Status};
+use ilp_settlement::QuantityFault;
+use ilp_workers::BadPacket;
+use thiserror::Error;
+
+/// Why a request is not served. It is answered by a status and an empty body.
+#[derive(Clone, Copy, Debug, PartialEq, Eq, Error)]
+pub enum NotServed {
+    /// The octets are no request.
+    #[error("{0}")]
+    NoRequest(Refusal),
+    /// The target asks for nothing at this side, or names no peer.
+    #[error("nothing is served under this target")]
+    UnknownTarget,
+    /// No token of a peer is shown.
+    #[error("no token of a peer is shown")]
+    UnknownSender,
+    /// The body is no Prepare.
+    #[error("{0}")]
+    Packet(BadPacket),
+    /// No key of a settlement is given.
+    #[error("no key of a settlement is given")]
+    NoKey,
+    /// The body is no quantity, or memory to read it was denied.
+    #[error("{0}")]
+    Quantity(QuantityFault),
+    /// The settlement is not credited.
+    #[error("{0}")]
+    Credit(CreditFault),
+    /// Memory for the response was denied.
+    #[error("memory is short")]
+    Memory,
+}
+
+impl NotServed {
+    /// The status by which the request is answered (RFC 9110, section 15): the one table of them.
+    pub fn status(self) -> Status
+        ensures { result ≡ status_of self }
+    {
+        match self {
+            NotServed::NoRequest(refusal) => Status::from(refusal),
+            NotServed::UnknownTarget => Status::NotFound,
+            NotServed::UnknownSender => Status::Unauthorized,
+            NotServed::Packet(_) => Status::BadRequest,
+            NotServed::NoKey => Status::BadRequest,
+            NotServed::Quantity(QuantityFault::Memory) => Status::Unavailable,
+            NotServed::Quantity(_) => Status::BadRequest,
+            NotServed::Credit(CreditFault::TooLarge) => Status::BadRequest,
+            NotServed::Credit(CreditFault::KeyTaken { .. }) => Status::Conflict,
+            NotServed::Credit(CreditFault::Full) => Status::Unavailable,
+            NotServed::Credit(CreditFault::Memory) => Status::Unavailable,
+            NotServed::Memory => Status::Unavailable,
+        }
+    }
+}
+
+/// What becomes of a connection on which no request was read: what is refused is answered. After a
+/// failed read, and where memory for the fields was denied, nothing is written.
+pub fn unread(fault: RequestFault) -> Result<NotServed, ConnectionFault>
+    ensures { result ≡ statuses.unread fault }
+{
+    match fault {
+        RequestFault::Refused(refusal) => Ok(NotServed::NoRequest(refusal)),
+        RequestFault::Failed => Err(ConnectionFault::Read),
+        RequestFault::TooManyReads => Err(ConnectionFault::Read),
+        RequestFault::Memory => Err(ConnectionFault::Memory),
+    }
+}
