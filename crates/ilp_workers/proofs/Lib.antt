@@ -5,3 +5,5 @@ pub mod Passing
 pub mod Outcomes
 pub mod Sweeping
 pub mod Standing
+pub mod CreditSessions
+pub mod SettleSessions

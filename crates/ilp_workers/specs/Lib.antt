@@ -5,4 +5,5 @@ pub mod Worker
 pub mod Sweeper
 pub mod Settler
 pub mod Forwarding
+pub mod Crediting
 pub mod Outcome

@@ -1,19 +1,24 @@
 //! A worker: it forwards packets, one at a time.
 ghost use Rattle.std.specs.Prelude.{◌≡◌, [], IfOk, IfErr};
 ghost use Rattle.ilp_book.specs.Configured.{IsKnown};
+ghost use Rattle.ilp_book.specs.SettleStep.{payment};
 ghost use Rattle.ilp_packet.specs.Packet.{plain_prepare, prepare, Spells};
 ghost use Rattle.ilp_desk.specs.Portion.{holding};
 ghost use Rattle.ilp_workers.specs.Worker.{worker};
 ghost use Rattle.ilp_workers.specs.Forwarding.{arrival, IsBad, Forwards};
+ghost use Rattle.ilp_workers.specs.Crediting.{Credits};
 
 use crate::closing::Told;
 use crate::links::{Clock, EngineLink, Uplink};
 use crate::parts::Parts;
 use crate::rejects::LONGEST_LOCAL_REJECT;
 use crate::reply::{BadPacket, Receipt};
+use ilp_book::{CreditFault, Kept};
 use ilp_desk::{Desk, End, Naming, Record, Share};
+use ilp_journal::Key;
 use ilp_oer::Octets;
 use ilp_packet::{Packet, Prepare};
+use ilp_settlement::Quantity;
 use std::alloc::{AllocError, Allocator, Global};
 use std::marker::Model;
 use std::sync::Wait;
@@ -137,6 +142,24 @@ impl<J: Naming, C: Clock + Drop, U: Uplink + Drop, E: EngineLink + Drop, A: Allo
         let passed = self.parts.pass_on(rt, desk, from, &prepare, octets.len());
         self.parts.tell(desk.config(), passed.told);
         Ok(passed.receipt)
+    }
+
+    /// Credits a settlement that a peer's engine tells of (RFC 0038), once for each of the peer's
+    /// keys, by `Book::credit`; room for its record is made first. A refusal books nothing and leaves
+    /// share and records as they were: `TooLarge` comes before anything else, and `Memory` may come
+    /// in place of any later one.
+    pub fn credit(
+        &mut self,
+        rt: &impl Wait,
+        desk: &Desk<J>,
+        peer: u32,
+        key: Key,
+        quantity: &Quantity,
+    ) -> Result<Kept, CreditFault>
+        requires known { IsKnown J.desk.config peer }
+        ensures { Credits J.desk (payment peer key quantity.now) self.old self.new result }
+    {
+        self.parts.credit(rt, desk, peer, key, quantity)
     }
 }
 
