@@ -5,4 +5,6 @@ pub mod Worker
 pub mod Sweeper
 pub mod Settler
 pub mod Forwarding
+pub mod Messaging
+pub mod Arrivals
 pub mod Outcome

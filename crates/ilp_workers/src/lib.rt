@@ -5,6 +5,7 @@
 mod closing;
 pub mod laws;
 mod links;
+mod messaging;
 mod parts;
 mod rejects;
 mod reply;
@@ -13,6 +14,7 @@ mod sweeper;
 mod worker;
 
 pub use links::{Clock, EngineLink, EngineReply, LinkFault, Uplink};
+pub use messaging::MessageFault;
 pub use rejects::LocalReject;
 pub use reply::{BadPacket, Receipt};
 pub use settler::{NoSettler, Settler};

@@ -19,7 +19,7 @@ returns g c =
     let hold = c.pass_on-passed.result.receipt.hold in
     let answer = c.pass_on-passed.result.receipt.answer in
     let told = c.pass_on-passed.result.told in
-    let reply = reply_of new.told new.incoming.octets new.rejected.octets in
+    let reply = reply_of new.reply_in new.incoming.octets new.outgoing.octets new.rejected.octets in
     let is_told : IsTold g.J.Naming.desk.config (Some passed.incoming.octets) told reply =
     subst (λ C. IsTold C (Some passed.incoming.octets) told reply) c.config.ensures c.tell.ensures.told in
     let same = same_worker passed.share new.share passed.records.items new.records.items (g.C.Clock.told passed.clock) (g.C.Clock.told new.clock)
