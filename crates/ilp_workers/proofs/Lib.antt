@@ -5,3 +5,4 @@ pub mod Passing
 pub mod Outcomes
 pub mod Sweeping
 pub mod Standing
+pub mod EngineMessages

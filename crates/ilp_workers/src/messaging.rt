@@ -6,7 +6,7 @@ ghost use Rattle.ilp_book.specs.Configured.{IsKnown};
 ghost use Rattle.ilp_workers.specs.Links.{came_of};
 ghost use Rattle.ilp_workers.specs.Worker.{worker, reply_of};
 ghost use Rattle.ilp_workers.specs.Forwarding.{within_years};
-ghost use Rattle.ilp_workers.specs.Messaging.{IsForEngine, message_refusal, engine_answer, answered_with, zero_fulfill, IsAnswered, IsMessaged, message_expiry, message_prepare, answer_of, Messages};
+ghost use Rattle.ilp_workers.specs.Messaging.{IsForEngine, message_refusal, engine_answer, answered_with, zero_fulfill, longest_fulfill, IsAnswered, IsMessaged, message_expiry, message_prepare, answer_of, Messages};
 
 use crate::closing::Told;
 use crate::links::{Clock, EngineLink, LinkFault, Uplink};

@@ -21,7 +21,7 @@ returns g c =
     let told = c.pass_on-passed.result.told in
     let reply = reply_of new.reply_in new.incoming.octets new.outgoing.octets new.rejected.octets in
     let is_told : IsTold g.J.Naming.desk.config (Some passed.incoming.octets) told reply =
-    subst (λ C. IsTold C (Some passed.incoming.octets) told reply) c.config.ensures c.tell.ensures.told in
+    subst (λ C. IsTold C (Some passed.incoming.octets) told reply) c.config-2.ensures c.tell.ensures.told in
     let same = same_worker passed.share new.share passed.records.items new.records.items (g.C.Clock.told passed.clock) (g.C.Clock.told new.clock)
     (g.U.Uplink.told passed.uplink) (g.U.Uplink.told new.uplink) (g.E.EngineLink.told passed.engine) (g.E.EngineLink.told new.engine) reply
     c.tell.ensures.share (ap (λ r. r.items) c.tell.ensures.records) (ap g.C.Clock.told c.tell.ensures.clock)
