@@ -1,5 +1,5 @@
 -- The packets of messages between engines are within their limits, and what comes for one is an answer or none.
-use Rattle.std.proofs.Common.{◌≡◌, ℕ, ◌+◌, ◌≤◌, ℤ, Bool, true, false, List, [], length, Option, Some, None, refl, sym, ap, ◌∙◌, arith, lit<, rules, subst}
+use Rattle.std.proofs.Common.{◌≡◌, ℕ, ◌+◌, ◌≤◌, ℤ, true, false, List, length, Option, Some, None, refl, sym, arith, lit<, rules, subst}
 use Rattle.std.specs.Prelude.{Result, Ok, Err, is_some, IsSome}
 use Rattle.std.proofs.lemmas.Bool.Decides.{nat_tests}
 use Rattle.ilp_oer.specs.OctetString as oer

@@ -1,5 +1,5 @@
 -- Messages between settlement engines (RFC 0038): Prepares of amount 0 to `peer.settle`. None of them touches the book.
-use Rattle.std.specs.Prelude.{◌≡◌, ℕ, ◌<◌, ◌≤◌, ◌==◌, nat_le, ℤ, pos, ◌+ℤ◌, int_le, ◌⊎◌, not, if◌then◌else◌, List, [], ◌∷◌, ◌++◌, length, replicate, codes, bytes_eq, Option, Some, None, is_none, IsSome, Result, Ok, Err}
+use Rattle.std.specs.Prelude.{◌≡◌, ℕ, ◌<◌, ◌≤◌, ◌==◌, nat_le, ℤ, pos, ◌+ℤ◌, int_le, ◌⊎◌, not, if◌then◌else◌, List, [], ◌∷◌, length, replicate, codes, bytes_eq, Option, Some, None, is_none, IsSome, Result, Ok, Err}
 use Rattle.std.specs.Int.{int_min}
 use Rattle.ilp_order.specs.Checks.{first_of, when}
 use Rattle.ilp_terms.specs.Expiry.{last_of_all}
@@ -147,6 +147,4 @@ pub record IsTried (C : Configuration) (peer : ℕ) (octets : List ℕ) (before 
 -- A message that is too long leaves all as it was.
 abbrev pub Messages : Configuration → ℕ → List ℕ → PlainWorker → PlainWorker → Result (Unit {0}) MessageFault → Type 0
 Messages C peer octets before after (Err message_fault.TooLong) = (most_payload < length octets) × (after ≡ before)
-Messages C peer octets before after (Err message_fault.Memory) = IsTried C peer octets before after (Err message_fault.Memory)
-Messages C peer octets before after (Err message_fault.NoAnswer) = IsTried C peer octets before after (Err message_fault.NoAnswer)
-Messages C peer octets before after (Ok x) = IsTried C peer octets before after (Ok x)
+Messages C peer octets before after result = IsTried C peer octets before after result

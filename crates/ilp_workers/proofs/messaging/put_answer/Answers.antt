@@ -1,13 +1,11 @@
-use Rattle.std.proofs.Common.{rules, ◌≡◌, ◌≤◌, [], length, Option, None, Some, IsSome, option_map, is_some, OnOk, MatchBool, ℕ, ◌+◌, ◌-◌, ◌*◌, ◌<◌, ◌/◌, ◌%◌, Bool, true, false, nat_eq, nat_lt, List, ◌∷◌, ◌++◌, slice_index_or, slice_set, bit_and, bit_or, Fits, w8, w32, w64, Bor, MutBor}
-use Rattle.ilp_terms.specs.Expiry.{IsMoment}
-use Rattle.ilp_packet.specs.Packet.{most_payload, plain_prepare, prepare, fulfill, Spells}
-use Rattle.ilp_book.specs.Configured.{IsKnown}
-use Rattle.ilp_workers.specs.Links.{came_of}
-use Rattle.ilp_workers.specs.Worker.{worker, reply_of}
-use Rattle.ilp_workers.specs.Forwarding.{within_years}
-use Rattle.ilp_workers.specs.Messaging.{IsForEngine, message_refusal, engine_answer, answered_with, zero_fulfill, longest_fulfill, IsAnswered, IsMessaged, message_expiry, message_prepare, answer_of, Messages}
+use Rattle.std.proofs.Common.{arith}
+use Rattle.ilp_workers.proofs.EngineMessages.{answer_is_short}
 use Rattle.ilp_workers.proofs.messaging.put_answer.Goals as goal
 
--- src/messaging.rt:118:9
+-- there is room for the Fulfill
 pub unreachable-requires : goal.unreachable-requires
-unreachable-requires g c = ?
+unreachable-requires g c =
+    let short = answer_is_short c.args.answer.now c.if-answer-gt-MAX_MESSAGE.false in
+    let written = c.write_fulfill.ensures.enough (omega (arith, short)) in
+    let not_written = rw c.in_default-write_fulfill.is at written in
+    cc

@@ -1,4 +1,4 @@
-use Rattle.std.proofs.Common.{ap, sym, subst, Some}
+use Rattle.std.proofs.Common.{ap, sym, subst, Some, inl}
 use Rattle.ilp_packet.specs.Packet.{plain_prepare, prepare}
 use Rattle.ilp_packet.proofs.WritingLemmas.{one_size}
 use Rattle.ilp_workers.specs.Worker.{PlainWorker, worker, reply_of}
@@ -28,7 +28,10 @@ returns g c =
     (ap g.U.Uplink.told c.tell.ensures.links.0) (ap g.E.EngineLink.told c.tell.ensures.links.1) in (
       packet,
       c.in-Ok.ensures.ok,
-      subst (λ (w : PlainWorker). IsForwardedBy o c.args.self.now w hold answer) (sym same)
-          (subst (λ (w : PlainWorker). IsForwardedBy o w (worker passed.share passed.records.items (g.C.Clock.told passed.clock) (g.U.Uplink.told passed.uplink) (g.E.EngineLink.told passed.engine) reply) hold answer)
-          c.self.view_is (c.pass_on-passed.ensures reply is_told)),
+      inl (
+        c.if-is_for_engine.ensures,
+        subst (λ (w : PlainWorker). IsForwardedBy o c.args.self.now w hold answer) (sym same)
+            (subst (λ (w : PlainWorker). IsForwardedBy o w (worker passed.share passed.records.items (g.C.Clock.told passed.clock) (g.U.Uplink.told passed.uplink) (g.E.EngineLink.told passed.engine) reply) hold answer)
+            c.self.view_is (c.pass_on-passed.ensures reply is_told)),
+      ),
     )
