@@ -7,3 +7,4 @@ pub mod Sweeping
 pub mod Standing
 pub mod CreditSessions
 pub mod SettleSessions
+pub mod EngineMessages

@@ -6,4 +6,6 @@ pub mod Sweeper
 pub mod Settler
 pub mod Forwarding
 pub mod Crediting
+pub mod Messaging
+pub mod Arrivals
 pub mod Outcome

@@ -35,8 +35,9 @@ impl<J: Naming, C: Clock + Drop, U: Uplink + Drop, E: EngineLink + Drop, A: Allo
             (C.told self.new.clock) (holding self.old.share self.old.records.items)
             (holding self.new.share self.new.records.items) result }
         ensures links { (self.new.uplink ≡ self.old.uplink) × (self.new.engine ≡ self.old.engine) }
+        ensures reply_in { self.new.reply_in ≡ self.old.reply_in }
         ensures buffers { (self.new.incoming ≡ self.old.incoming)
-            × (self.new.rejected ≡ self.old.rejected) × (self.new.told ≡ self.old.told) }
+            × (self.new.outgoing ≡ self.old.outgoing) × (self.new.rejected ≡ self.old.rejected) }
     {
         let Ok(_) = credited(quantity, desk.config().scale(peer)) else {
             return Err(CreditFault::TooLarge);

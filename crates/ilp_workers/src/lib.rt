@@ -6,6 +6,7 @@ mod closing;
 mod crediting;
 pub mod laws;
 mod links;
+mod messaging;
 mod parts;
 mod rejects;
 mod reply;
@@ -16,6 +17,7 @@ mod turn;
 mod worker;
 
 pub use links::{Clock, EngineLink, EngineReply, LinkFault, Uplink};
+pub use messaging::MessageFault;
 pub use rejects::LocalReject;
 pub use reply::{BadPacket, Receipt};
 pub use settler::{NoSettler, Settler};
