@@ -14,3 +14,4 @@ pub use Rattle.ilp_book.specs.Configured
 pub use Rattle.ilp_book.specs.Lawful
 pub use Rattle.ilp_book.specs.HoldStep
 pub use Rattle.ilp_book.specs.AnswerStep
+pub use Rattle.ilp_book.specs.SettleStep

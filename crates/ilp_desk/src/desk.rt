@@ -5,6 +5,7 @@ ghost use Rattle.ilp_book.specs.Book.{by};
 ghost use Rattle.ilp_book.specs.Configured.{IsKnown};
 ghost use Rattle.ilp_book.specs.HoldStep.{incoming, hold_step, growth_of};
 ghost use Rattle.ilp_book.specs.AnswerStep.{answer_step, expire_step};
+ghost use Rattle.ilp_book.specs.SettleStep.{payment, verdict_of, credit_growth, credit_step, ask_growth, ask_step, close_step};
 ghost use Rattle.ilp_desk.specs.Desk.{actors_of, base_of};
 ghost use Rattle.ilp_desk.specs.Opening.{IsWhyNot, IsWorkerCount, first_shares};
 ghost use Rattle.ilp_desk.specs.Session.{IsReplyAt};
@@ -13,8 +14,12 @@ use crate::locked::LockedBook;
 use crate::naming::Naming;
 use crate::share::Share;
 use ilp_accounts::Config;
-use ilp_book::{Book, Held, HoldFault, NotOpen, Outcome, PeerReply};
+use ilp_book::{
+    AskFault, Asked, Book, CreditFault, Held, HoldFault, Kept, NotOpen, Outcome, PeerReply,
+};
+use ilp_journal::Key;
 use ilp_packet::Prepare;
+use ilp_settlement::Quantity;
 use std::alloc::{AllocError, Allocator};
 use std::sync::ledger::Blank;
 use std::sync::{Mutex, MutexGuard, Wait, ledger};
@@ -154,6 +159,54 @@ impl<J: Naming> Desk<J> {
             share.old share.new result }
     {
         self.lock(rt).expire_one(share, now)
+    }
+
+    /// `LockedBook::credit`, with the lock taken for this session alone.
+    pub fn credit(
+        &self,
+        rt: &impl Wait,
+        share: &mut Share<J>,
+        peer: u32,
+        key: Key,
+        quantity: &Quantity,
+        now: i64,
+    ) -> Result<Kept, CreditFault>
+        requires known { IsKnown J.desk.config peer }
+        ensures { IsReplyAt J.desk (λ book. credit_step book (by share.old.actor now)
+            (payment peer key quantity.now) (credit_growth result))
+            share.old share.new result }
+    {
+        self.lock(rt).credit(share, peer, key, quantity, now)
+    }
+
+    /// `LockedBook::ask`, with the lock taken for this session alone.
+    pub fn ask(
+        &self,
+        rt: &impl Wait,
+        share: &mut Share<J>,
+        peer: u32,
+        now: i64,
+    ) -> Result<Asked, AskFault>
+        requires known { IsKnown J.desk.config peer }
+        ensures { IsReplyAt J.desk (λ book. ask_step book (by share.old.actor now) peer
+            (ask_growth result)) share.old share.new result }
+    {
+        self.lock(rt).ask(share, peer, now)
+    }
+
+    /// `LockedBook::settle_close`, with the lock taken for this session alone.
+    pub fn settle_close(
+        &self,
+        rt: &impl Wait,
+        share: &mut Share<J>,
+        number: u32,
+        accepted: bool,
+        now: i64,
+    ) -> Result<u32, NotOpen>
+        ensures { IsReplyAt J.desk (λ book. close_step book (by share.old.actor now) number
+            (verdict_of accepted)) share.old share.new result }
+    {
+        self.lock(rt).settle_close(share, number, accepted, now)
     }
 }
 

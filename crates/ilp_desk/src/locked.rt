@@ -6,6 +6,7 @@ ghost use Rattle.ilp_book.specs.Book.{by, Does};
 ghost use Rattle.ilp_book.specs.Configured.{IsKnown};
 ghost use Rattle.ilp_book.specs.HoldStep.{incoming, hold_step, growth_of};
 ghost use Rattle.ilp_book.specs.AnswerStep.{answer_step, expire_step};
+ghost use Rattle.ilp_book.specs.SettleStep.{payment, verdict_of, credit_growth, credit_step, ask_growth, ask_step, close_step};
 ghost use Rattle.ilp_desk.specs.Desk.{IsBookOf, actors_of, base_of};
 ghost use Rattle.ilp_desk.specs.Session.{IsSession};
 ghost use Rattle.ilp_desk.specs.Portion.{Holding};
@@ -15,8 +16,12 @@ use crate::end::End;
 use crate::gathering::{Closed, StillLocked, why_not};
 use crate::naming::Naming;
 use crate::share::Share;
-use ilp_book::{Book, Held, HoldFault, NotOpen, Outcome, PeerReply};
+use ilp_book::{
+    AskFault, Asked, Book, CreditFault, Held, HoldFault, Kept, NotOpen, Outcome, PeerReply,
+};
+use ilp_journal::Key;
 use ilp_packet::Prepare;
+use ilp_settlement::Quantity;
 use std::marker::Model;
 use std::sync::ledger;
 
@@ -123,6 +128,59 @@ impl<J: Naming> LockedBook<J> {
     {
         let before = self.book.len();
         let result = self.book.expire_one(share.actor(), now);
+        share.count(&mut self.total, self.book.len() - before);
+        result
+    }
+
+    /// `Book::credit` by the share's actor. A refusal leaves the book and the share as they were.
+    pub fn credit(
+        &mut self,
+        share: &mut Share<J>,
+        peer: u32,
+        key: Key,
+        quantity: &Quantity,
+        now: i64,
+    ) -> Result<Kept, CreditFault>
+        requires known { IsKnown J.desk.config peer }
+        ensures step { Does self.old self.new result (credit_step self.old (by share.old.actor now)
+            (payment peer key quantity.now) (credit_growth result)) }
+        ensures session { IsSession J.desk self.old self.new share.old share.new }
+        ensures err { OnErr result (self.new ≡ self.old) }
+    {
+        let before = self.book.len();
+        let result = self.book.credit(share.actor(), peer, key, quantity, now);
+        share.count(&mut self.total, self.book.len() - before);
+        result
+    }
+
+    /// `Book::ask` by the share's actor. A refusal leaves the book and the share as they were.
+    pub fn ask(&mut self, share: &mut Share<J>, peer: u32, now: i64) -> Result<Asked, AskFault>
+        requires known { IsKnown J.desk.config peer }
+        ensures step { Does self.old self.new result
+            (ask_step self.old (by share.old.actor now) peer (ask_growth result)) }
+        ensures session { IsSession J.desk self.old self.new share.old share.new }
+        ensures err { OnErr result (self.new ≡ self.old) }
+    {
+        let before = self.book.len();
+        let result = self.book.ask(share.actor(), peer, now);
+        share.count(&mut self.total, self.book.len() - before);
+        result
+    }
+
+    /// `Book::settle_close` by the share's actor.
+    pub fn settle_close(
+        &mut self,
+        share: &mut Share<J>,
+        number: u32,
+        accepted: bool,
+        now: i64,
+    ) -> Result<u32, NotOpen>
+        ensures step { Does self.old self.new result
+            (close_step self.old (by share.old.actor now) number (verdict_of accepted)) }
+        ensures session { IsSession J.desk self.old self.new share.old share.new }
+    {
+        let before = self.book.len();
+        let result = self.book.settle_close(share.actor(), number, accepted, now);
         share.count(&mut self.total, self.book.len() - before);
         result
     }

@@ -5,3 +5,6 @@ pub mod Passing
 pub mod Outcomes
 pub mod Sweeping
 pub mod Standing
+pub mod CreditSessions
+pub mod SettleSessions
+pub mod EngineMessages

@@ -27,7 +27,8 @@ use Rattle.ilp_workers.specs.declared.closing.Told.{Told}
 use Rattle.ilp_workers.specs.declared.closing.Told.TheVariants.{Passed, Rejected}
 use Rattle.ilp_workers.specs.Rejects.{local_reject}
 use Rattle.ilp_workers.specs.Worker.{PlainWorker}
-use Rattle.ilp_workers.specs.Forwarding.{Arrival, Order, order, IsTold, Ends, EndsLate, end_of, entry_of, count_of, IsSent, IsForwardedBy, Forwards, closing, closing_of, closing_of_packet, record_of_end}
+use Rattle.ilp_workers.specs.Arrivals.{Arrival, IsForPeers, Forwards}
+use Rattle.ilp_workers.specs.Forwarding.{Order, order, IsTold, Ends, EndsLate, end_of, entry_of, count_of, IsSent, IsForwardedBy, closing, closing_of, closing_of_packet, record_of_end}
 use Rattle.ilp_workers.specs.Outcome.{IsFulfilled, IsRejected}
 
 -- ---- packets
@@ -113,8 +114,10 @@ sent_outcome a packet before after receipt hold answer are came holds answers se
           | inr over ↦ inr (late (order a.desk a.from packet) before after sent.came sent.told sent.reply over.1)
         ]
 
-pub forwarded_outcome : (a : Arrival) (before after : PlainWorker) (receipt : Receipt) → AreOctets after.reply → Forwards a before after (Ok receipt) → IsFulfilled a before after receipt ⊎ IsRejected before after
-forwarded_outcome a before after receipt are forwards = of receipt.hold receipt.answer refl refl forwards.2
+pub forwarded_outcome : (a : Arrival) (before after : PlainWorker) (receipt : Receipt) → AreOctets after.reply → IsForPeers a → Forwards a before after (Ok receipt)
+    → IsFulfilled a before after receipt ⊎ IsRejected before after
+forwarded_outcome a before after receipt are for_peers forwards =
+    elim forwards.2 [ inl forwarded ↦ of receipt.hold receipt.answer refl refl forwarded.1 | inr messaged ↦ absurd (for_peers forwards.0 forwards.1 messaged.0) ]
   where
     of : (hold answer : Option ℕ) → receipt.hold ≡ hold → receipt.answer ≡ answer → IsForwardedBy (order a.desk a.from forwards.0) before after hold answer → IsFulfilled a before after receipt ⊎ IsRejected before after
     of None None holds answers refused =

@@ -1,5 +1,5 @@
 -- What a worker learns of its sessions: how many entries each booked, and what a hold that was accepted is.
-use Rattle.std.proofs.Common.{◌≡◌, ℕ, ◌+◌, ℤ, pos, ◌+ℤ◌, ◌∷◌, [], List, length, Option, Some, None, sym, ap, ◌∙◌, subst, arith, length-append}
+use Rattle.std.proofs.Common.{◌≡◌, ℕ, ◌+◌, ℤ, pos, ◌+ℤ◌, ◌∷◌, [], List, length, Option, Some, None, refl, sym, ap, ◌∙◌, subst, arith, length-append}
 use Rattle.std.specs.Prelude.{Result, Ok, Err, ◌≤ℤ◌, int_le, false}
 use Rattle.std.specs.Int.{int_min}
 use Rattle.std.proofs.lemmas.Int.{ints, clamps}
@@ -25,7 +25,7 @@ use Rattle.ilp_workers.specs.Forwarding.{Order, IsHeldAt, IsAnsweredAt, IsOnItsW
 -- ---- how many entries were booked
 
 -- a share is raised by as many entries as the journal gained
-raised_by : (desk : PlainDesk) (old new : PlainBook) (before after : Portion) (n : ℕ) → IsSession desk old new before after → length new.entries ≡ length old.entries + n
+pub raised_by : (desk : PlainDesk) (old new : PlainBook) (before after : Portion) (n : ℕ) → IsSession desk old new before after → length new.entries ≡ length old.entries + n
     → after ≡ portion before.actor (before.entries + n)
 raised_by desk old new before after n session more =
     let entries : after.entries ≡ before.entries + n = omega (arith, session.raised, more) in
@@ -42,8 +42,21 @@ no_more old new reply made does is =
     let same = ap (λ (b : PlainBook). length b.entries) (does.book ∙ ap (with_entry old) is) in
     omega (arith, same)
 
+-- how many entries a step makes
+abbrev pub count_in : Option Entry → ℕ
+count_in None = 0
+count_in (Some e) = 1
+
+-- a step books as many entries as it makes
+pub booked_more : {R : Type 0} (old new : PlainBook) (reply : R) (made : Made R) (n : ℕ) → Does old new reply made → count_in made.entry ≡ n → length new.entries ≡ length old.entries + n
+booked_more old new reply made n does counted = of made.entry refl counted
+  where
+    of : (o : Option Entry) → made.entry ≡ o → count_in o ≡ n → length new.entries ≡ length old.entries + n
+    of None is e = no_more old new reply made does is ∙ ap (λ k. length old.entries + k) e
+    of (Some x) is e = one_more old new reply made x does is ∙ ap (λ k. length old.entries + k) e
+
 -- nothing more is as before
-raised_by_none : (before after : Portion) → after ≡ portion before.actor (before.entries + 0) → after ≡ before
+pub raised_by_none : (before after : Portion) → after ≡ portion before.actor (before.entries + 0) → after ≡ before
 raised_by_none before after e =
     let none : before.entries + 0 ≡ before.entries = omega arith in
     e ∙ ap (portion before.actor) none

@@ -16,7 +16,9 @@ use Rattle.ilp_desk.specs.Portion.{Portion}
 use Rattle.ilp_workers.specs.declared.reply.Receipt.{Receipt}
 use Rattle.ilp_workers.specs.Rejects.{local_reject, reject_of_fault}
 use Rattle.ilp_workers.specs.Worker.{PlainWorker}
-use Rattle.ilp_workers.specs.Forwarding.{Arrival, Order, order, IsHeldAt, IsForwardedBy, Forwards}
+use Rattle.ilp_workers.specs.Forwarding.{Order, order, IsHeldAt, IsForwardedBy}
+use Rattle.ilp_workers.specs.Messaging.{IsForEngine}
+use Rattle.ilp_workers.specs.Arrivals.{Arrival, Forwards}
 use Rattle.ilp_workers.specs.Outcome.{route_refusal, standing_refusal, IsRefusedAs}
 
 -- what comes first refuses, whatever would follow
@@ -76,9 +78,13 @@ module _ (o : Order) (fault : HoldFault) (standing : standing_refusal o.desk.con
       never e = cc
 
 pub refused_as : (a : Arrival) (before after : PlainWorker) (receipt : Receipt) (packet : PlainPrepare) (fault : HoldFault) → Forwards a before after (Ok receipt) → Spells a.octets (prepare packet)
-    → standing_refusal a.desk.config (incoming a.desk.config a.from packet) ≡ Some fault → IsRefusedAs a.desk after receipt (reject_of_fault packet.amount fault)
-refused_as a before after receipt packet fault forwards spells standing =
+    → (¬ IsForEngine packet) → standing_refusal a.desk.config (incoming a.desk.config a.from packet) ≡ Some fault → IsRefusedAs a.desk after receipt (reject_of_fault packet.amount fault)
+refused_as a before after receipt packet fault forwards spells other standing =
     let one = one_packet a.octets (prepare forwards.0) (prepare packet) forwards.1 spells in
     let same : forwards.0 ≡ packet = cc in
-    told (order a.desk a.from packet) fault standing before after receipt receipt.hold receipt.answer refl refl
-    (subst (λ p. IsForwardedBy (order a.desk a.from p) before after receipt.hold receipt.answer) same forwards.2)
+    elim forwards.2 [
+      | inl forwarded ↦
+          told (order a.desk a.from packet) fault standing before after receipt receipt.hold receipt.answer refl refl
+          (subst (λ p. IsForwardedBy (order a.desk a.from p) before after receipt.hold receipt.answer) same forwarded.1)
+      | inr messaged ↦ absurd (other (ap (λ (p : PlainPrepare). p.destination) (sym same) ∙ messaged.0))
+    ]

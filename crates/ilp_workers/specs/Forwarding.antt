@@ -1,6 +1,5 @@
--- What becomes of a packet that a worker is to forward: what is booked, what the next peer is handed, and what the sender is
--- answered.
-use Rattle.std.specs.Prelude.{◌≡◌, ◌≢◌, ℕ, ◌+◌, ℤ, pos, ◌+ℤ◌, ◌≤ℤ◌, ◌⊎◌, List, [], ◌∷◌, ◌++◌, Option, Some, None, Result, Ok, Err, ⊤, if◌then◌else◌}
+-- What becomes of a Prepare that a worker forwards: what is booked, what the next peer is handed, and what the sender is answered.
+use Rattle.std.specs.Prelude.{◌≡◌, ◌≢◌, ℕ, ◌+◌, ℤ, pos, ◌+ℤ◌, ◌≤ℤ◌, ◌⊎◌, List, [], ◌∷◌, ◌++◌, Option, Some, None, Result, Ok, Err, if◌then◌else◌}
 use Rattle.std.specs.Int.{int_min, int_max}
 use Rattle.ilp_terms.specs.Condition.{meets}
 use Rattle.ilp_terms.specs.Expiry.{last_of_all}
@@ -30,9 +29,6 @@ use Rattle.ilp_desk.specs.Portion.{Portion, portion, Holding, holding}
 use Rattle.ilp_desk.specs.Session.{IsReplyAt}
 use Rattle.ilp_workers.specs.declared.rejects.LocalReject.{LocalReject}
 use Rattle.ilp_workers.specs.declared.rejects.LocalReject.TheVariants as local
-use Rattle.ilp_workers.specs.declared.reply.BadPacket.{BadPacket}
-use Rattle.ilp_workers.specs.declared.reply.BadPacket.TheVariants.{Unread, NotPrepare}
-use Rattle.ilp_workers.specs.declared.reply.Receipt.{Receipt}
 use Rattle.ilp_workers.specs.declared.closing.Closing.{Closing}
 use Rattle.ilp_workers.specs.declared.closing.Told.{Told}
 use Rattle.ilp_workers.specs.declared.closing.Told.TheVariants.{Passed, Rejected}
@@ -40,26 +36,7 @@ use Rattle.ilp_workers.specs.Links.{Tells, Sending, sending}
 use Rattle.ilp_workers.specs.Rejects.{local_reject, reject_of_fault}
 use Rattle.ilp_workers.specs.Worker.{PlainWorker}
 
--- ---- what comes
-
--- octets that a peer of a desk sent
-pub record Arrival : Type 0 where
-  pub desk : PlainDesk
-  pub from : ℕ
-  pub octets : List ℕ
-
-abbrev pub arrival : PlainDesk → ℕ → List ℕ → Arrival
-arrival desk from octets = record { desk = desk; from = from; octets = octets }
-
-abbrev pub IsNoPrepare : PlainPacket → Type 0
-IsNoPrepare (prepare p) = ⊥
-IsNoPrepare (fulfill f) = ⊤
-IsNoPrepare (reject r) = ⊤
-
--- No packet stands for the octets, and this is their first fault; or one does that is no Prepare.
-abbrev pub IsBad : List ℕ → BadPacket → Type 0
-IsBad octets (Unread fault) = reading octets ≡ Err fault
-IsBad octets NotPrepare = (packet : PlainPacket) × Spells octets packet × IsNoPrepare packet
+-- ---- what is forwarded
 
 -- a Prepare of a peer
 pub record Order : Type 0 where
@@ -231,12 +208,3 @@ abbrev pub IsForwardedBy : Order → PlainWorker → PlainWorker → Option ℕ 
 IsForwardedBy o before after None None = IsRefused o before after
 IsForwardedBy o before after None (Some answer) = ⊥
 IsForwardedBy o before after (Some hold) answer = IsSent o before after hold answer
-
--- ---- whatever is forwarded
-
--- Octets that are no Prepare leave all as it was.
-abbrev pub Forwards : Arrival → PlainWorker → PlainWorker → Result Receipt BadPacket → Type 0
-Forwards a before after (Err fault) = IsBad a.octets fault × (after ≡ before)
-Forwards a before after (Ok receipt) =
-    (packet : PlainPrepare) × Spells a.octets (prepare packet)
-    × IsForwardedBy (order a.desk a.from packet) before after receipt.hold receipt.answer

@@ -5,4 +5,7 @@ pub mod Worker
 pub mod Sweeper
 pub mod Settler
 pub mod Forwarding
+pub mod Crediting
+pub mod Messaging
+pub mod Arrivals
 pub mod Outcome

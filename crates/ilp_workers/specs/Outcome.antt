@@ -16,7 +16,8 @@ use Rattle.ilp_workers.specs.declared.rejects.LocalReject.{LocalReject}
 use Rattle.ilp_workers.specs.declared.rejects.LocalReject.TheVariants as local
 use Rattle.ilp_workers.specs.Rejects.{local_reject}
 use Rattle.ilp_workers.specs.Worker.{PlainWorker}
-use Rattle.ilp_workers.specs.Forwarding.{Arrival, order, record_of_end}
+use Rattle.ilp_workers.specs.Forwarding.{order, record_of_end}
+use Rattle.ilp_workers.specs.Arrivals.{Arrival}
 
 -- The sender is answered a Fulfill whose preimage meets the Prepare's condition. Two entries are booked, and the worker keeps one
 -- more record, of a fulfilled hold.

@@ -2,8 +2,8 @@
 use Rattle.std.specs.Prelude.{ℕ, ℤ, List, Option}
 use Rattle.ilp_desk.specs.declared.record.Record.{Record}
 use Rattle.ilp_desk.specs.Portion.{Portion}
-use Rattle.ilp_workers.specs.declared.closing.Told.{Told}
-use Rattle.ilp_workers.specs.declared.closing.Told.TheVariants.{Passed, Rejected}
+use Rattle.ilp_workers.specs.declared.reply.Buffer.{Buffer}
+use Rattle.ilp_workers.specs.declared.reply.Buffer.TheVariants.{Incoming, Outgoing, Rejected}
 use Rattle.ilp_workers.specs.Links.{Sending, ToEngine}
 
 -- its share, the records of what it booked, what its links tell (the moments of its clock, what peers were handed, and what
@@ -19,7 +19,8 @@ pub record PlainWorker : Type 0 where
 abbrev pub worker : Portion → List Record → Option (List ℤ) → Option (List Sending) → Option (List ToEngine) → List ℕ → PlainWorker
 worker share kept moments sent engine reply = record { share = share; kept = kept; moments = moments; sent = sent; engine = engine; reply = reply }
 
--- the octets of an answer: the peer's own, or those of a Reject of the connector's
-abbrev pub reply_of : Told → List ℕ → List ℕ → List ℕ
-reply_of Passed incoming rejected = incoming
-reply_of (Rejected why) incoming rejected = rejected
+-- the octets of an answer, which stand in one of three buffers
+abbrev pub reply_of : Buffer → List ℕ → List ℕ → List ℕ → List ℕ
+reply_of Incoming incoming outgoing rejected = incoming
+reply_of Outgoing incoming outgoing rejected = outgoing
+reply_of Rejected incoming outgoing rejected = rejected

@@ -12,7 +12,8 @@ ghost use Rattle.ilp_workers.specs.Rejects.{local_reject, longest_local_reject, 
 ghost use Rattle.ilp_workers.specs.Rows.{RejectRows};
 ghost use Rattle.ilp_workers.specs.declared.reply.Receipt.{Receipt};
 ghost use Rattle.ilp_workers.specs.Worker.{PlainWorker};
-ghost use Rattle.ilp_workers.specs.Forwarding.{Arrival, Forwards};
+ghost use Rattle.ilp_workers.specs.Messaging.{IsForEngine};
+ghost use Rattle.ilp_workers.specs.Arrivals.{Arrival, IsForPeers, Forwards};
 ghost use Rattle.ilp_workers.specs.Outcome.{IsFulfilled, IsRejected, IsRefusedAs, standing_refusal};
 
 use crate::rejects::{LONGEST_LOCAL_REJECT, LocalReject};
@@ -35,20 +36,23 @@ pub fn rows()
     ensures { (C : Configuration) → C.settings.address ≡ codes "test.hub" → RejectRows C }
 {}
 
-/// Whoever sends a Prepare is answered a Fulfill exactly where the worker keeps one packet more, and
-/// else a Reject. The premise is that the answer consists of octets, as all that lies in memory does.
+/// Whoever sends a Prepare to another address than `peer.settle` is answered a Fulfill exactly where
+/// the worker keeps one packet more, and else a Reject. The premise is that the answer consists of
+/// octets, as all that lies in memory does.
 pub fn fulfills_are_kept()
     ensures { (a : Arrival) (before after : PlainWorker) (receipt : Receipt)
-        → AreOctets after.reply → Forwards a before after (Ok receipt)
+        → AreOctets after.reply → IsForPeers a → Forwards a before after (Ok receipt)
         → IsFulfilled a before after receipt ⊎ IsRejected before after }
 {}
 
 /// A Prepare of too great an amount, without a route or with one back to its sender is refused as
-/// that, or for want of memory, whatever the time is and whatever the book has.
+/// that, or for want of memory, whatever the time is and whatever the book has, unless it is for the
+/// engine here.
 pub fn standing_refusals_are_told()
     ensures { (a : Arrival) (before after : PlainWorker) (receipt : Receipt)
         (packet : PlainPrepare) (fault : HoldFault)
         → Forwards a before after (Ok receipt) → Spells a.octets (prepare packet)
+        → (¬ IsForEngine packet)
         → standing_refusal a.desk.config (incoming a.desk.config a.from packet) ≡ Some fault
         → IsRefusedAs a.desk after receipt (reject_of_fault packet.amount fault) }
 {}

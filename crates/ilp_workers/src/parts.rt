@@ -14,7 +14,7 @@ ghost use Rattle.ilp_workers.specs.Forwarding.{order, onward, IsReason, IsHoldin
 use crate::closing::{Closing, Told, closing_by};
 use crate::links::{Clock, EngineLink, Uplink};
 use crate::rejects::{LONGEST_LOCAL_REJECT, LocalReject, put_local_reject};
-use crate::reply::Receipt;
+use crate::reply::{Buffer, Receipt};
 use ilp_accounts::Config;
 use ilp_book::{Held, Outcome};
 use ilp_desk::{Desk, End, EndedHold, Ending, Naming, Record, Recorded, Share};
@@ -37,14 +37,14 @@ pub(crate) struct Parts<
     pub(crate) clock: C,
     pub(crate) uplink: U,
     pub(crate) engine: E,
-    // The Prepare that the next peer is handed.
+    // The Prepare that a peer is handed, or the Fulfill of what an engine answered.
     pub(crate) outgoing: Octets<A>,
-    // What comes back for it.
+    // What comes back for it, or from the engine.
     pub(crate) incoming: Octets<A>,
     // The connector's own Reject, for which there is room.
     pub(crate) rejected: Octets<A>,
-    // Which of the two the sender of the last packet is answered with.
-    pub(crate) told: Told,
+    // Which of the three the sender of the last packet is answered with.
+    pub(crate) reply_in: Buffer,
     ghost room: { longest_local_reject ≤ length rejected.octets + rejected.spare },
 }
 
@@ -79,7 +79,8 @@ impl<J: Naming, C: Clock + Drop, U: Uplink + Drop, E: EngineLink + Drop, A: Allo
             → IsTold J.desk.config (Some self.new.incoming.octets) result.told octets
             → IsForwardedBy (order J.desk from (plain_prepare packet.now))
             (worker self.old.share self.old.records.items (C.told self.old.clock) (U.told self.old.uplink)
-            (E.told self.old.engine) (reply_of self.old.told self.old.incoming.octets self.old.rejected.octets))
+            (E.told self.old.engine) (reply_of self.old.reply_in self.old.incoming.octets self.old.outgoing.octets
+            self.old.rejected.octets))
             (worker self.new.share self.new.records.items (C.told self.new.clock) (U.told self.new.uplink)
             (E.told self.new.engine) octets)
             result.receipt.hold result.receipt.answer }
@@ -228,25 +229,31 @@ impl<J: Naming, C: Clock + Drop, U: Uplink + Drop, E: EngineLink + Drop, A: Allo
     // Has the sender answered so.
     pub(crate) fn tell(&mut self, config: &Config, told: Told)
         ensures told { IsTold config.now (Some self.old.incoming.octets) told
-            (reply_of self.new.told self.new.incoming.octets self.new.rejected.octets) }
+            (reply_of self.new.reply_in self.new.incoming.octets self.new.outgoing.octets
+            self.new.rejected.octets) }
         ensures share { self.new.share ≡ self.old.share }
         ensures records { self.new.records ≡ self.old.records }
         ensures clock { self.new.clock ≡ self.old.clock }
         ensures links { (self.new.uplink ≡ self.old.uplink) × (self.new.engine ≡ self.old.engine) }
     {
-        self.told = told;
-        if let Told::Rejected(why) = told {
-            put_local_reject(&mut self.rejected, config, why);
-        }
+        self.reply_in = match told {
+            Told::Passed => Buffer::Incoming,
+            Told::Rejected(why) => {
+                put_local_reject(&mut self.rejected, config, why);
+                Buffer::Rejected
+            }
+        };
     }
 
     // The octets that the sender of the last packet is answered with.
     pub(crate) fn reply(&self) -> &[u8]
-        ensures { result.now ≡ reply_of self.now.told self.now.incoming.octets self.now.rejected.octets }
+        ensures { result.now ≡ reply_of self.now.reply_in self.now.incoming.octets
+            self.now.outgoing.octets self.now.rejected.octets }
     {
-        match self.told {
-            Told::Passed => self.incoming.as_slice(),
-            Told::Rejected(_) => self.rejected.as_slice(),
+        match self.reply_in {
+            Buffer::Incoming => self.incoming.as_slice(),
+            Buffer::Outgoing => self.outgoing.as_slice(),
+            Buffer::Rejected => self.rejected.as_slice(),
         }
     }
 }
@@ -265,7 +272,7 @@ impl<J: Naming, C: Clock + Drop, U: Uplink + Drop, E: EngineLink + Drop> Parts<J
             outgoing: _,
             incoming: _,
             rejected: _,
-            told: _,
+            reply_in: _,
         } = self;
         End::new(share, records)
     }

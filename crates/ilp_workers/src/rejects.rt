@@ -19,23 +19,28 @@ pub(crate) const LONGEST_LOCAL_REJECT: usize = 1067;
 /// Why the connector itself rejects a Prepare, as RFC 0027 names it.
 #[derive(Clone, Copy, Debug, PartialEq, Eq)]
 pub enum LocalReject {
-    /// No route, or no price, leads from the sender to the destination.
+    /// No route, or no price, leads from the sender to the destination, or the sender of a message
+    /// has no settlement engine.
     Unreachable,
-    /// The amount comes to more than a packet carries in the receiver's asset.
+    /// The amount comes to more than a packet carries in the receiver's asset, or that of a message
+    /// isn't 0.
     InvalidAmount,
-    /// The fulfillment that came doesn't meet the condition.
+    /// The fulfillment that came doesn't meet the condition, or a message has another condition
+    /// than every message.
     WrongCondition,
     /// The amount `received` is above `most`, both in units of the sender's asset.
     AmountTooLarge { received: u64, most: u64 },
     /// The connector failed, as where memory is denied.
     InternalError,
-    /// Neither a Fulfill nor a Reject came from the next peer.
+    /// Neither a Fulfill nor a Reject came from the next peer, or no answer that a packet carries
+    /// from the settlement engine.
     PeerUnreachable,
     /// The connector has no room for another hold.
     ConnectorBusy,
     /// The sender may not owe as much, or the holds of an asset would come to too much.
     InsufficientLiquidity,
-    /// The Prepare expired before it was held, or before its answer came.
+    /// The Prepare expired before it was held or its message was handed on, or before its answer
+    /// came.
     TransferTimedOut,
     /// The amount comes to nothing in the receiver's asset.
     InsufficientSourceAmount,

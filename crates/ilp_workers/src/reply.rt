@@ -30,3 +30,14 @@ impl Receipt {
         answer: None,
     };
 }
+
+// Where the octets stand by which the sender of the last packet is answered.
+#[derive(Clone, Copy)]
+pub(crate) enum Buffer {
+    // Where what a peer replied is put.
+    Incoming,
+    // Where packets are written that go out, or that tell what an engine answered.
+    Outgoing,
+    // Where Rejects of the connector's own are written.
+    Rejected,
+}

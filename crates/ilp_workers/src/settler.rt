@@ -1,39 +1,30 @@
 //! The settler: it has the peers' engines settle what is owed to them.
 ghost use Rattle.std.specs.Prelude.{◌≡◌, [], IfOk, IfErr};
+ghost use Rattle.ilp_book.specs.Configured.{IsKnown};
 ghost use Rattle.ilp_desk.specs.Portion.{holding};
-ghost use Rattle.ilp_workers.specs.Settler.{settler};
+ghost use Rattle.ilp_workers.specs.Settler.{settler, no_accounts, Turns};
 
 use crate::links::{Clock, EngineLink};
-use ilp_desk::{End, Naming, Record, Share};
-use ilp_oer::Octets;
+use crate::settling::{LONGEST_KEY, MOST_PEERS, SettlerParts};
+use crate::turn::Turn;
+use ilp_desk::{Desk, End, Naming, Record, Share};
 use std::alloc::{AllocError, Allocator, Global};
 use std::marker::Model;
-
-// The most octets that the key of a settlement has: RUN-NUMBER, where a run has at most 32 and the
-// number of an entry at most 10 digits.
-const LONGEST_KEY: usize = 43;
+use std::sync::Wait;
 
 /// The settler of a desk: its share, the records of what it booked, its clock and its way to the
 /// peers' engines.
 #[derive(Drop)]
 pub struct Settler<J: Naming, C: Clock + Drop, E: EngineLink + Drop, A: Allocator = Global> {
-    share: Share<J>,
-    records: Vec<Record, A>,
-    clock: C,
-    engine: E,
-    // The key of the settlement that an engine is asked for.
-    key: Octets<A>,
+    parts: SettlerParts<J, C, E, A>,
 }
 
 impl<J: Naming, C: Clock + Drop, E: EngineLink + Drop, A: Allocator> Model for Settler<J, C, E, A> {
-    ghost use Rattle.std.specs.Prelude.{◌+◌, ◌≤◌, length};
-    ghost use Rattle.ilp_workers.specs.Settler.{PlainSettler, settler, longest_key};
+    ghost use Rattle.ilp_workers.specs.Settler.{PlainSettler, settler};
 
     ghost Value = { PlainSettler };
 
-    ghost view = { λ s. settler s.share s.records.items (C.told s.clock) (E.told s.engine) };
-
-    ghost invariant = { λ s. longest_key ≤ length s.key.octets + s.key.spare };
+    ghost view = { λ s. settler s.parts.share s.parts.records.items (C.told s.parts.clock) (E.told s.parts.engine) s.parts.accounts };
 }
 
 /// What was given for a settler that there is no memory for, as it was given.
@@ -45,8 +36,9 @@ pub struct NoSettler<J: Naming, C: Clock + Drop, E: EngineLink + Drop> {
 }
 
 impl<J: Naming, C: Clock + Drop, E: EngineLink + Drop, A: Allocator> Settler<J, C, E, A> {
-    /// A settler with this share and these links, which keeps no record yet. Room is made for the
-    /// key of any settlement; where memory for that is denied, all is handed back.
+    /// A settler with this share and these links, which keeps no record yet and knows of no account.
+    /// Room is made for the key of any settlement; where memory for that is denied, all is handed
+    /// back.
     pub fn new(
         alloc: A,
         share: Share<J>,
@@ -55,39 +47,52 @@ impl<J: Naming, C: Clock + Drop, E: EngineLink + Drop, A: Allocator> Settler<J, 
     ) -> Result<Settler<J, C, E, A>, NoSettler<J, C, E>>
     where
         A: Copy,
-        ensures settler { IfOk result (λ s. s ≡ settler share [] (C.told clock) (E.told engine)) }
+        ensures settler { IfOk result (λ s. s ≡ settler share [] (C.told clock) (E.told engine) no_accounts) }
         ensures share { IfErr result (λ e. e.share ≡ share) }
         ensures links { IfErr result (λ e. (e.clock ≡ clock) × (e.engine ≡ engine)) }
     {
-        let mut key = Octets::new(alloc);
-        let Ok(()) = key.reserve(LONGEST_KEY) else {
+        let Ok(key) = String::with_capacity(alloc, LONGEST_KEY) else {
             return Err(NoSettler {
                 share,
                 clock,
                 engine,
             });
         };
-        Ok(Settler {
+        let parts = SettlerParts {
             share,
             records: Vec::new(alloc),
             clock,
             engine,
             key,
-        })
+            accounts: [false; MOST_PEERS],
+        };
+        Ok(Settler { parts })
     }
 
     /// The settler's share of the desk.
     pub fn share(&self) -> &Share<J>
         ensures { result.now ≡ self.now.share }
     {
-        &self.share
+        &self.parts.share
     }
 
     /// The records of what it booked, in order.
     pub fn records(&self) -> &[Record]
         ensures { result.now ≡ self.now.kept }
     {
-        self.records.as_slice()
+        self.parts.records.as_slice()
+    }
+
+    /// Has a peer's engine settle what is due to the peer (RFC 0038), or what is still open. Once the
+    /// engine said that it has an account of the peer, the settlement is booked, or the open one is
+    /// taken up; the engine is asked for it under the key `RUN-NUMBER`, while no lock is held; and
+    /// what it said is booked. The error is want of memory, which is denied before the engine is
+    /// asked; nothing is booked then, and that the engine has the account is kept.
+    pub fn turn(&mut self, rt: &impl Wait, desk: &Desk<J>, peer: u32) -> Result<Turn, AllocError>
+        requires known { IsKnown J.desk.config peer }
+        ensures { Turns J.desk peer self.old self.new result }
+    {
+        self.parts.turn(rt, desk, peer)
     }
 }
 
@@ -96,7 +101,7 @@ impl<J: Naming, C: Clock + Drop, E: EngineLink + Drop> Settler<J, C, E> {
     pub fn into_end(self) -> End<J>
         ensures { result ≡ holding self.share self.kept }
     {
-        let Settler { share, records, .. } = self;
-        End::new(share, records)
+        let Settler { parts } = self;
+        parts.into_end()
     }
 }

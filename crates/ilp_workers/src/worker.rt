@@ -1,19 +1,25 @@
 //! A worker: it forwards packets, one at a time.
-ghost use Rattle.std.specs.Prelude.{◌≡◌, [], IfOk, IfErr};
+ghost use Rattle.std.specs.Prelude.{◌≡◌, [], Some, unwrap_or, IfOk, IfErr};
 ghost use Rattle.ilp_book.specs.Configured.{IsKnown};
+ghost use Rattle.ilp_book.specs.SettleStep.{payment};
 ghost use Rattle.ilp_packet.specs.Packet.{plain_prepare, prepare, Spells};
 ghost use Rattle.ilp_desk.specs.Portion.{holding};
 ghost use Rattle.ilp_workers.specs.Worker.{worker};
-ghost use Rattle.ilp_workers.specs.Forwarding.{arrival, IsBad, Forwards};
+ghost use Rattle.ilp_workers.specs.Crediting.{Credits};
+ghost use Rattle.ilp_workers.specs.Messaging.{answer_of, Messages};
+ghost use Rattle.ilp_workers.specs.Arrivals.{arrival, IsBad, Forwards};
 
-use crate::closing::Told;
 use crate::links::{Clock, EngineLink, Uplink};
+use crate::messaging::{MessageFault, answer_in, is_for_engine};
 use crate::parts::Parts;
 use crate::rejects::LONGEST_LOCAL_REJECT;
-use crate::reply::{BadPacket, Receipt};
+use crate::reply::{BadPacket, Buffer, Receipt};
+use ilp_book::{CreditFault, Kept};
 use ilp_desk::{Desk, End, Naming, Record, Share};
+use ilp_journal::Key;
 use ilp_oer::Octets;
 use ilp_packet::{Packet, Prepare};
+use ilp_settlement::Quantity;
 use std::alloc::{AllocError, Allocator, Global};
 use std::marker::Model;
 use std::sync::Wait;
@@ -36,7 +42,7 @@ impl<J: Naming, C: Clock + Drop, U: Uplink + Drop, E: EngineLink + Drop, A: Allo
 
     ghost Value = { PlainWorker };
 
-    ghost view = { λ w. worker w.parts.share w.parts.records.items (C.told w.parts.clock) (U.told w.parts.uplink) (E.told w.parts.engine) (reply_of w.parts.told w.parts.incoming.octets w.parts.rejected.octets) };
+    ghost view = { λ w. worker w.parts.share w.parts.records.items (C.told w.parts.clock) (U.told w.parts.uplink) (E.told w.parts.engine) (reply_of w.parts.reply_in w.parts.incoming.octets w.parts.outgoing.octets w.parts.rejected.octets) };
 }
 
 /// What was given for a worker that there is no memory for, as it was given.
@@ -88,7 +94,7 @@ impl<J: Naming, C: Clock + Drop, U: Uplink + Drop, E: EngineLink + Drop, A: Allo
             outgoing: Octets::new(alloc),
             incoming: Octets::new(alloc),
             rejected,
-            told: Told::Passed,
+            reply_in: Buffer::Incoming,
         };
         Ok(Worker { parts })
     }
@@ -107,8 +113,9 @@ impl<J: Naming, C: Clock + Drop, U: Uplink + Drop, E: EngineLink + Drop, A: Allo
         self.parts.records.as_slice()
     }
 
-    /// The octets of the Fulfill or the Reject that the sender of the last packet is answered with;
-    /// none before the first.
+    /// The octets of the Fulfill or the Reject that the sender of the last packet is answered with,
+    /// or by which a peer answered the last message; none before the first, and none after a message
+    /// that was sent or was to be and has no answer.
     pub fn reply(&self) -> &[u8]
         ensures { result.now ≡ self.now.reply }
     {
@@ -120,6 +127,10 @@ impl<J: Naming, C: Clock + Drop, U: Uplink + Drop, E: EngineLink + Drop, A: Allo
     /// destination's route, and what that peer replies is booked and passed on in its own octets.
     /// Whatever keeps the Prepare from that is a Reject of the connector's own. No lock is held while
     /// the peer is asked. Octets that are no Prepare are refused, and leave all as it was.
+    ///
+    /// A Prepare to `peer.settle` carries a message of the peer's settlement engine (RFC 0038), and
+    /// books nothing. The engine here is handed its data, and the answer is a Fulfill of 32 zero
+    /// octets with what the engine answers.
     pub fn forward(
         &mut self,
         rt: &impl Wait,
@@ -134,9 +145,49 @@ impl<J: Naming, C: Clock + Drop, U: Uplink + Drop, E: EngineLink + Drop, A: Allo
             Ok(prepare) => prepare,
             Err(fault) => return Err(fault),
         };
+        if is_for_engine(&prepare) {
+            self.parts.hand_over(desk.config(), from, &prepare);
+            return Ok(Receipt::NONE);
+        }
         let passed = self.parts.pass_on(rt, desk, from, &prepare, octets.len());
         self.parts.tell(desk.config(), passed.told);
         Ok(passed.receipt)
+    }
+
+    /// Credits a settlement that a peer's engine tells of (RFC 0038), once for each of the peer's
+    /// keys, by `Book::credit`; room for its record is made first. A refusal books nothing and leaves
+    /// share and records as they were: `TooLarge` comes before anything else, and `Memory` may come
+    /// in place of any later one.
+    pub fn credit(
+        &mut self,
+        rt: &impl Wait,
+        desk: &Desk<J>,
+        peer: u32,
+        key: Key,
+        quantity: &Quantity,
+    ) -> Result<Kept, CreditFault>
+        requires known { IsKnown J.desk.config peer }
+        ensures { Credits J.desk (payment peer key quantity.now) self.old self.new result }
+    {
+        self.parts.credit(rt, desk, peer, key, quantity)
+    }
+
+    /// Sends a message of the settlement engine here to that of a peer (RFC 0038): a Prepare of
+    /// amount 0 to `peer.settle`, which expires after the longest hold and books nothing. After an
+    /// `Ok`, `answer` has what the peer's engine answered. A message of more than 32,767 octets is
+    /// refused, and leaves all as it was.
+    pub fn message(&mut self, desk: &Desk<J>, peer: u32, octets: &[u8]) -> Result<(), MessageFault>
+        ensures { Messages J.desk.config peer octets.now self.old self.new result }
+    {
+        self.parts.send_message(desk.config(), peer, octets)
+    }
+
+    /// What the peer's engine answered to the last message: the data of the Fulfill of 32 zero
+    /// octets that `reply` has; none where it has no such Fulfill.
+    pub fn answer(&self) -> &[u8]
+        ensures { result.now ≡ unwrap_or (answer_of (Some self.now.reply)) [] }
+    {
+        answer_in(self.parts.reply()).unwrap_or(&[])
     }
 }
 

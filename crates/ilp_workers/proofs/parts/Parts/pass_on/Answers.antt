@@ -27,7 +27,7 @@ pub returns : goal.returns
 returns g c octets told =
     let old = c.args.self.now in
     let new = c.end-ended.new.self in
-    let before = worker old.share old.records.items (g.C.Clock.told old.clock) (g.U.Uplink.told old.uplink) (g.E.EngineLink.told old.engine) (reply_of old.told old.incoming.octets old.rejected.octets) in
+    let before = worker old.share old.records.items (g.C.Clock.told old.clock) (g.U.Uplink.told old.uplink) (g.E.EngineLink.told old.engine) (reply_of old.reply_in old.incoming.octets old.outgoing.octets old.rejected.octets) in
     let after = worker new.share new.records.items (g.C.Clock.told new.clock) (g.U.Uplink.told new.uplink) (g.E.EngineLink.told new.engine) octets in
     let held = c.hold.new.self in
     let asked = c.ask-closing.new.self in

@@ -1,0 +1,27 @@
+use Rattle.std.proofs.Common.{subst, to_z, of_z}
+use Rattle.std.specs.Int.{w64}
+use Rattle.ilp_book.specs.Book.{by}
+use Rattle.ilp_book.specs.SettleStep.{ask_growth, ask_step}
+use Rattle.ilp_desk.specs.Session.{IsSession}
+use Rattle.ilp_desk.proofs.Callers.{ask_by}
+use Rattle.ilp_desk.proofs.Sessions.{LeavesAll, after_session}
+use Rattle.ilp_desk.proofs.locked.LockedBook.ask.Given as given
+use Rattle.ilp_desk.proofs.locked.LockedBook.ask.Goals as goal
+
+-- the step is the share's actor's
+leaves : (g : given.Over) (c : goal.After-count g) → LeavesAll g.J.Naming.desk g.J.Ledger.parts c.self.inside.workers c.count.new.total.total c.self.inside.book c.ask-result.new.self c.args.share.now c.count.new.self
+leaves g c =
+    let old = c.self.inside.book in
+    let caller = by c.actor.result (to_z w64 (of_z w64 c.args.now)) in
+    let step = c.ask-result.ensures in
+    after_session g.J.Naming.desk g.J.Ledger.parts c.self.inside.workers c.self.inside.total.total c.count.new.total.total c.len-before.result c.len.result c.actor.result
+    old c.ask-result.new.self c.args.share.now c.count.new.self c.ask-result.result (ask_step old caller c.args.peer (ask_growth c.ask-result.result))
+    c.self.invariant step.step step.lawful c.actor.ensures.known (ask_by old caller c.args.peer (ask_growth c.ask-result.result))
+    c.len-before.ensures c.len.ensures c.count.ensures.total c.count.ensures.share
+
+pub invariant_of-self : goal.invariant_of-self
+invariant_of-self g c = (leaves g c).0
+
+pub returns-clause-session : goal.returns-clause-session
+returns-clause-session g c =
+    subst (λ b. IsSession g.J.Naming.desk b c.ask-result.new.self c.args.share.now c.count.new.self) c.self.view_is (leaves g c).1

@@ -1,0 +1,164 @@
+-- What a worker learns of a credit: how many entries it booked, and what amount it answers.
+use Rattle.std.proofs.Common.{◌≡◌, ◌≢◌, ℕ, ◌≤◌, ℤ, Bool, true, false, cond, List, [], ◌∷◌, ◌++◌, length, Option, Some, None, refl, sym, ap, ◌∙◌, subst, arith}
+use Rattle.std.specs.Prelude.{◌<◌, ◌^◌, Result, Ok, Err, slice_get, nat_lt, ◌==◌, ◌&&◌, not, option_and_then, option_map, unwrap_or, IfOk}
+use Rattle.std.specs.Str.{bytes_eq}
+use Rattle.std.proofs.lemmas.Bool.{eqb-true, le-ltb}
+use Rattle.ilp_assets.specs.Quote.{most}
+use Rattle.ilp_settlement.specs.declared.quantity.Quantity.{Quantity}
+use Rattle.ilp_settlement.specs.Quantity.{credited_at}
+use Rattle.ilp_accounts.specs.Configuration.{Configuration}
+use Rattle.ilp_journal.specs.declared.entry.Entry.{Entry}
+use Rattle.ilp_journal.specs.declared.entry.What.{What}
+use Rattle.ilp_journal.specs.declared.entry.What.TheVariants as what
+use Rattle.ilp_journal.specs.declared.entry.Credited.{Credited}
+use Rattle.ilp_journal.specs.Places.{Each}
+use Rattle.ilp_journal.specs.Journal.{Entries}
+use Rattle.ilp_journal.proofs.Sums.{by_push, Each-parts}
+use Rattle.ilp_journal.proofs.Naming.{stands_at-push}
+use Rattle.ilp_order.specs.Refusals.{◌>>=◌, refuse_if}
+use Rattle.ilp_order.proofs.RefusalLemmas.{some_same}
+use Rattle.ilp_book.specs.declared.calls.Kept.{Kept}
+use Rattle.ilp_book.specs.declared.fault.CreditFault.{CreditFault}
+use Rattle.ilp_book.specs.declared.fault.CreditFault.TheVariants as credit_fault
+use Rattle.ilp_book.specs.Configured.{scale_at}
+use Rattle.ilp_book.specs.Book.{PlainBook, By, by, Growth, granted, denied, Made, Does, has_room}
+use Rattle.ilp_book.specs.Open.{as_credit, credit_at, has_key, kept_at}
+use Rattle.ilp_book.specs.Lawful.{IsLawful, IsCredit, IsGoodCredit, quantity_named}
+use Rattle.ilp_book.specs.SettleStep.{kept, credit_kept, Payment, amount_of, credit_of, credit_fresh, credit_checked, credit_growth, credit_booked, credit_step}
+use Rattle.ilp_book.proofs.OpenAsks.{first_found}
+use Rattle.ilp_desk.specs.Desk.{PlainDesk}
+use Rattle.ilp_desk.specs.Portion.{Holding}
+use Rattle.ilp_workers.specs.Links.{Tells}
+use Rattle.ilp_workers.specs.Crediting.{IsCreditedAt, kept_of, IsCredited}
+use Rattle.ilp_workers.proofs.Sessions.{raised_by, count_in, booked_more}
+
+-- ---- credits of a lawful journal
+
+-- a credit has its quantity at the scale of its peer's balance
+abbrev IsRounded : Configuration → Credited → Type 0
+IsRounded C c = c.credited ≡ credited_at (quantity_named c) (scale_at C c.peer)
+
+rounded : (C : Configuration) (j : Entries) (w : What) (c : Credited) → as_credit w ≡ Some c → IsCredit C j w → IsRounded C c
+rounded C j (what.Hold h) c is good = absurd cc
+rounded C j (what.Fulfilled hold preimage) c is good = absurd cc
+rounded C j (what.Released hold cause) c is good = absurd cc
+rounded C j (what.Credited d) c is good = subst (IsRounded C) (some_same d c is) good.rounded
+rounded C j (what.Asked a) c is good = absurd cc
+rounded C j (what.Confirmed ask) c is good = absurd cc
+rounded C j (what.Undone ask) c is good = absurd cc
+
+-- whichever it is
+all_rounded : (C : Configuration) (j : Entries) → Each (IsGoodCredit C) j → (n : ℕ) (c : Credited) → credit_at j n ≡ Some c → IsRounded C c
+all_rounded C = by_push (λ j. Each (IsGoodCredit C) j → (n : ℕ) (c : Credited) → credit_at j n ≡ Some c → IsRounded C c) (λ _ n c at. absurd cc) more
+  where
+    more : (j : Entries) (e : Entry) → (Each (IsGoodCredit C) j → (n : ℕ) (c : Credited) → credit_at j n ≡ Some c → IsRounded C c)
+        → Each (IsGoodCredit C) (j ++ e ∷ []) → (n : ℕ) (c : Credited) → credit_at (j ++ e ∷ []) n ≡ Some c → IsRounded C c
+    more j e before each n c at =
+        let parts : Each (IsGoodCredit C) j × IsGoodCredit C j e = Each-parts (IsGoodCredit C) j e each in
+        of (n == length j) (sym (stands_at-push as_credit j e n) ∙ at) parts
+      where
+        of : (last : Bool) → cond last (as_credit e.what) (credit_at j n) ≡ Some c → Each (IsGoodCredit C) j × IsGoodCredit C j e → IsRounded C c
+        of true at parts = rounded C j e.what c at parts.1
+        of false at parts = before parts.0 n c at
+
+-- the credit that is kept under a peer's key is the peer's
+kept_is_its : (j : Entries) (peer : ℕ) (key : List ℕ) (n : ℕ) (c : Credited) → kept j peer key ≡ Some (n, c) → (credit_at j n ≡ Some c) × (c.peer ≡ peer)
+kept_is_its j peer key n c e = of (kept_at j peer key) refl e
+  where
+    its : (w : What) → as_credit w ≡ Some c → has_key peer key w ≡ true → c.peer ≡ peer
+    its w is has = eqb-true c.peer peer (first (c.peer == peer) (bytes_eq c.key key) (sym (ap (λ o. unwrap_or (option_map (λ (d : Credited). (d.peer == peer) && bytes_eq d.key key) o) false) is) ∙ has))
+      where
+        first : (a b : Bool) → (a && b) ≡ true → a ≡ true
+        first true b e = refl
+        first false b e = cc
+
+    numbered : (k : ℕ) (o : Option Credited) → option_map {U = ℕ × Credited} (λ (d : Credited). (k, d)) o ≡ Some (n, c) → (k ≡ n) × (o ≡ Some c)
+    numbered k None e = absurd cc
+    numbered k (Some d) e = let same = some_same (k, d) (n, c) e in (ap (λ x. x.0) same, ap (λ x. Some x.1) same)
+
+    of : (o : Option ℕ) → kept_at j peer key ≡ o → option_and_then {U = ℕ × Credited} (λ k. option_map (λ (d : Credited). (k, d)) (credit_at j k)) o ≡ Some (n, c) → (credit_at j n ≡ Some c) × (c.peer ≡ peer)
+    of None is e = absurd cc
+    of (Some k) is e =
+        let named = numbered k (credit_at j k) e in
+        let f = first_found (λ _ (x : Entry). has_key peer key x.what) 0 k j is in
+        let place : f.0 ≡ k = omega (arith, f.2) in
+        let stands : slice_get j k ≡ Some f.1 = subst (λ i. slice_get j i ≡ Some f.1) place f.3 in
+        let credit : as_credit f.1.what ≡ Some c = sym (ap (option_and_then (λ (x : Entry). as_credit x.what)) stands) ∙ named.1 in
+        (subst (λ i. credit_at j i ≡ Some c) named.0 named.1, its f.1.what credit f.4)
+
+-- ---- steps
+
+-- A step of a payment makes as many entries as are kept of its reply, answers what the payment comes to, and refuses none as too
+-- large that isn't.
+record IsCreditStep (C : Configuration) (p : Payment) (made : Made (Result Kept CreditFault)) : Type 0 where
+  pub counted : count_in made.entry ≡ length (kept_of p made.reply)
+  pub amount : IfOk made.reply (λ told. told.amount ≡ amount_of C p)
+  pub allowed : made.reply ≢ Err credit_fault.TooLarge
+
+-- a credit that is kept is answered as it was
+by_kept : (book : PlainBook) (caller : By) (p : Payment) (growth : Growth) (n : ℕ) (c : Credited) → IsLawful book → kept book.entries p.peer p.key ≡ Some (n, c)
+    → IsCreditStep book.config p (credit_booked book caller growth (Err (credit_kept p.quantity (n, c))))
+by_kept book caller p growth n c lawful is = of (c.named == p.quantity.amount) (c.scale == p.quantity.scale) refl refl
+  where
+    its : (credit_at book.entries n ≡ Some c) × (c.peer ≡ p.peer)
+    its = kept_is_its book.entries p.peer p.key n c is
+
+    amount : c.named ≡ p.quantity.amount → c.scale ≡ p.quantity.scale → c.credited ≡ amount_of book.config p
+    amount named scale =
+        all_rounded book.config book.entries lawful.credits n c its.0
+        ∙ (ap (λ a. credited_at (record { amount = a; scale = c.scale }) (scale_at book.config c.peer)) named
+        ∙ (ap (λ s. credited_at (record { amount = p.quantity.amount; scale = s }) (scale_at book.config c.peer)) scale
+        ∙ ap (λ x. credited_at p.quantity (scale_at book.config x)) its.1))
+
+    of : (a b : Bool) → (c.named == p.quantity.amount) ≡ a → (c.scale == p.quantity.scale) ≡ b
+        → IsCreditStep book.config p (credit_booked book caller growth (Err (cond (a && b) (Ok (record { number = n; amount = c.credited; fresh = false })) (Err (credit_fault.KeyTaken n)))))
+    of true true named scale = record { counted = refl; amount = amount (eqb-true _ _ named) (eqb-true _ _ scale); allowed = λ e. cc }
+    of true false named scale = record { counted = refl; amount = tt; allowed = λ e. cc }
+    of false b named scale = record { counted = refl; amount = tt; allowed = λ e. cc }
+
+-- a new one is booked, if there is room and memory for it
+by_fitted : (book : PlainBook) (caller : By) (p : Payment) (growth : Growth) (room : Bool) → IsCreditStep book.config p (credit_booked book caller growth (refuse_if (not room) (Err credit_fault.Full) >>= λ _. Ok (credit_of book.config p)))
+by_fitted book caller p growth false = record { counted = refl; amount = tt; allowed = λ e. cc }
+by_fitted book caller p denied true = record { counted = refl; amount = tt; allowed = λ e. cc }
+by_fitted book caller p granted true = record { counted = refl; amount = refl; allowed = λ e. cc }
+
+credit_step_is : (book : PlainBook) (caller : By) (p : Payment) (growth : Growth) → IsLawful book → amount_of book.config p ≤ most → IsCreditStep book.config p (credit_step book caller p growth)
+unfolding credit_step credit_checked
+credit_step_is book caller p growth lawful fits =
+    let Step : Bool → Option (ℕ × Credited) → Type 0 = λ large o.
+    IsCreditStep book.config p (credit_booked book caller growth (refuse_if large (Err credit_fault.TooLarge) >>= λ _. credit_fresh book p o)) in
+    let small : nat_lt most (amount_of book.config p) ≡ false = le-ltb most (amount_of book.config p) fits in
+    subst (λ b. Step b (kept book.entries p.peer p.key)) (sym small) (of (kept book.entries p.peer p.key) refl)
+  where
+    of : (o : Option (ℕ × Credited)) → kept book.entries p.peer p.key ≡ o → IsCreditStep book.config p (credit_booked book caller growth (credit_fresh book p o))
+    of None is = by_fitted book caller p growth (has_room book 1)
+    of (Some x) is = by_kept book caller p growth x.0 x.1 lawful is
+
+-- ---- sessions
+
+-- A session with a payment that is not too large, at a moment that the clock gave, and what is kept of it.
+pub credited_by : (desk : PlainDesk) (p : Payment) (moments moments' : Option (List ℤ)) (before after : Holding) (now : ℤ) (reply : Result Kept CreditFault)
+    → amount_of desk.config p ≤ most → Tells moments now moments' → IsCreditedAt desk p now before.share after.share reply
+    → after.kept ≡ before.kept ++ kept_of p reply → IsCredited desk p moments moments' before after reply
+credited_by desk p moments moments' before after now reply fits asked at is =
+    let old = at.0 in
+    let made = credit_step old (by before.share.actor now) p (credit_growth reply) in
+    let does : Does old at.1 reply made = at.3 in
+    let small : amount_of old.config p ≤ most = subst (λ C. amount_of C p ≤ most) (sym at.2.found.config) fits in
+    let step = credit_step_is old (by before.share.actor now) p (credit_growth reply) at.2.found.lawful small in
+    record {
+      fits = fits;
+      now = now;
+      asked = asked;
+      booked = at;
+      raised = raised_by desk old at.1 before.share after.share (length (kept_of p reply)) at.2
+          (booked_more old at.1 reply made (length (kept_of p reply)) does (step.counted ∙ ap (λ r. length (kept_of p r)) (sym does.reply)));
+      kept = is;
+      amount = subst (λ r. IfOk r (λ told. told.amount ≡ amount_of desk.config p)) (sym does.reply) (subst (λ C. IfOk made.reply (λ told. told.amount ≡ amount_of C p)) at.2.found.config step.amount);
+      allowed = λ e. step.allowed (sym does.reply ∙ e);
+    }
+
+-- a payment whose amount is told at the scale of its peer's balance is not too large
+pub small : (config desk : Configuration) (q : Quantity) (peer scale : ℕ) → config ≡ desk → scale ≡ scale_at config peer → credited_at q scale < 2 ^ 64 → credited_at q (scale_at desk peer) ≤ most
+small config desk q peer scale same is fits =
+    subst (λ s. credited_at q s ≤ most) (is ∙ ap (λ C. scale_at C peer) same) (omega (arith, fits))

@@ -1,0 +1,75 @@
+-- The packets of messages between engines are within their limits, and what comes for one is an answer or none.
+use Rattle.std.proofs.Common.{◌≡◌, ℕ, ◌+◌, ◌≤◌, ℤ, true, false, List, length, Option, Some, None, refl, sym, arith, lit<, rules, subst}
+use Rattle.std.specs.Prelude.{Result, Ok, Err, is_some, IsSome}
+use Rattle.std.proofs.lemmas.Bool.Decides.{nat_tests}
+use Rattle.ilp_oer.specs.OctetString as oer
+use Rattle.ilp_terms.specs.Expiry.{IsMoment}
+use Rattle.ilp_packet.specs.Address.{is_scheme, is_address}
+use Rattle.ilp_packet.specs.Packet.{most_payload, prepare, fulfill, IsPrepare, IsFulfill, Spells}
+use Rattle.ilp_packet.specs.Writing.{size}
+use Rattle.ilp_packet.proofs.AddressLemmas.{address_from_test}
+use Rattle.ilp_packet.proofs.ContentLemmas.{length-fulfill}
+use Rattle.ilp_packet.proofs.WritingLemmas.{size_by_content}
+use Rattle.ilp_accounts.specs.Configuration.{Configuration}
+use Rattle.ilp_workers.specs.declared.links.LinkFault.{LinkFault}
+use Rattle.ilp_workers.specs.Links.{Tells, Sending, sending, came_of}
+use Rattle.ilp_workers.specs.Messaging.{settle_address, message_prepare, message_expiry, zero_fulfill, longest_fulfill, answer_of, IsPassedOn}
+
+-- ---- packets
+
+-- messages go to an address
+settle_address_is : is_address settle_address ≡ true
+unfolding is_address is_scheme
+settle_address_is = refl
+
+-- the Prepare of a message is within its limits
+pub message_fits : (expires : ℤ) (octets : List ℕ) → IsMoment expires → length octets ≤ most_payload → IsPrepare (message_prepare expires octets)
+message_fits expires octets moment within = record {
+  amount = lit< tt;
+  expires = moment;
+  condition = refl;
+  destination = address_from_test settle_address settle_address_is;
+  payload = within;
+}
+
+-- the Fulfill of an answer is within its limits
+pub answer_fits : (octets : List ℕ) → length octets ≤ most_payload → IsFulfill (zero_fulfill octets)
+answer_fits octets within = record { preimage = refl; payload = within }
+
+-- and not longer than the longest
+pub answer_is_short : (octets : List ℕ) → length octets ≤ most_payload → size (fulfill (zero_fulfill octets)) ≤ longest_fulfill
+answer_is_short octets within =
+    let n : ℕ = 32 + (length (oer.prefix (length octets)) + length octets) in
+    let whole = size_by_content (fulfill (zero_fulfill octets)) n (sym (length-fulfill (zero_fulfill octets) refl)) in
+    let first : length (oer.prefix n) ≤ 3 = grind (arith, nat_tests) in
+    let second : length (oer.prefix (length octets)) ≤ 3 = grind (arith, nat_tests) in
+    omega arith
+
+-- ---- what comes for a message
+
+-- a test for a value tells that there is one
+some_is : (answer : Option (List ℕ)) → is_some answer ≡ true → IsSome answer
+some_is None is = absurd cc
+some_is (Some x) is = search rules
+
+-- what is an answer came
+pub answer_came : (came : Result (Unit {0}) LinkFault) (reply : List ℕ) → is_some (answer_of (came_of came reply)) ≡ true → (came_of came reply ≡ Some reply) × IsSome (answer_of (Some reply))
+answer_came (Ok x) reply is = (refl, some_is (answer_of (Some reply)) is)
+answer_came (Err fault) reply is = absurd cc
+
+-- what is no answer has none
+pub no_answer_came : (answer : Option (List ℕ)) → is_some answer ≡ false → answer ≡ None
+no_answer_came None is = refl
+no_answer_came (Some x) is = absurd cc
+
+-- ---- what the peer is handed
+
+-- octets that were written for a message, and handed to the peer with the deadline that they name
+pub passed_on : (C : Configuration) (peer : ℕ) (octets packet handed : List ℕ) (now expires : ℤ) (sent sent' : Option (List Sending)) (came : Option (List ℕ))
+    → expires ≡ message_expiry C now → Spells packet (prepare (message_prepare expires octets)) → handed ≡ packet → Tells sent (sending peer handed expires came) sent'
+    → IsPassedOn C peer octets now sent sent' came
+passed_on C peer octets packet handed now expires sent sent' came is spelled same tells = record {
+  packet = packet;
+  spelled = subst (λ e. Spells packet (prepare (message_prepare e octets))) is spelled;
+  handed = subst (λ e. Tells sent (sending peer packet e came) sent') is (subst (λ p. Tells sent (sending peer p expires came) sent') same tells);
+}

@@ -1,0 +1,16 @@
+use Rattle.std.proofs.Common.{subst, rules}
+use Rattle.std.specs.Prelude.{FitsSigned}
+use Rattle.std.specs.Int.{w64}
+use Rattle.std.proofs.lemmas.Int.{to_z-of_z}
+use Rattle.ilp_workers.specs.Settler.{IsAskedAt}
+use Rattle.ilp_workers.proofs.SettleSessions.{asking_by}
+use Rattle.ilp_workers.proofs.settling.SettlerParts.ask.Goals as goal
+
+pub returns-clause-asked : goal.returns-clause-asked
+returns-clause-asked g c =
+    let desk = g.J.Naming.desk in
+    let now = c.now-now.result in
+    let fits : FitsSigned w64 now = search rules in
+    let at : IsAskedAt desk c.args.peer now c.args.self.now.share c.ask.new.share c.ask.result =
+    subst (λ t. IsAskedAt desk c.args.peer t c.args.self.now.share c.ask.new.share c.ask.result) (to_z-of_z w64 now fits) c.ask.ensures in
+    asking_by desk c.args.peer _ _ c.args.self.now.share c.ask.new.share now c.ask.result c.now-now.ensures at

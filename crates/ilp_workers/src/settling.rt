@@ -1,0 +1,213 @@
+//! Of what a settler consists, and how it has a peer's engine settle.
+ghost use Rattle.std.specs.Prelude.{◌≡◌, ◌<◌, ◌≤◌, [], ◌++◌, Ok, true, false, slice_get, length, OnOk, OnErr, codes, vec_len, vec_capacity, string_bytes, string_len, string_capacity};
+ghost use Rattle.ilp_book.specs.Configured.{IsKnown};
+ghost use Rattle.ilp_desk.specs.Portion.{holding};
+ghost use Rattle.ilp_workers.specs.declared.links.EngineReply.{EngineReply};
+ghost use Rattle.ilp_workers.specs.Links.{Tells};
+ghost use Rattle.ilp_workers.specs.Settler.{settler, longest_key, key_text, with_account, IsAsking, settlement_told, verdict_by, IsClosing, ClosesBy, record_of_close, Turns};
+
+use crate::links::{Clock, EngineLink, EngineReply};
+use crate::turn::Turn;
+use ilp_accounts::Config;
+use ilp_book::{AskFault, Asked};
+use ilp_desk::{Desk, End, Naming, Record, Recorded, Share};
+use itoa::Buffer;
+use std::alloc::{AllocError, Allocator, Global};
+use std::sync::Wait;
+
+// The most octets that the key of a settlement has: RUN-NUMBER, where a run has at most 32 and the
+// number of an entry at most 10 digits.
+pub(crate) const LONGEST_KEY: usize = 43;
+
+// The most peers that a desk has.
+pub(crate) const MOST_PEERS: usize = 256;
+
+// What a settler has: its share and its records, its links, and room for a key.
+#[derive(Drop)]
+pub(crate) struct SettlerParts<J: Naming, C: Clock + Drop, E: EngineLink + Drop, A: Allocator> {
+    pub(crate) share: Share<J>,
+    pub(crate) records: Vec<Record, A>,
+    pub(crate) clock: C,
+    pub(crate) engine: E,
+    // The key of the settlement that an engine is asked for.
+    pub(crate) key: String<A>,
+    // By peers' places: whether the engine said that it has the account.
+    pub(crate) accounts: [bool; MOST_PEERS],
+    ghost room: { longest_key ≤ string_capacity key },
+}
+
+impl<J: Naming, C: Clock + Drop, E: EngineLink + Drop, A: Allocator> SettlerParts<J, C, E, A> {
+    // A turn for a peer. Room for a record is made before a book is asked.
+    pub(crate) fn turn(
+        &mut self,
+        rt: &impl Wait,
+        desk: &Desk<J>,
+        peer: u32,
+    ) -> Result<Turn, AllocError>
+        requires known { IsKnown J.desk.config peer }
+        ensures { Turns J.desk peer
+            (settler self.old.share self.old.records.items (C.told self.old.clock)
+            (E.told self.old.engine) self.old.accounts)
+            (settler self.new.share self.new.records.items (C.told self.new.clock)
+            (E.told self.new.engine) self.new.accounts)
+            result }
+    {
+        if !self.has_account(desk.config(), peer) {
+            return Ok(Turn::NoAccount);
+        }
+        let Ok(()) = self.records.reserve(1) else {
+            return Err(AllocError);
+        };
+        match self.ask(rt, desk, peer) {
+            Ok(asked) => Ok(self.carry_out(rt, desk, peer, asked)),
+            Err(AskFault::StillOpen { number, amount }) => {
+                let asked = Asked { number, amount };
+                Ok(self.carry_out(rt, desk, peer, asked))
+            }
+            Err(AskFault::NotDue { balance }) => Ok(Turn::Idle(AskFault::NotDue { balance })),
+            Err(AskFault::Full) => Ok(Turn::Idle(AskFault::Full)),
+            Err(AskFault::Memory) => Err(AllocError),
+        }
+    }
+
+    // Whether the peer's engine has the account, by what it said before or says now.
+    fn has_account(&mut self, config: &Config, peer: u32) -> bool
+        requires known { IsKnown config.now peer }
+        ensures no { result ≡ false → slice_get self.old.accounts peer ≡ Some false }
+        ensures stays { result ≡ false → self.new.accounts ≡ self.old.accounts }
+        ensures yes { result ≡ true → self.new.accounts ≡ with_account self.old.accounts peer }
+        ensures told { E.told self.new.engine ≡ E.told self.old.engine }
+        ensures books { (self.new.share ≡ self.old.share) × (self.new.records ≡ self.old.records)
+            × (self.new.clock ≡ self.old.clock) }
+    {
+        // Called for what its contract tells: there are at most as many peers as flags.
+        let _ = config.peers();
+        let place = peer as usize;
+        if !self.accounts[place] {
+            if !self.engine.account(peer) {
+                return false;
+            }
+            self.accounts[place] = true;
+        }
+        true
+    }
+
+    // Asks the desk for a settlement to the peer, at the clock's moment.
+    fn ask(&mut self, rt: &impl Wait, desk: &Desk<J>, peer: u32) -> Result<Asked, AskFault>
+        requires known { IsKnown J.desk.config peer }
+        ensures asked { IsAsking J.desk peer (C.told self.old.clock) (C.told self.new.clock)
+            self.old.share self.new.share result }
+        ensures records { self.new.records ≡ self.old.records }
+        ensures accounts { self.new.accounts ≡ self.old.accounts }
+        ensures engine { self.new.engine ≡ self.old.engine }
+    {
+        let now = self.clock.now();
+        desk.ask(rt, &mut self.share, peer, now)
+    }
+
+    // Hands the settlement to the peer's engine, under its key. No lock is held meanwhile.
+    fn settle(&mut self, config: &Config, peer: u32, asked: Asked) -> EngineReply
+        requires known { IsKnown config.now peer }
+        ensures handed { Tells (E.told self.old.engine)
+            (settlement_told config.now peer asked result) (E.told self.new.engine) }
+        ensures books { (self.new.share ≡ self.old.share) × (self.new.records ≡ self.old.records)
+            × (self.new.clock ≡ self.old.clock) × (self.new.accounts ≡ self.old.accounts) }
+    {
+        put_key(&mut self.key, config, asked.number);
+        let scale = config.scale(peer);
+        self.engine
+            .settle(peer, self.key.as_str(), asked.amount, scale)
+    }
+
+    // Has the peer's engine settle, and the desk book what it said.
+    fn carry_out(&mut self, rt: &impl Wait, desk: &Desk<J>, peer: u32, asked: Asked) -> Turn
+        requires known { IsKnown J.desk.config peer }
+        requires room { vec_len self.old.records < vec_capacity self.old.records }
+        ensures settled { (said : EngineReply)
+            × Tells (E.told self.old.engine) (settlement_told J.desk.config peer asked said)
+            (E.told self.new.engine)
+            × ClosesBy J.desk peer asked (verdict_by said) (C.told self.old.clock)
+            (C.told self.new.clock) (holding self.old.share self.old.records.items)
+            (holding self.new.share self.new.records.items) result }
+        ensures accounts { self.new.accounts ≡ self.old.accounts }
+    {
+        match self.settle(desk.config(), peer, asked) {
+            EngineReply::Accepted => self.close(rt, desk, peer, asked, true),
+            EngineReply::Refused => self.close(rt, desk, peer, asked, false),
+            EngineReply::Unknown => Turn::Kept {
+                number: asked.number,
+            },
+        }
+    }
+
+    // Tells the desk what the engine said, and keeps the record.
+    fn close(
+        &mut self,
+        rt: &impl Wait,
+        desk: &Desk<J>,
+        peer: u32,
+        asked: Asked,
+        accepted: bool,
+    ) -> Turn
+        requires room { vec_len self.old.records < vec_capacity self.old.records }
+        ensures closed { IsClosing J.desk peer asked accepted (C.told self.old.clock)
+            (C.told self.new.clock) (holding self.old.share self.old.records.items)
+            (holding self.new.share self.new.records.items) result }
+        ensures accounts { self.new.accounts ≡ self.old.accounts }
+        ensures engine { self.new.engine ≡ self.old.engine }
+    {
+        let number = asked.number;
+        let later = self.clock.now();
+        let Ok(entry) = desk.settle_close(rt, &mut self.share, number, accepted, later) else {
+            return Turn::Kept { number };
+        };
+        self.records
+            .push_reserved(record_of(peer, asked, accepted, entry));
+        Turn::Closed { number, accepted }
+    }
+}
+
+impl<J: Naming, C: Clock + Drop, E: EngineLink + Drop> SettlerParts<J, C, E, Global> {
+    // The share and the records; the rest ends here.
+    pub(crate) fn into_end(self) -> End<J>
+        ensures { result ≡ holding self.share self.records.items }
+    {
+        let SettlerParts { share, records, .. } = self;
+        End::new(share, records)
+    }
+}
+
+// Writes the key of the settlement of this number in place of what stands there, into the room that
+// there is.
+fn put_key<A: Allocator>(key: &mut String<A>, config: &Config, number: u32)
+    requires room { longest_key ≤ string_capacity key.old }
+    ensures text { string_bytes key.new ≡ key_text config.now number }
+    ensures room { longest_key ≤ string_capacity key.new }
+{
+    // Called for what its contract tells: a run is as long as one may be, at most.
+    let _ = config.peers();
+    let mut digits = Buffer::new();
+    key.clear();
+    let (Ok(()), Ok(()), Ok(())) = (
+        key.push_str(config.run()),
+        key.push_str("-"),
+        key.push_str(digits.format(number)),
+    ) else {
+        unreachable!();
+    };
+}
+
+// The record of a settlement that was closed by this entry.
+fn record_of(peer: u32, asked: Asked, accepted: bool, entry: u32) -> Record
+    ensures { result ≡ record_of_close peer asked accepted entry }
+{
+    Record {
+        number: entry,
+        what: Recorded::Closed {
+            ask: asked.number,
+            peer,
+            amount: asked.amount,
+            accepted,
+        },
+    }
+}

@@ -1,0 +1,18 @@
+//! What a turn of the settler comes to.
+
+use ilp_book::AskFault;
+
+/// What became of a settlement to a peer (RFC 0038).
+#[derive(Clone, Copy, Debug, PartialEq, Eq)]
+pub enum Turn {
+    /// The peer's engine has not said yet that it has an account of the peer.
+    NoAccount,
+    /// No settlement is due, or the book can't have another; this is why.
+    Idle(AskFault),
+    /// The settlement of this number is open, and is tried again under the same key: the engine did
+    /// not say what became of it.
+    Kept { number: u32 },
+    /// The settlement of this number is closed: the engine made it, or refused it, and then the peer
+    /// has its amount back.
+    Closed { number: u32, accepted: bool },
+}
