@@ -5,3 +5,5 @@ pub mod Statuses
 pub mod Requests
 pub mod Exchange
 pub mod Replies
+pub mod Serving
+pub mod Connection

@@ -4,11 +4,12 @@ use Rattle.ilp_http.specs.Writing as writing
 use Rattle.ilp_http.specs.declared.refusal.RequestFault.{RequestFault}
 use Rattle.ilp_http.specs.declared.refusal.RequestFault.TheVariants as request_fault
 use Rattle.ilp_http.specs.declared.status.Status.{Status}
-use Rattle.ilp_http.specs.declared.status.Status.TheVariants.{BadRequest, Unauthorized, NotFound, Conflict, Unavailable}
+use Rattle.ilp_http.specs.declared.status.Status.TheVariants.{BadRequest, Unauthorized, NotFound, Conflict, BadGateway, Unavailable}
 use Rattle.ilp_settlement.specs.declared.quantity.QuantityFault.TheVariants as quantity_fault
 use Rattle.ilp_book.specs.declared.fault.CreditFault.TheVariants as credit_fault
+use Rattle.ilp_workers.specs.declared.messaging.MessageFault.TheVariants as message_fault
 use Rattle.ilp_server.specs.declared.unserved.NotServed.{NotServed}
-use Rattle.ilp_server.specs.declared.unserved.NotServed.TheVariants.{NoRequest, UnknownTarget, UnknownSender, Packet, NoKey, Quantity, Credit, Memory}
+use Rattle.ilp_server.specs.declared.unserved.NotServed.TheVariants.{NoRequest, UnknownTarget, UnknownSender, Packet, NoKey, Quantity, Credit, Message, Memory}
 use Rattle.ilp_server.specs.declared.handled.ConnectionFault.{ConnectionFault}
 use Rattle.ilp_server.specs.declared.handled.ConnectionFault.TheVariants as connection_fault
 
@@ -27,6 +28,9 @@ status_of (Credit credit_fault.TooLarge) = BadRequest
 status_of (Credit (credit_fault.KeyTaken kept)) = Conflict
 status_of (Credit credit_fault.Full) = Unavailable
 status_of (Credit credit_fault.Memory) = Unavailable
+status_of (Message message_fault.TooLong) = BadGateway
+status_of (Message message_fault.NoAnswer) = BadGateway
+status_of (Message message_fault.Memory) = Unavailable
 status_of Memory = Unavailable
 
 -- Where no request was read, its refusal is answered. After a failed read, and where memory for its fields was denied, nothing is.

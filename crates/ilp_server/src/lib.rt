@@ -2,15 +2,19 @@
 //! goes to them.
 #![tactic(auto)]
 
+mod answering;
 mod exchange;
 mod fields;
 mod handled;
 mod replies;
 mod requests;
+mod served;
+mod serving;
 mod short_text;
 mod target;
 mod unserved;
 
+pub use answering::answer_connection;
 pub use exchange::{PostFault, post};
 pub use fields::{key_of, sender_of};
 pub use handled::{ConnectionFault, Handled};

@@ -7,7 +7,7 @@ use crate::handled::ConnectionFault;
 use ilp_book::CreditFault;
 use ilp_http::{Refusal, RequestFault, Status};
 use ilp_settlement::QuantityFault;
-use ilp_workers::BadPacket;
+use ilp_workers::{BadPacket, MessageFault};
 use thiserror::Error;
 
 /// Why a request is not served. It is answered by a status and an empty body.
@@ -34,6 +34,9 @@ pub enum NotServed {
     /// The settlement is not credited.
     #[error("{0}")]
     Credit(CreditFault),
+    /// The message has no answer.
+    #[error("{0}")]
+    Message(MessageFault),
     /// Memory for the response was denied.
     #[error("memory is short")]
     Memory,
@@ -56,6 +59,9 @@ impl NotServed {
             NotServed::Credit(CreditFault::KeyTaken { .. }) => Status::Conflict,
             NotServed::Credit(CreditFault::Full) => Status::Unavailable,
             NotServed::Credit(CreditFault::Memory) => Status::Unavailable,
+            NotServed::Message(MessageFault::TooLong) => Status::BadGateway,
+            NotServed::Message(MessageFault::NoAnswer) => Status::BadGateway,
+            NotServed::Message(MessageFault::Memory) => Status::Unavailable,
             NotServed::Memory => Status::Unavailable,
         }
     }

@@ -1,0 +1,134 @@
+-- What a request that was read is answered, and what a worker made of it.
+use Rattle.std.specs.Prelude.{◌≡◌, ℕ, ◌⊎◌, List, [], codes, unwrap_or, Option, Some, None, Result, Ok, Err}
+use Rattle.http_header.specs.FieldValue.{FieldValue}
+use Rattle.http_header.specs.HeaderMap.{Entries}
+use Rattle.ilp_http.specs.declared.status.Status.{Status}
+use Rattle.ilp_http.specs.declared.status.Status.TheVariants as status
+use Rattle.ilp_http.specs.declared.status.Kind.{Kind}
+use Rattle.ilp_http.specs.declared.status.Kind.TheVariants as kind
+use Rattle.ilp_settlement.specs.declared.quantity.Quantity.{Quantity}
+use Rattle.ilp_settlement.specs.declared.quantity.QuantityFault.{QuantityFault}
+use Rattle.ilp_settlement.specs.declared.quantity.QuantityFault.TheVariants as quantity_fault
+use Rattle.ilp_settlement.specs.Quantity.{quantity_in, quantity_text}
+use Rattle.ilp_book.specs.declared.calls.Kept.{Kept}
+use Rattle.ilp_book.specs.declared.fault.CreditFault.{CreditFault}
+use Rattle.ilp_book.specs.Configured.{scale_at}
+use Rattle.ilp_book.specs.SettleStep.{payment}
+use Rattle.ilp_desk.specs.Desk.{PlainDesk}
+use Rattle.ilp_workers.specs.declared.reply.BadPacket.{BadPacket}
+use Rattle.ilp_workers.specs.declared.reply.Receipt.{Receipt}
+use Rattle.ilp_workers.specs.declared.messaging.MessageFault.{MessageFault}
+use Rattle.ilp_workers.specs.Worker.{PlainWorker}
+use Rattle.ilp_workers.specs.Arrivals.{arrival, Forwards}
+use Rattle.ilp_workers.specs.Crediting.{Credits}
+use Rattle.ilp_workers.specs.Messaging.{answer_of, Messages}
+use Rattle.ilp_server.specs.declared.target.Side.{Side}
+use Rattle.ilp_server.specs.declared.target.Target.{Target}
+use Rattle.ilp_server.specs.declared.target.Target.TheVariants as target
+use Rattle.ilp_server.specs.declared.unserved.NotServed.{NotServed}
+use Rattle.ilp_server.specs.declared.unserved.NotServed.TheVariants as unserved
+use Rattle.ilp_server.specs.declared.served.Served.{Served}
+use Rattle.ilp_server.specs.declared.served.Served.TheVariants.{Packet, Settlement, Message, Closing}
+use Rattle.ilp_server.specs.Targets.{AsksFor}
+use Rattle.ilp_server.specs.Fields.{values_in, IsFrom, IsKeyAmong}
+use Rattle.ilp_server.specs.Statuses.{status_of}
+
+-- ---- what comes
+
+-- a request that was read at a side of the server
+pub record Inquiry : Type 0 where
+  pub side : Side
+  pub path : List ℕ
+  pub headers : Entries FieldValue
+  pub body : List ℕ
+
+abbrev pub inquiry : Side → List ℕ → Entries FieldValue → List ℕ → Inquiry
+inquiry side path headers body = record { side = side; path = path; headers = headers; body = body }
+
+-- ---- what it is answered
+
+-- a response: its status, and its body with what kind of one that is
+pub record Reply : Type 0 where
+  pub status : Status
+  pub kind : Kind
+  pub body : List ℕ
+
+abbrev pub reply : Status → Kind → List ℕ → Reply
+reply status kind body = record { status = status; kind = kind; body = body }
+
+-- a status and no body
+abbrev pub bare : Status → Reply
+bare s = reply s kind.Text []
+
+-- The response to what became of a request: the octets by which a worker answers the packet, the quantity that was credited, what
+-- the peer's engine answered, or nothing but a status.
+abbrev pub reply_to : PlainWorker → Result Served NotServed → Reply
+reply_to worker (Ok Packet) = reply status.Ok kind.OctetStream worker.reply
+reply_to worker (Ok (Settlement text)) = reply status.Created kind.Json text.octets
+reply_to worker (Ok Message) = reply status.Created kind.OctetStream (unwrap_or (answer_of (Some worker.reply)) [])
+reply_to worker (Ok Closing) = bare status.Ok
+reply_to worker (Err why) = bare (status_of why)
+
+-- ---- what becomes of it
+
+-- It is not served for this reason, and the worker is as it was.
+abbrev pub IsTurnedAway : NotServed → PlainWorker → PlainWorker → Result Served NotServed → Type 0
+IsTurnedAway why before after outcome = (outcome ≡ Err why) × (after ≡ before)
+
+-- the outcome for a packet that was forwarded, or was none
+abbrev pub packet_outcome : Result Receipt BadPacket → Result Served NotServed
+packet_outcome (Ok receipt) = Ok Packet
+packet_outcome (Err fault) = Err (unserved.Packet fault)
+
+-- A packet: without a token of a peer it is turned away; else the body is forwarded, as the packet of the peer whose token it is.
+abbrev pub ServesPacket : PlainDesk → Entries FieldValue → List ℕ → PlainWorker → PlainWorker → Result Served NotServed → Type 0
+ServesPacket desk headers body before after outcome =
+    let shown = values_in headers (codes "authorization") in
+    (((peer : ℕ) → ¬ (IsFrom desk.config shown peer)) × IsTurnedAway unserved.UnknownSender before after outcome)
+    ⊎ ((peer : ℕ) × IsFrom desk.config shown peer × (receipt : Result Receipt BadPacket)
+    × Forwards (arrival desk peer body) before after receipt × (outcome ≡ packet_outcome receipt))
+
+-- The outcome for a settlement that was credited, or was not. The quantity that is answered is the one that is kept, at the scale of
+-- the peer's balance.
+abbrev pub IsCreditOutcome : PlainDesk → ℕ → Result Kept CreditFault → Result Served NotServed → Type 0
+IsCreditOutcome desk peer (Ok kept) (Ok (Settlement text)) = text.octets ≡ quantity_text kept.amount (scale_at desk.config peer)
+IsCreditOutcome desk peer (Ok kept) outcome = ⊥
+IsCreditOutcome desk peer (Err fault) outcome = outcome ≡ Err (unserved.Credit fault)
+
+-- With a key: the body is a quantity, and it is credited under the key; or there is no memory for the answer; or the body is none.
+abbrev pub ServesPayment : PlainDesk → ℕ → List ℕ → List ℕ → PlainWorker → PlainWorker → Result Served NotServed → Type 0
+ServesPayment desk peer key body before after outcome =
+    IsTurnedAway (unserved.Quantity quantity_fault.Memory) before after outcome
+    ⊎ (((fault : QuantityFault) × (quantity_in body ≡ Err fault) × IsTurnedAway (unserved.Quantity fault) before after outcome)
+    ⊎ ((quantity : Quantity) × (quantity_in body ≡ Ok quantity) × (IsTurnedAway unserved.Memory before after outcome
+    ⊎ ((kept : Result Kept CreditFault) × Credits desk (payment peer key quantity) before after kept × IsCreditOutcome desk peer kept outcome))))
+
+-- A settlement of a peer: without a key it is turned away.
+abbrev pub ServesSettlement : PlainDesk → ℕ → Entries FieldValue → List ℕ → PlainWorker → PlainWorker → Result Served NotServed → Type 0
+ServesSettlement desk peer headers body before after outcome =
+    let given = values_in headers (codes "idempotency-key") in
+    (((key : List ℕ) → ¬ (IsKeyAmong given key)) × IsTurnedAway unserved.NoKey before after outcome)
+    ⊎ ((key : List ℕ) × IsKeyAmong given key × ServesPayment desk peer key body before after outcome)
+
+-- the outcome for a message that was answered, or was not
+abbrev pub message_outcome : Result (Unit {0}) MessageFault → Result Served NotServed
+message_outcome (Ok x) = Ok Message
+message_outcome (Err fault) = Err (unserved.Message fault)
+
+-- A message of the engine of a peer: the body is sent to that peer.
+abbrev pub ServesMessage : PlainDesk → ℕ → List ℕ → PlainWorker → PlainWorker → Result Served NotServed → Type 0
+ServesMessage desk peer body before after outcome =
+    (sent : Result (Unit {0}) MessageFault) × Messages desk.config peer body before after sent × (outcome ≡ message_outcome sent)
+
+-- by what the request asks for
+abbrev pub ServesTarget : PlainDesk → Inquiry → Target → PlainWorker → PlainWorker → Result Served NotServed → Type 0
+ServesTarget desk i target.Packet before after outcome = ServesPacket desk i.headers i.body before after outcome
+ServesTarget desk i (target.Settlement peer) before after outcome = ServesSettlement desk peer i.headers i.body before after outcome
+ServesTarget desk i (target.Message peer) before after outcome = ServesMessage desk peer i.body before after outcome
+ServesTarget desk i target.Close before after outcome = (outcome ≡ Ok Closing) × (after ≡ before)
+
+-- What asks for nothing is turned away, whatever else it has.
+abbrev pub Serves : PlainDesk → Inquiry → PlainWorker → PlainWorker → Result Served NotServed → Type 0
+Serves desk i before after outcome =
+    (((t : Target) → ¬ (AsksFor desk.config i.side i.path t)) × IsTurnedAway unserved.UnknownTarget before after outcome)
+    ⊎ ((t : Target) × AsksFor desk.config i.side i.path t × ServesTarget desk i t before after outcome)

@@ -1,0 +1,95 @@
+//! Answering a connection: one request, and its response.
+ghost use Rattle.ilp_io.specs.Counts.{CountsUp};
+ghost use Rattle.ilp_server.specs.Serving.{reply};
+ghost use Rattle.ilp_server.specs.Connection.{Answers, IsWritten, IsSentWith, failed_writes_of, wire};
+
+use crate::handled::{ConnectionFault, Handled};
+use crate::served::Served;
+use crate::serving::serve;
+use crate::target::Side;
+use crate::unserved::{NotServed, unread};
+use ilp_desk::{Desk, Naming};
+use ilp_http::{Buffer, Kind, Status, read_request, write_response};
+use ilp_io::{Sink, Source};
+use ilp_workers::{Clock, EngineLink, Uplink, Worker};
+use std::alloc::{Allocator, Global};
+use std::sync::Wait;
+
+/// Reads one request of a connection at a side, has the worker serve it, and writes one response
+/// (RFC 0035 at the side of the peers, RFC 0038 at that of the engines).
+///
+/// Refused octets are answered with the status of their refusal, and whatever is refused later with
+/// an empty body; all that asks for nothing leaves the worker as it was. What was booked stays,
+/// whatever becomes of the response. Nothing is written after a failed read, and where memory for the
+/// fields was denied. `alloc` is for the fields, for the JSON of a quantity and for its answer; room
+/// for that is made before anything is booked.
+pub fn answer_connection<
+    J: Naming,
+    C: Clock + Drop,
+    U: Uplink + Drop,
+    E: EngineLink + Drop,
+    A: Allocator,
+    S: Source,
+    W: Sink,
+>(
+    rt: &impl Wait,
+    alloc: Global,
+    worker: &mut Worker<J, C, U, E, A>,
+    desk: &Desk<J>,
+    side: Side,
+    source: &mut S,
+    sink: &mut W,
+    buffer: &mut Buffer,
+) -> Handled
+    ensures { Answers J.desk side
+        (wire (S.remaining source.old) (S.tally source.old) (W.contents sink.old) (W.failures sink.old))
+        (wire (S.remaining source.new) (S.tally source.new) (W.contents sink.new) (W.failures sink.new))
+        worker.old worker.new result }
+{
+    match read_request(alloc, source, buffer) {
+        Ok(request) => {
+            let outcome = serve(rt, alloc, worker, desk, side, &request);
+            respond(worker, sink, outcome)
+        }
+        Err(fault) => match unread(fault) {
+            Ok(why) => respond(worker, sink, Err(why)),
+            Err(fault) => Handled::Fault(fault),
+        },
+    }
+}
+
+// Writes the response to what became of a request.
+fn respond<
+    J: Naming,
+    C: Clock + Drop,
+    U: Uplink + Drop,
+    E: EngineLink + Drop,
+    A: Allocator,
+    W: Sink,
+>(worker: &Worker<J, C, U, E, A>, sink: &mut W, outcome: Result<Served, NotServed>) -> Handled
+    ensures written { IsWritten worker.now outcome (W.contents sink.old) (W.contents sink.new) result }
+    ensures failed { CountsUp (W.failures sink.old) (W.failures sink.new) (failed_writes_of result) }
+{
+    match outcome {
+        Ok(Served::Packet) => send(sink, Status::Ok, Kind::OctetStream, worker.reply()),
+        Ok(Served::Settlement(text)) => { send(sink, Status::Created, Kind::Json, text.as_slice()) }
+        Ok(Served::Message) => send(sink, Status::Created, Kind::OctetStream, worker.answer()),
+        Ok(Served::Closing) => match send(sink, Status::Ok, Kind::Text, &[]) {
+            Handled::Done(_) => Handled::Close,
+            other => other,
+        },
+        Err(why) => send(sink, why.status(), Kind::Text, &[]),
+    }
+}
+
+// Writes one response.
+fn send<W: Sink>(sink: &mut W, status: Status, kind: Kind, body: &[u8]) -> Handled
+    ensures written { IsSentWith (reply status kind body.now)
+        (W.contents sink.old) (W.contents sink.new) result }
+    ensures failed { CountsUp (W.failures sink.old) (W.failures sink.new) (failed_writes_of result) }
+{
+    match write_response(sink, status, kind, body) {
+        Ok(()) => Handled::Done(status),
+        Err(_) => Handled::Fault(ConnectionFault::Write),
+    }
+}

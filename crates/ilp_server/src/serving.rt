@@ -1,0 +1,150 @@
+//! Serving a request that was read, by what its target asks for.
+ghost use Rattle.std.specs.Prelude.{◌≡◌, ◌≤◌, []};
+ghost use Rattle.ilp_settlement.specs.Quantity.{quantity_text};
+ghost use Rattle.ilp_book.specs.Configured.{IsKnown};
+ghost use Rattle.ilp_server.specs.Serving.{inquiry, Serves, ServesPacket, ServesSettlement, ServesPayment, ServesMessage};
+
+use crate::fields::{key_of, sender_of};
+use crate::served::Served;
+use crate::target::{Side, Target, target_of};
+use crate::unserved::NotServed;
+use ilp_desk::{Desk, Naming};
+use ilp_http::Request;
+use ilp_journal::Key;
+use ilp_oer::Octets;
+use ilp_settlement::{Quantity, print};
+use ilp_workers::{Clock, EngineLink, Uplink, Worker};
+use std::alloc::{Allocator, Global};
+use std::sync::Wait;
+
+// The most octets of the JSON of an amount of 64 bits at a scale of 8.
+const LONGEST_QUANTITY: usize = 48;
+
+/// Serves a request that came in at a side.
+pub(crate) fn serve<
+    J: Naming,
+    C: Clock + Drop,
+    U: Uplink + Drop,
+    E: EngineLink + Drop,
+    A: Allocator,
+>(
+    rt: &impl Wait,
+    alloc: Global,
+    worker: &mut Worker<J, C, U, E, A>,
+    desk: &Desk<J>,
+    side: Side,
+    request: &Request<'_>,
+) -> Result<Served, NotServed>
+    ensures { Serves J.desk (inquiry side request.now.path.now request.now.headers request.now.body.now)
+        worker.old worker.new result }
+{
+    match target_of(desk.config(), side, request.path) {
+        None => Err(NotServed::UnknownTarget),
+        Some(Target::Packet) => serve_packet(rt, worker, desk, request),
+        Some(Target::Settlement { peer }) => {
+            serve_settlement(rt, alloc, worker, desk, peer, request)
+        }
+        Some(Target::Message { peer }) => serve_message(worker, desk, peer, request.body),
+        Some(Target::Close) => Ok(Served::Closing),
+    }
+}
+
+// Forwards the body as a packet of the peer whose token the request shows.
+fn serve_packet<J: Naming, C: Clock + Drop, U: Uplink + Drop, E: EngineLink + Drop, A: Allocator>(
+    rt: &impl Wait,
+    worker: &mut Worker<J, C, U, E, A>,
+    desk: &Desk<J>,
+    request: &Request<'_>,
+) -> Result<Served, NotServed>
+    ensures { ServesPacket J.desk request.now.headers request.now.body.now
+        worker.old worker.new result }
+{
+    let Some(peer) = sender_of(desk.config(), &request.headers) else {
+        return Err(NotServed::UnknownSender);
+    };
+    match worker.forward(rt, desk, peer, request.body) {
+        Ok(_) => Ok(Served::Packet),
+        Err(fault) => Err(NotServed::Packet(fault)),
+    }
+}
+
+// Credits the body as a settlement of the peer, under the key that the request gives.
+fn serve_settlement<
+    J: Naming,
+    C: Clock + Drop,
+    U: Uplink + Drop,
+    E: EngineLink + Drop,
+    A: Allocator,
+>(
+    rt: &impl Wait,
+    alloc: Global,
+    worker: &mut Worker<J, C, U, E, A>,
+    desk: &Desk<J>,
+    peer: u32,
+    request: &Request<'_>,
+) -> Result<Served, NotServed>
+    requires known { IsKnown J.desk.config peer }
+    ensures { ServesSettlement J.desk peer request.now.headers request.now.body.now
+        worker.old worker.new result }
+{
+    let Some(key) = key_of(&request.headers) else {
+        return Err(NotServed::NoKey);
+    };
+    serve_payment(rt, alloc, worker, desk, peer, key, request.body)
+}
+
+// Credits the quantity that the body is. Room for the answer is made before anything is booked.
+fn serve_payment<J: Naming, C: Clock + Drop, U: Uplink + Drop, E: EngineLink + Drop, A: Allocator>(
+    rt: &impl Wait,
+    alloc: Global,
+    worker: &mut Worker<J, C, U, E, A>,
+    desk: &Desk<J>,
+    peer: u32,
+    key: Key,
+    body: &[u8],
+) -> Result<Served, NotServed>
+    requires known { IsKnown J.desk.config peer }
+    ensures { ServesPayment J.desk peer key body.now worker.old worker.new result }
+{
+    let quantity = match Quantity::read(alloc, body) {
+        Ok(quantity) => quantity,
+        Err(fault) => return Err(NotServed::Quantity(fault)),
+    };
+    let mut text = Octets::new(alloc);
+    let Ok(()) = text.reserve(LONGEST_QUANTITY) else {
+        return Err(NotServed::Memory);
+    };
+    match worker.credit(rt, desk, peer, key, &quantity) {
+        Ok(kept) => {
+            put_quantity(&mut text, kept.amount, desk.config().scale(peer));
+            Ok(Served::Settlement(text))
+        }
+        Err(fault) => Err(NotServed::Credit(fault)),
+    }
+}
+
+// Writes the JSON of a quantity, for which there is room.
+fn put_quantity(text: &mut Octets, amount: u64, scale: u8)
+    requires empty { text.old.octets ≡ [] }
+    requires room { 48 ≤ text.old.spare }
+    ensures { text.new.octets ≡ quantity_text amount scale }
+{
+    let Ok(()) = print(amount, scale, text) else {
+        unreachable!();
+    };
+}
+
+// Sends the body as a message to the peer's engine.
+fn serve_message<J: Naming, C: Clock + Drop, U: Uplink + Drop, E: EngineLink + Drop, A: Allocator>(
+    worker: &mut Worker<J, C, U, E, A>,
+    desk: &Desk<J>,
+    peer: u32,
+    body: &[u8],
+) -> Result<Served, NotServed>
+    ensures { ServesMessage J.desk peer body.now worker.old worker.new result }
+{
+    match worker.message(desk, peer, body) {
+        Ok(()) => Ok(Served::Message),
+        Err(fault) => Err(NotServed::Message(fault)),
+    }
+}
