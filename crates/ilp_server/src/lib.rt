@@ -5,6 +5,7 @@
 mod exchange;
 mod fields;
 mod handled;
+pub mod laws;
 mod replies;
 mod requests;
 mod short_text;
