@@ -1,3 +1,5 @@
+pub mod FieldLemmas
 pub mod PeerLemmas
 pub mod TargetLemmas
 pub mod TokenLemmas
+pub mod LawLemmas

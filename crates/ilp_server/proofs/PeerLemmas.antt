@@ -1,9 +1,11 @@
 -- What a look-up of a text says of the peers whose texts these are.
-use Rattle.std.proofs.Common.{◌≡◌, ℕ, ◌<◌, List, length, map, get_or, Some, Contains, sym, ap, ◌∙◌, arith}
+use Rattle.std.proofs.Common.{inl, inr, ◌≡◌, ℕ, ◌<◌, List, length, map, get_or, Some, Contains, sym, ap, ◌∙◌, arith}
 use Rattle.std.specs.Prelude.{slice_get}
+use Rattle.std.proofs.lemmas.Bool.{cases_order}
 use Rattle.std.proofs.lemmas.List.{get_or-map, length-map}
 use Rattle.std.proofs.lemmas.Option.{slice_get_within, get_or_from_slice_get, unwrap_or-slice_get}
 use Rattle.ilp_accounts.specs.Configuration.{Configuration, PlainPeer, nobody, peer_at}
+use Rattle.ilp_accounts.specs.Valid.{AreDistinct}
 
 module _ (text_of : PlainPeer → List ℕ) (C : Configuration) (text : List ℕ) where
   -- the text of a peer
@@ -21,3 +23,17 @@ module _ (text_of : PlainPeer → List ℕ) (C : Configuration) (text : List ℕ
   -- and the text is that peer's
   pub peer_text : (peer : ℕ) → slice_get (map text_of C.peers) peer ≡ Some text → text_of (peer_at C peer) ≡ text
   peer_text peer there = sym (text_at peer (peer_known peer there)) ∙ get_or_from_slice_get (map text_of C.peers) peer text text there
+
+  -- a text is that of one peer, where no two peers have the same
+  pub one_peer : AreDistinct (map text_of C.peers) → (p q : ℕ) → p < length C.peers → q < length C.peers → text_of (peer_at C p) ≡ text_of (peer_at C q) → p ≡ q
+  one_peer distinct p q known also same =
+      elim (cases_order p q) [
+        | inl equal ↦ equal
+        | inr unequal ↦
+            elim unequal [
+              | inl below ↦
+                  absurd (distinct p q text below (omega (arith, also, length-map C.peers text_of)) (text_at p known ∙ same ∙ sym (text_at q also)))
+              | inr above ↦
+                  absurd (distinct q p text above (omega (arith, known, length-map C.peers text_of)) (text_at q also ∙ sym same ∙ sym (text_at p known)))
+            ]
+      ]

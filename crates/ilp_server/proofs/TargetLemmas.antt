@@ -17,7 +17,7 @@ between_is octets before after rest None begins none =
 between_is octets before after rest (Some x) begins ends = begins ∙ ap (λ l. before ++ l) ends
 
 -- a name stands in one way between the two texts of a target
-name_is : (call name other : List ℕ) → account_target call name ≡ account_target call other → name ≡ other
+pub name_is : (call name other : List ℕ) → account_target call name ≡ account_target call other → name ≡ other
 name_is call name other same =
     append_cancel_right name other call (append_cancel_left (codes "/accounts/") (name ++ call) (other ++ call) same)
 

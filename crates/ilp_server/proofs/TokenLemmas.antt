@@ -16,11 +16,11 @@ after_scheme value token shows =
     ap (λ n. drop n value) (sym long) ∙ ap (drop (length shows.scheme)) shows.whole ∙ drop-append_seam shows.scheme token
 
 -- a value shows one token
-token_is : (value token other : List ℕ) → ShowsToken value token → ShowsToken value other → token ≡ other
+pub token_is : (value token other : List ℕ) → ShowsToken value token → ShowsToken value other → token ≡ other
 token_is value token other shows also = sym (after_scheme value token shows) ∙ after_scheme value other also
 
 -- the one value is one
-only_is : (values : List (List ℕ)) (value other : List ℕ) → IsOnly values value → IsOnly values other → value ≡ other
+pub only_is : (values : List (List ℕ)) (value other : List ℕ) → IsOnly values value → IsOnly values other → value ≡ other
 only_is values value other is also = let same : value ∷ [] ≡ other ∷ [] = sym is ∙ also in cc
 
 -- a value that shows no token is from no peer

@@ -6,6 +6,7 @@ mod answering;
 mod exchange;
 mod fields;
 mod handled;
+pub mod laws;
 mod replies;
 mod requests;
 mod served;

@@ -1,0 +1,68 @@
+-- A path asks for one thing, and a request is from one peer.
+use Rattle.std.proofs.Common.{◌≡◌, ℕ, List, ◌++◌, get_or, sym, ap, ◌∙◌, refl, subst, arith, codes, append_assoc}
+use Rattle.std.proofs.lemmas.List.{append_cancel_left, same_from_push}
+use Rattle.ilp_accounts.specs.Configuration.{Configuration, peer_at}
+use Rattle.ilp_accounts.specs.Valid.{IsValid}
+use Rattle.ilp_server.specs.declared.target.Side.{Side}
+use Rattle.ilp_server.specs.declared.target.Side.TheVariants.{Ilp, Engine}
+use Rattle.ilp_server.specs.declared.target.Target.{Target}
+use Rattle.ilp_server.specs.declared.target.Target.TheVariants.{Packet, Settlement, Message, Close}
+use Rattle.ilp_server.specs.Targets.{account_target, IsOfPeer, AsksFor}
+use Rattle.ilp_server.specs.Fields.{ShowsToken, IsFrom}
+use Rattle.ilp_server.proofs.PeerLemmas.{one_peer}
+use Rattle.ilp_server.proofs.TargetLemmas.{name_is}
+use Rattle.ilp_server.proofs.TokenLemmas.{token_is, only_is}
+
+-- no target of settlements is one of messages
+no_message : (path name other : List ℕ) → path ≡ account_target (codes "/settlements") name → path ≡ account_target (codes "/messages") other → ⊥
+no_message path name other is also =
+    let same = append_cancel_left (codes "/accounts/") (name ++ codes "/settlements") (other ++ codes "/messages") (sym is ∙ also) in
+    let ends : (name ++ codes "/settlement") ++ codes "s" ≡ (other ++ codes "/message") ++ codes "s" =
+    append_assoc name (codes "/settlement") (codes "s") ∙ same ∙ sym (append_assoc other (codes "/message") (codes "s")) in
+    let fronts = (same_from_push (name ++ codes "/settlement") (other ++ codes "/message") 115 115 ends).0 in
+    let before : (name ++ codes "/settlemen") ++ codes "t" ≡ (other ++ codes "/messag") ++ codes "e" =
+    append_assoc name (codes "/settlemen") (codes "t") ∙ fronts ∙ sym (append_assoc other (codes "/messag") (codes "e")) in
+    let t_is_e = (same_from_push (name ++ codes "/settlemen") (other ++ codes "/messag") 116 101 before).1 in
+    absurd (omega (arith, t_is_e))
+
+-- no target of an account closes the connector
+no_close : (path call name : List ℕ) → path ≡ account_target call name → path ≡ codes "/close" → ⊥
+no_close path call name is also =
+    let c_is_a : 99 ≡ 97 = ap (λ l. get_or l 1 0) (sym also ∙ is) in
+    absurd (omega (arith, c_is_a))
+
+-- a path is that of one peer
+of_one_peer : (C : Configuration) → IsValid C → (call path : List ℕ) (p q : ℕ) → IsOfPeer C (account_target call) path p → IsOfPeer C (account_target call) path q → p ≡ q
+of_one_peer C valid call path p q is also =
+    one_peer (λ x. x.name) C path valid.names p q is.known also.known
+    (name_is call (peer_at C p).name (peer_at C q).name (sym is.named ∙ also.named))
+
+-- a path asks for one thing
+pub one_target : (C : Configuration) (side : Side) (path : List ℕ) (target other : Target) → IsValid C → AsksFor C side path target → AsksFor C side path other → target ≡ other
+one_target C Ilp path Packet Packet valid is also = refl
+one_target C Ilp path Packet (Settlement q) valid is also = absurd also
+one_target C Ilp path Packet (Message q) valid is also = absurd also
+one_target C Ilp path Packet Close valid is also = absurd also
+one_target C Ilp path (Settlement p) other valid is also = absurd is
+one_target C Ilp path (Message p) other valid is also = absurd is
+one_target C Ilp path Close other valid is also = absurd is
+one_target C Engine path Packet other valid is also = absurd is
+one_target C Engine path (Settlement p) Packet valid is also = absurd also
+one_target C Engine path (Settlement p) (Settlement q) valid is also = ap Settlement (of_one_peer C valid (codes "/settlements") path p q is also)
+one_target C Engine path (Settlement p) (Message q) valid is also = absurd (no_message path (peer_at C p).name (peer_at C q).name is.named also.named)
+one_target C Engine path (Settlement p) Close valid is also = absurd (no_close path (codes "/settlements") (peer_at C p).name is.named also)
+one_target C Engine path (Message p) Packet valid is also = absurd also
+one_target C Engine path (Message p) (Settlement q) valid is also = absurd (no_message path (peer_at C q).name (peer_at C p).name also.named is.named)
+one_target C Engine path (Message p) (Message q) valid is also = ap Message (of_one_peer C valid (codes "/messages") path p q is also)
+one_target C Engine path (Message p) Close valid is also = absurd (no_close path (codes "/messages") (peer_at C p).name is.named also)
+one_target C Engine path Close Packet valid is also = absurd also
+one_target C Engine path Close (Settlement q) valid is also = absurd (no_close path (codes "/settlements") (peer_at C q).name also.named is)
+one_target C Engine path Close (Message q) valid is also = absurd (no_close path (codes "/messages") (peer_at C q).name also.named is)
+one_target C Engine path Close Close valid is also = refl
+
+-- fields show the token of one peer
+pub one_sender : (C : Configuration) (values : List (List ℕ)) (peer other : ℕ) → IsValid C → IsFrom C values peer → IsFrom C values other → peer ≡ other
+one_sender C values peer other valid is also =
+    let shown = subst (λ v. ShowsToken v (peer_at C other).token) (only_is values also.value is.value also.only is.only) also.shown in
+    one_peer (λ x. x.token) C is.value valid.tokens peer other is.known also.known
+    (token_is is.value (peer_at C peer).token (peer_at C other).token is.shown shown)
