@@ -3,3 +3,4 @@ pub mod PeerLemmas
 pub mod TargetLemmas
 pub mod TokenLemmas
 pub mod LawLemmas
+pub mod Responses

@@ -38,7 +38,7 @@ IsOutcome desk side (Err fault) before after (Err none) = (unread fault ≡ Err 
 -- ---- what is written
 
 -- the octets of a response
-abbrev pub octets_of : Reply → List ℕ
+unfoldable pub octets_of : Reply → List ℕ
 octets_of reply = response_text reply.status reply.kind reply.body
 
 -- The response was written whole, and its status is told; or a write failed before its end.

@@ -1,5 +1,5 @@
 -- What a request that was read is answered, and what a worker made of it.
-use Rattle.std.specs.Prelude.{◌≡◌, ℕ, ◌⊎◌, List, [], codes, unwrap_or, Option, Some, None, Result, Ok, Err}
+use Rattle.std.specs.Prelude.{◌≡◌, ℕ, ◌⊎◌, List, [], codes, unwrap_or, Some, Result, Ok, Err}
 use Rattle.http_header.specs.FieldValue.{FieldValue}
 use Rattle.http_header.specs.HeaderMap.{Entries}
 use Rattle.ilp_http.specs.declared.status.Status.{Status}

@@ -83,6 +83,7 @@ fn respond<
 }
 
 // Writes one response.
+#[tactic(auto, unfolding(crate::specs::Connection::octets_of))]
 fn send<W: Sink>(sink: &mut W, status: Status, kind: Kind, body: &[u8]) -> Handled
     ensures written { IsSentWith (reply status kind body.now)
         (W.contents sink.old) (W.contents sink.new) result }
