@@ -56,6 +56,7 @@ fn engine_target(config: &Config, path: &[u8]) -> Option<Target>
 }
 
 // The peer of whose account a path is that ends so.
+#[tactic(auto, using(crate::proofs::TargetLemmas::peer_of_path))]
 fn peer_in(config: &Config, path: &[u8], call: &[u8]) -> Option<u32>
     ensures { Finds (IsOfPeer config.now (account_target call.now) path.now) result }
 {
