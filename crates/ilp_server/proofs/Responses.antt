@@ -55,18 +55,6 @@ pub none_failed : (count : Option ℕ) → CountsUp count count 0
 none_failed None = tt
 none_failed (Some n) = omega arith
 
--- the length of four texts, one after the other
-four : (a b c d : List ℕ) → length (a ++ b ++ c ++ d) ≡ length a + length b + length c + length d
-four a b c d = omega (arith, length-append a b, length-append (a ++ b) c, length-append (a ++ b ++ c) d, length-append a (b ++ c ++ d), length-append b (c ++ d), length-append c d)
-
--- the JSON of an amount of 64 bits at a scale of 8 is short
-pub quantity_is_short : (amount scale : ℕ) → amount < 2 ^ 64 → scale < 2 ^ 8 → length (quantity_text amount scale) ≤ 48
-quantity_is_short amount scale small low =
-    let digits = length-decimal-le 20 amount (omega arith) (omega (arith, small)) small in
-    let places = length-decimal-le 3 scale (omega arith) (omega (arith, low)) (omega (arith, low)) in
-    let whole = four (decimal amount) (codes "\",\"scale\":") (decimal scale) (codes "}") in
-    omega (arith, whole, digits, places)
-
 -- where nothing was read that is answered no write failed
 pub none_failed_unread : (fault : RequestFault) (f : ConnectionFault) (count : Option ℕ) → unread fault ≡ Err f → CountsUp count count (failed_writes_of (Fault f))
 none_failed_unread fault f count is = subst (CountsUp count count) (sym (none fault f is)) (none_failed count)

@@ -24,10 +24,11 @@ pub only_is : (values : List (List ℕ)) (value other : List ℕ) → IsOnly val
 only_is values value other is also = let same : value ∷ [] ≡ other ∷ [] = sym is ∙ also in cc
 
 -- a value that shows no token is from no peer
-pub from_none : (C : Configuration) (values : List (List ℕ)) (value : List ℕ) → IsOnly values value
-    → ((token : List ℕ) → ¬ (ShowsToken value token)) → (peer : ℕ) → ¬ (IsFrom C values peer)
-from_none C values value only none peer from =
-    none (peer_at C peer).token (subst (λ v. ShowsToken v (peer_at C peer).token) (only_is values from.value value from.only only) from.shown)
+pub from_none : (C : Configuration) (values : List (List ℕ)) (value : List ℕ) (found : Option ℕ) → found ≡ None → IsOnly values value
+    → ((token : List ℕ) → ¬ (ShowsToken value token)) → Finds (IsFrom C values) found
+from_none C values value found is only none =
+    rw is
+    (λ peer from. none (peer_at C peer).token (subst (λ v. ShowsToken v (peer_at C peer).token) (only_is values from.value value from.only only) from.shown))
 
 -- the peer by the place of the token
 pub from_peer : (C : Configuration) (values : List (List ℕ)) (value token : List ℕ) (found : Option ℕ) → IsOnly values value

@@ -11,6 +11,7 @@ use ilp_journal::Key;
 /// The peer whose token the one Authorization field shows (RFC 6750, section 2.1): `Bearer` in any
 /// case, one space, and the token. None where there is no such field or more than one, and where no
 /// peer has that token.
+#[tactic(auto, using(crate::proofs::TokenLemmas::from_none, crate::proofs::TokenLemmas::from_peer))]
 pub fn sender_of(config: &Config, headers: &HeaderMap) -> Option<u32>
     ensures { Finds (IsFrom config.now (values_in headers.now (codes "authorization"))) result }
 {

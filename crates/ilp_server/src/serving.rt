@@ -1,10 +1,9 @@
 //! Serving a request that was read, by what its target asks for.
-ghost use Rattle.std.specs.Prelude.{◌≡◌, ◌≤◌, []};
-ghost use Rattle.ilp_settlement.specs.Quantity.{quantity_text};
 ghost use Rattle.ilp_book.specs.Configured.{IsKnown};
 ghost use Rattle.ilp_server.specs.Serving.{inquiry, Serves, ServesPacket, ServesSettlement, ServesPayment, ServesMessage};
 
 use crate::fields::{key_of, sender_of};
+use crate::quantity::{LONGEST_QUANTITY, put_quantity};
 use crate::served::Served;
 use crate::target::{Side, Target, target_of};
 use crate::unserved::NotServed;
@@ -12,13 +11,10 @@ use ilp_desk::{Desk, Naming};
 use ilp_http::Request;
 use ilp_journal::Key;
 use ilp_oer::Octets;
-use ilp_settlement::{Quantity, print};
+use ilp_settlement::Quantity;
 use ilp_workers::{Clock, EngineLink, Uplink, Worker};
 use std::alloc::{Allocator, Global};
 use std::sync::Wait;
-
-// The most octets of the JSON of an amount of 64 bits at a scale of 8.
-const LONGEST_QUANTITY: usize = 48;
 
 /// Serves a request that came in at a side.
 pub(crate) fn serve<
@@ -121,17 +117,6 @@ fn serve_payment<J: Naming, C: Clock + Drop, U: Uplink + Drop, E: EngineLink + D
         }
         Err(fault) => Err(NotServed::Credit(fault)),
     }
-}
-
-// Writes the JSON of a quantity, for which there is room.
-fn put_quantity(text: &mut Octets, amount: u64, scale: u8)
-    requires empty { text.old.octets ≡ [] }
-    requires room { 48 ≤ text.old.spare }
-    ensures { text.new.octets ≡ quantity_text amount scale }
-{
-    let Ok(()) = print(amount, scale, text) else {
-        unreachable!();
-    };
 }
 
 // Sends the body as a message to the peer's engine.

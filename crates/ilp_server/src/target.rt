@@ -29,8 +29,9 @@ pub enum Target {
 
 /// What a path asks for at a side; none where it asks for nothing there.
 ///
-/// Paths are compared octet for octet: one with a query, with another case or with octets that are
-/// written in hexadecimal asks for nothing, and so does one with a name that no peer has.
+/// Paths are compared octet for octet: one with a query, in absolute form (RFC 9112, section 3.2.2),
+/// in another case or with octets in hexadecimal asks for nothing, and so does one with a name that
+/// no peer has.
 pub fn target_of(config: &Config, side: Side, path: &[u8]) -> Option<Target>
     ensures { Finds (AsksFor config.now side path.now) result }
 {
@@ -56,6 +57,7 @@ fn engine_target(config: &Config, path: &[u8]) -> Option<Target>
 }
 
 // The peer of whose account a path is that ends so.
+#[tactic(auto, using(crate::proofs::TargetLemmas::peer_of_path))]
 fn peer_in(config: &Config, path: &[u8], call: &[u8]) -> Option<u32>
     ensures { Finds (IsOfPeer config.now (account_target call.now) path.now) result }
 {
