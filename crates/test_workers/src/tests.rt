@@ -20,6 +20,7 @@ mod gathering;
 mod links;
 mod many;
 mod memory;
+mod messages;
 mod rows;
 mod sweeping;
 
@@ -27,6 +28,7 @@ use at_once::Two;
 use gathering::Gathering;
 use many::forward_all;
 use memory::Denied;
+use messages::{Message, Sending, Short};
 use rows::{Case, refuse_all};
 use sweeping::forward_slowly;
 
@@ -76,6 +78,11 @@ enum Scene<'a> {
     Swept,
     // A growth is denied.
     Denied(Denied<'a>),
+    // A message of a peer's engine is forwarded, or one is sent to it.
+    Message(Message<'a>),
+    Sending(Sending<'a>),
+    // A growth is denied for messages.
+    Short(Short<'a>),
     // Two packets are forwarded at once.
     Two(Two<'a>),
     // Many are.
@@ -96,6 +103,9 @@ impl Scene<'_> {
             Scene::Bad => refuse_all(rt, &desk, shares),
             Scene::Swept => forward_slowly(rt, &desk, shares),
             Scene::Denied(denied) => denied.play(rt, &desk, shares),
+            Scene::Message(message) => message.play(rt, &desk, shares),
+            Scene::Sending(sending) => sending.play(rt, &desk, shares),
+            Scene::Short(short) => short.play(rt, &desk, shares),
             Scene::Two(two) => two.play(rt, &desk, shares),
             Scene::Many => forward_all(rt, desk, shares),
             Scene::Gathering(gathering) => gathering.play(rt, desk, shares),

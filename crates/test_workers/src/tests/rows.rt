@@ -117,7 +117,7 @@ static ROWS: [Row; 10] = [
     },
     Row {
         name: "to an address of the scheme peer",
-        packet: "0c460000000000000064323032353031303130303030333030303066687aadf862bd776c8fc18b8e9f8e20089714856ee233b3902a591d0d5f29250b706565722e736574746c6500",
+        packet: "0c460000000000000064323032353031303130303030333030303066687aadf862bd776c8fc18b8e9f8e20089714856ee233b3902a591d0d5f29250b706565722e636f6e66696700",
         handed: "",
         answer: "0e1946303208746573742e6875620b756e726561636861626c6500",
         ending: None,
@@ -207,7 +207,7 @@ fn play_longest<R: Threads + Wait + Abort + Sync>(rt: &R, config: &Config) -> Re
 }
 
 // A Fulfill of 32 zero octets with 32,767 octets of data.
-fn longest(rt: &impl Abort, alloc: Global) -> Vec<u8> {
+pub(super) fn longest(rt: &impl Abort, alloc: Global) -> Vec<u8> {
     let mut octets = hex::decode(alloc, "0d828022").expect(rt, "hexadecimal");
     octets.resize(36, 0).expect(rt, "memory");
     octets
