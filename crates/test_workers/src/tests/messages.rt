@@ -155,11 +155,20 @@ static ROWS: [Row; 8] = [
 pub(super) struct Message<'a> {
     row: &'a Row,
     packet: &'a [u8],
-    reply: Option<&'a [u8]>,
+    reply: &'a [u8],
     answer: &'a [u8],
 }
 
 impl Message<'_> {
+    // What the engine answers, if it does.
+    fn reply(&self) -> Option<&[u8]> {
+        if self.row.answers {
+            Some(self.reply)
+        } else {
+            None
+        }
+    }
+
     // Has a worker of the desk forward the packet. Nothing is booked, and no peer is asked.
     pub(super) fn play<J: Naming, R: Wait + Abort>(
         &self,
@@ -171,7 +180,7 @@ impl Message<'_> {
         let asked = AtomicU64::new(0);
         let engine = Engine {
             rt,
-            reply: self.reply,
+            reply: self.reply(),
             asked: &asked,
         };
         let alloc = desk.config().allocator();
@@ -221,7 +230,7 @@ fn forward_row<R: Threads + Wait + Abort + Sync>(
     let message = Message {
         row,
         packet: &packet,
-        reply: if row.answers { Some(b"ok") } else { None },
+        reply: b"ok",
         answer: &answer,
     };
     play(rt, config, 1, &Scene::Message(message))
@@ -243,14 +252,14 @@ fn forward_longest<R: Threads + Wait + Abort + Sync>(rt: &R, config: &Config) ->
     let message = Message {
         row: &ANSWERED,
         packet: &packet,
-        reply: Some(&reply[..32_767]),
+        reply: &reply[..32_767],
         answer: &fulfill,
     };
     play(rt, config, 1, &Scene::Message(message))?;
     let too_long = Message {
         row: &ANSWERED,
         packet: &packet,
-        reply: Some(&reply),
+        reply: &reply,
         answer: &reject,
     };
     play(rt, config, 1, &Scene::Message(too_long))
@@ -341,10 +350,18 @@ pub(super) struct Sending<'a> {
     reply: &'a Reply,
     octets: &'a [u8],
     expected: &'a [u8],
-    came: Option<&'a [u8]>,
+    came: &'a [u8],
 }
 
 impl Sending<'_> {
+    // What bob replies, unless his link has a fault.
+    fn came(&self) -> Option<&[u8]> {
+        match self.reply.came {
+            Some(_) => Some(self.came),
+            None => None,
+        }
+    }
+
     pub(super) fn play<J: Naming, R: Wait + Abort>(
         &self,
         rt: &R,
@@ -355,7 +372,7 @@ impl Sending<'_> {
         let uplink = Peer {
             rt,
             expected: self.expected,
-            reply: self.came,
+            reply: self.came(),
         };
         let alloc = desk.config().allocator();
         let made = Worker::new(alloc, share, Still(START), uplink, NoEngine);
@@ -394,11 +411,7 @@ fn send_row<R: Threads + Wait + Abort + Sync>(
         reply,
         octets: b"hi",
         expected: &expected,
-        came: if reply.came.is_some() {
-            Some(&came)
-        } else {
-            None
-        },
+        came: &came,
     };
     play(rt, config, 1, &Scene::Sending(sending))
 }
@@ -422,13 +435,14 @@ fn send_longest<R: Threads + Wait + Abort + Sync>(rt: &R, config: &Config) -> Re
         reply: &REPLIES[0],
         octets: &octets[..32_767],
         expected: &expected,
-        came: Some(&answer),
+        came: &answer,
     };
     play(rt, config, 1, &Scene::Sending(sending))?;
     let too_long = Sending {
         reply: &TOO_LONG,
         octets: &octets,
-        ..sending
+        expected: &expected,
+        came: &answer,
     };
     play(rt, config, 1, &Scene::Sending(too_long))
 }
