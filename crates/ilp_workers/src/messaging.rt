@@ -1,5 +1,5 @@
 //! Messages between settlement engines (RFC 0038): Prepares of amount 0 to `peer.settle`.
-ghost use Rattle.std.specs.Prelude.{◌≡◌, ◌≤◌, [], length, Option, None, Some, IsSome, option_map, is_some, OnOk, MatchBool};
+ghost use Rattle.std.specs.Prelude.{◌≡◌, ◌≤◌, [], length, Some, option_map, is_some, OnOk, MatchBool};
 ghost use Rattle.ilp_terms.specs.Expiry.{IsMoment};
 ghost use Rattle.ilp_packet.specs.Packet.{most_payload, plain_prepare, prepare, fulfill, Spells};
 ghost use Rattle.ilp_book.specs.Configured.{IsKnown};
