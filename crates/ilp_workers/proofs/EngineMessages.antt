@@ -1,19 +1,23 @@
 -- The packets of messages between engines are within their limits, and what comes for one is an answer or none.
-use Rattle.std.proofs.Common.{◌≡◌, ℕ, ◌+◌, ◌≤◌, ℤ, true, false, List, length, Option, Some, None, refl, sym, arith, lit<, rules, subst}
-use Rattle.std.specs.Prelude.{Result, Ok, Err, is_some, IsSome}
+use Rattle.std.proofs.Common.{◌≡◌, ℕ, ◌+◌, ◌≤◌, ℤ, Bool, true, false, List, length, Option, Some, None, refl, sym, ap, ◌∙◌, arith, lit<, rules, subst}
+use Rattle.std.specs.Prelude.{Result, Ok, Err, is_some, IsSome, if◌then◌else◌, bytes_eq}
 use Rattle.std.proofs.lemmas.Bool.Decides.{nat_tests}
+use Rattle.std.proofs.lemmas.Slice.Eq.{bytes_eq-Decides}
 use Rattle.ilp_oer.specs.OctetString as oer
 use Rattle.ilp_terms.specs.Expiry.{IsMoment}
 use Rattle.ilp_packet.specs.Address.{is_scheme, is_address}
-use Rattle.ilp_packet.specs.Packet.{most_payload, prepare, fulfill, IsPrepare, IsFulfill, Spells}
+use Rattle.ilp_packet.specs.Packet.{PlainPacket, most_payload, prepare, fulfill, reject, IsPrepare, IsFulfill, Spells}
+use Rattle.ilp_packet.specs.declared.fault.PacketFault.{PacketFault}
+use Rattle.ilp_packet.specs.Reading.{AreOctets, reading}
 use Rattle.ilp_packet.specs.Writing.{size}
 use Rattle.ilp_packet.proofs.AddressLemmas.{address_from_test}
 use Rattle.ilp_packet.proofs.ContentLemmas.{length-fulfill}
+use Rattle.ilp_packet.proofs.ReadingLemmas.{reading_spelled, reading_again}
 use Rattle.ilp_packet.proofs.WritingLemmas.{size_by_content}
 use Rattle.ilp_accounts.specs.Configuration.{Configuration}
 use Rattle.ilp_workers.specs.declared.links.LinkFault.{LinkFault}
 use Rattle.ilp_workers.specs.Links.{Tells, Sending, sending, came_of}
-use Rattle.ilp_workers.specs.Messaging.{settle_address, message_prepare, message_expiry, zero_fulfill, longest_fulfill, answer_of, IsPassedOn}
+use Rattle.ilp_workers.specs.Messaging.{settle_address, message_prepare, message_expiry, zero_preimage, zero_fulfill, answer_in, longest_fulfill, answer_of, IsPassedOn}
 
 -- ---- packets
 
@@ -61,6 +65,28 @@ answer_came (Err fault) reply is = absurd cc
 pub no_answer_came : (answer : Option (List ℕ)) → is_some answer ≡ false → answer ≡ None
 no_answer_came None is = refl
 no_answer_came (Some x) is = absurd cc
+
+-- an answer that was read is the data of a Fulfill of 32 zero octets
+answer_read : (read : Result PlainPacket PacketFault) (answer : List ℕ) → answer_in read ≡ Some answer → read ≡ Ok (fulfill (zero_fulfill answer))
+answer_read (Ok (prepare p)) answer is = absurd cc
+answer_read (Ok (reject r)) answer is = absurd cc
+answer_read (Err fault) answer is = absurd cc
+answer_read (Ok (fulfill f)) answer is = of (bytes_eq f.preimage zero_preimage) refl is
+  where
+    of : (b : Bool) → bytes_eq f.preimage zero_preimage ≡ b → (if b then Some f.payload else None) ≡ Some answer → ◌≡◌ {A = Result PlainPacket PacketFault} (Ok (fulfill f)) (Ok (fulfill (zero_fulfill answer)))
+    of false same is = absurd cc
+    of true same is =
+        let preimage : f.preimage ≡ zero_preimage = (bytes_eq-Decides f.preimage zero_preimage).0 same in
+        let payload : f.payload ≡ answer = cc in
+        ap (λ p. Ok (fulfill (record { preimage = p; payload = f.payload }))) preimage ∙ ap (λ p. Ok (fulfill (zero_fulfill p))) payload
+
+-- so the octets stand for that
+pub answer_spelled : (octets answer : List ℕ) → AreOctets octets → answer_of (Some octets) ≡ Some answer → Spells octets (fulfill (zero_fulfill answer))
+answer_spelled octets answer are is = reading_spelled octets (fulfill (zero_fulfill answer)) are (answer_read (reading octets) answer is)
+
+-- and its octets are read as that
+pub spelled_answer : (octets answer : List ℕ) → Spells octets (fulfill (zero_fulfill answer)) → answer_of (Some octets) ≡ Some answer
+spelled_answer octets answer spelled = ap answer_in (reading_again octets (fulfill (zero_fulfill answer)) spelled)
 
 -- ---- what the peer is handed
 

@@ -1,5 +1,5 @@
 -- What a settler learns of its sessions: how many entries each booked.
-use Rattle.std.proofs.Common.{◌≡◌, ℕ, ◌+◌, ℤ, Bool, List, ◌++◌, Option, Some, None, refl, sym, ap, ◌∙◌, subst}
+use Rattle.std.proofs.Common.{◌≡◌, ℕ, ℤ, Bool, List, ◌++◌, Option, Some, None, refl, sym, ap, ◌∙◌}
 use Rattle.std.specs.Prelude.{Result, Ok, Err}
 use Rattle.ilp_journal.specs.declared.entry.Ask.{Ask}
 use Rattle.ilp_journal.specs.Journal.{open_ask_at}
@@ -9,7 +9,7 @@ use Rattle.ilp_book.specs.declared.fault.NotOpen.{NotOpen}
 use Rattle.ilp_book.specs.Book.{PlainBook, By, by, Growth, granted, denied, Does}
 use Rattle.ilp_book.specs.SettleStep.{ask_checked, ask_booked, ask_growth, ask_step, EngineVerdict, verdict_of, close_booked, close_step}
 use Rattle.ilp_desk.specs.Desk.{PlainDesk}
-use Rattle.ilp_desk.specs.Portion.{Portion, portion, Holding}
+use Rattle.ilp_desk.specs.Portion.{Portion, Holding}
 use Rattle.ilp_workers.specs.declared.turn.Turn.{Turn}
 use Rattle.ilp_workers.specs.Links.{Tells}
 use Rattle.ilp_workers.specs.Settler.{IsAskedAt, asks_of, IsAsking, IsClosedAt, closings_of, kept_of_close, turn_of_close, IsClosing}

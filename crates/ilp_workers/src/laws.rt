@@ -1,8 +1,9 @@
 //! What holds of the definitions. These functions do nothing: their contracts are the laws.
-ghost use Rattle.std.specs.Prelude.{◌≡◌, ◌⊎◌, ℕ, ◌≤◌, length, codes, Some, Ok};
+ghost use Rattle.std.specs.Prelude.{◌≡◌, ◌⊎◌, ℕ, ◌≤◌, true, List, length, codes, Some, Ok};
 ghost use Rattle.ilp_oer.specs.Octets.{AreOctets};
+ghost use Rattle.ilp_terms.specs.Condition.{meets};
 ghost use Rattle.ilp_packet.specs.Address.{most_address};
-ghost use Rattle.ilp_packet.specs.Packet.{PlainPrepare, prepare, reject, Spells};
+ghost use Rattle.ilp_packet.specs.Packet.{PlainPrepare, prepare, fulfill, reject, Spells};
 ghost use Rattle.ilp_packet.specs.Writing.{size};
 ghost use Rattle.ilp_accounts.specs.Configuration.{Configuration};
 ghost use Rattle.ilp_book.specs.declared.fault.HoldFault.{HoldFault};
@@ -12,7 +13,7 @@ ghost use Rattle.ilp_workers.specs.Rejects.{local_reject, longest_local_reject, 
 ghost use Rattle.ilp_workers.specs.Rows.{RejectRows};
 ghost use Rattle.ilp_workers.specs.declared.reply.Receipt.{Receipt};
 ghost use Rattle.ilp_workers.specs.Worker.{PlainWorker};
-ghost use Rattle.ilp_workers.specs.Messaging.{IsForEngine};
+ghost use Rattle.ilp_workers.specs.Messaging.{IsForEngine, zero_condition, zero_preimage, zero_fulfill, answer_of};
 ghost use Rattle.ilp_workers.specs.Arrivals.{Arrival, IsForPeers, Forwards};
 ghost use Rattle.ilp_workers.specs.Outcome.{IsFulfilled, IsRejected, IsRefusedAs, standing_refusal};
 
@@ -55,4 +56,18 @@ pub fn standing_refusals_are_told()
         → (¬ IsForEngine packet)
         → standing_refusal a.desk.config (incoming a.desk.config a.from packet) ≡ Some fault
         → IsRefusedAs a.desk after receipt (reject_of_fault packet.amount fault) }
+{}
+
+/// The condition of every message between engines is the SHA-256 digest of 32 zero octets.
+pub fn messages_are_met()
+    ensures { meets zero_condition zero_preimage ≡ true }
+{}
+
+/// What a peer's engine answered is the data of a Fulfill of 32 zero octets, for which the octets
+/// that came stand.
+pub fn answers_are_fulfills()
+    ensures answer { (octets answer : List ℕ) → AreOctets octets
+        → answer_of (Some octets) ≡ Some answer → Spells octets (fulfill (zero_fulfill answer)) }
+    ensures fulfill { (octets answer : List ℕ) → Spells octets (fulfill (zero_fulfill answer))
+        → answer_of (Some octets) ≡ Some answer }
 {}

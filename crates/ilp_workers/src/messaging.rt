@@ -1,5 +1,5 @@
 //! Messages between settlement engines (RFC 0038): Prepares of amount 0 to `peer.settle`.
-ghost use Rattle.std.specs.Prelude.{◌≡◌, ◌≤◌, [], length, Option, None, Some, IsSome, option_map, is_some, OnOk, MatchBool};
+ghost use Rattle.std.specs.Prelude.{◌≡◌, ◌≤◌, [], length, Some, option_map, is_some, OnOk, MatchBool};
 ghost use Rattle.ilp_terms.specs.Expiry.{IsMoment};
 ghost use Rattle.ilp_packet.specs.Packet.{most_payload, plain_prepare, prepare, fulfill, Spells};
 ghost use Rattle.ilp_book.specs.Configured.{IsKnown};
@@ -173,9 +173,11 @@ impl<J: Naming, C: Clock + Drop, U: Uplink + Drop, E: EngineLink + Drop, A: Allo
         requires known { IsKnown config.now from }
         ensures { IsMessaged config.now from (plain_prepare packet.now)
             (worker self.old.share self.old.records.items (C.told self.old.clock) (U.told self.old.uplink)
-            (E.told self.old.engine) (reply_of self.old.reply_in self.old.incoming.octets self.old.outgoing.octets self.old.rejected.octets))
+            (E.told self.old.engine) (reply_of self.old.reply_in self.old.incoming.octets
+            self.old.outgoing.octets self.old.rejected.octets))
             (worker self.new.share self.new.records.items (C.told self.new.clock) (U.told self.new.uplink)
-            (E.told self.new.engine) (reply_of self.new.reply_in self.new.incoming.octets self.new.outgoing.octets self.new.rejected.octets)) }
+            (E.told self.new.engine) (reply_of self.new.reply_in self.new.incoming.octets
+            self.new.outgoing.octets self.new.rejected.octets)) }
     {
         let now = self.clock.now();
         match self.ask_engine(config, from, packet, now) {
@@ -227,9 +229,11 @@ impl<J: Naming, C: Clock + Drop, U: Uplink + Drop, E: EngineLink + Drop, A: Allo
     ) -> Result<(), MessageFault>
         ensures { Messages config.now peer octets.now
             (worker self.old.share self.old.records.items (C.told self.old.clock) (U.told self.old.uplink)
-            (E.told self.old.engine) (reply_of self.old.reply_in self.old.incoming.octets self.old.outgoing.octets self.old.rejected.octets))
+            (E.told self.old.engine) (reply_of self.old.reply_in self.old.incoming.octets
+            self.old.outgoing.octets self.old.rejected.octets))
             (worker self.new.share self.new.records.items (C.told self.new.clock) (U.told self.new.uplink)
-            (E.told self.new.engine) (reply_of self.new.reply_in self.new.incoming.octets self.new.outgoing.octets self.new.rejected.octets)) result }
+            (E.told self.new.engine) (reply_of self.new.reply_in self.new.incoming.octets
+            self.new.outgoing.octets self.new.rejected.octets)) result }
     {
         if octets.len() > MAX_MESSAGE {
             return Err(MessageFault::TooLong);

@@ -39,7 +39,7 @@ pub(crate) struct Parts<
     pub(crate) engine: E,
     // The Prepare that a peer is handed, or the Fulfill of what an engine answered.
     pub(crate) outgoing: Octets<A>,
-    // What comes back for it, or from the engine.
+    // What comes back for it, or what an engine answers.
     pub(crate) incoming: Octets<A>,
     // The connector's own Reject, for which there is room.
     pub(crate) rejected: Octets<A>,

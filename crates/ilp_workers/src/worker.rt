@@ -114,8 +114,8 @@ impl<J: Naming, C: Clock + Drop, U: Uplink + Drop, E: EngineLink + Drop, A: Allo
     }
 
     /// The octets of the Fulfill or the Reject that the sender of the last packet is answered with,
-    /// or by which a peer answered the last message; none before the first, and none after a message
-    /// that was sent or was to be and has no answer.
+    /// or of the Fulfill that answered the last message. There are none before the first, and none
+    /// after a message that no answer came for, or no memory was there for.
     pub fn reply(&self) -> &[u8]
         ensures { result.now ≡ self.now.reply }
     {
@@ -130,7 +130,7 @@ impl<J: Naming, C: Clock + Drop, U: Uplink + Drop, E: EngineLink + Drop, A: Allo
     ///
     /// A Prepare to `peer.settle` carries a message of the peer's settlement engine (RFC 0038), and
     /// books nothing. The engine here is handed its data, and the answer is a Fulfill of 32 zero
-    /// octets with what the engine answers.
+    /// octets with what the engine answers, or the Reject of its first refusal.
     pub fn forward(
         &mut self,
         rt: &impl Wait,
@@ -175,7 +175,7 @@ impl<J: Naming, C: Clock + Drop, U: Uplink + Drop, E: EngineLink + Drop, A: Allo
     /// Sends a message of the settlement engine here to that of a peer (RFC 0038): a Prepare of
     /// amount 0 to `peer.settle`, which expires after the longest hold and books nothing. After an
     /// `Ok`, `answer` has what the peer's engine answered. A message of more than 32,767 octets is
-    /// refused, and leaves all as it was.
+    /// refused, and leaves all as it was. After another fault `reply` and `answer` are empty.
     pub fn message(&mut self, desk: &Desk<J>, peer: u32, octets: &[u8]) -> Result<(), MessageFault>
         ensures { Messages J.desk.config peer octets.now self.old self.new result }
     {
