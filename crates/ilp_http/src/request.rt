@@ -1,5 +1,5 @@
 //! Reading a request.
-ghost use Rattle.std.specs.Prelude.{◌≡◌, ◌≤◌, length, take, IfOk, IfErr, IfSome, IsErrOf};
+ghost use Rattle.std.specs.Prelude.{◌≡◌, ℕ, ◌≤◌, List, length, take, IfOk, IfErr, IfSome, IsErrOf};
 ghost use Rattle.std.specs.Io.KnownBytes.{Consumes};
 ghost use Rattle.ilp_io.specs.Counts.{Tallies, TalliesUpTo};
 ghost use Rattle.ilp_http.specs.Layout.{IsLayoutOf};
@@ -103,6 +103,8 @@ pub fn read_request<'b, S: Source>(
     buffer: &'b mut Buffer,
 ) -> Result<Request<'b>, RequestFault>
     ensures answer { IfSome (S.remaining source.old) (λ input. IsAnswer input result) }
+    // Also of a source whose octets are not known: some octets begin with the request.
+    ensures begun { IfOk result (λ request. (octets : List ℕ) × HasPartsOf octets request) }
     ensures counted { TalliesUpTo (S.tally source.old) (S.tally source.new)
         MOST_READS (failed_reads result) }
     ensures patient { IsErrOf result RequestFault.TooManyReads

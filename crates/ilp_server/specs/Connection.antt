@@ -1,10 +1,10 @@
 -- What becomes of a connection: what was read of it, what the worker made of that, and what was written.
-use Rattle.std.specs.Prelude.{◌≡◌, ℕ, List, Option, Result, Ok, Err, IfSome}
+use Rattle.std.specs.Prelude.{◌≡◌, ℕ, List, Option, Result, Ok, Err, IfSome, IfOk}
 use Rattle.std.specs.Io.KnownBytes.{Appends}
 use Rattle.ilp_io.specs.Counts.{Tally, TalliesUpTo, CountsUp}
 use Rattle.ilp_io.specs.Writing.{AppendsProperPrefix}
 use Rattle.ilp_http.specs.Writing.{response_text}
-use Rattle.ilp_http.specs.Answer.{IsAnswer, failed_reads}
+use Rattle.ilp_http.specs.Answer.{IsAnswer, HasPartsOf, failed_reads}
 use Rattle.ilp_http.specs.declared.status.Status.{Status}
 use Rattle.ilp_http.specs.declared.refusal.RequestFault.{RequestFault}
 use Rattle.ilp_http.specs.declared.request.Request.{Request}
@@ -84,6 +84,7 @@ wire input reads output failures = record { input = input; reads = reads; output
 pub record Answers (desk : PlainDesk) (side : Side) (old new : Wire) (before after : PlainWorker) (handled : Handled) : Type 0 where
   pub request : Result Request RequestFault
   pub read : IfSome old.input (λ octets. IsAnswer octets request)
+  pub begun : IfOk request (λ found. (octets : List ℕ) × HasPartsOf octets found)
   pub counted : TalliesUpTo old.reads new.reads most_reads (failed_reads request)
   pub outcome : Result (Result Served NotServed) ConnectionFault
   pub served : IsOutcome desk side request before after outcome

@@ -8,6 +8,7 @@ pub returns-in-Ok : goal.returns-in-Ok
 returns-in-Ok g c = record {
   request = Ok c.in-Ok.request;
   read = c.in-Ok.ensures.answer;
+  begun = c.in-Ok.ensures.begun;
   counted = c.in-Ok.ensures.counted;
   outcome = Ok c.serve-outcome.result;
   served = c.serve-outcome.ensures;
@@ -20,6 +21,7 @@ pub returns-in-Ok-unread : goal.returns-in-Ok-unread
 returns-in-Ok-unread g c = record {
   request = Err c.in-Err.fault;
   read = c.in-Err.ensures.answer;
+  begun = tt;
   counted = c.in-Err.ensures.counted;
   outcome = Ok (Err c.in-Ok-unread.why);
   served = (c.in-Ok-unread.why, sym c.in-Ok-unread.ensures, refl, refl);
@@ -32,6 +34,7 @@ pub returns-in-Err-unread : goal.returns-in-Err-unread
 returns-in-Err-unread g c = record {
   request = Err c.in-Err.fault;
   read = c.in-Err.ensures.answer;
+  begun = tt;
   counted = c.in-Err.ensures.counted;
   outcome = Err c.in-Err-unread.fault;
   served = (sym c.in-Err-unread.ensures, refl);
