@@ -247,7 +247,7 @@ TEXTS = [
     "R02: insufficient timeout",
     "octets are missing", "the packet is no Prepare",
     "actor 0 has two ends", "actor 1 has no end", "what actor 2 kept is not what it booked",
-    "no reply came",
+    "a desk has 1 to 64 workers", "memory is short", "no reply came",
 ]
 
 if __name__ == "__main__":

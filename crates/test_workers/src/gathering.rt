@@ -5,7 +5,7 @@ use crate::links::{NoEngine, Quiet, Still};
 use crate::scenes::{ALICE, Given, START};
 use crate::told::{print_actor, print_book};
 use ilp_book::PeerReply;
-use ilp_desk::{Desk, End, Naming, NotGathered, Share, gather};
+use ilp_desk::{Closed, Desk, End, Naming, NotGathered, Share, gather};
 use ilp_packet::Packet;
 use ilp_workers::{Settler, Sweeper, Uplink, Worker};
 use std::io;
@@ -110,12 +110,20 @@ fn end_over<J: Naming, U: Uplink + Drop>(
 ) -> Option<End<J>> {
     let alloc = desk.config().allocator();
     match Worker::new(alloc, share, Still(START), uplink, NoEngine) {
-        Ok(mut worker) => {
-            let _ = forward(rt, &mut worker, desk, ALICE, packet);
-            Some(worker.into_end())
-        }
+        Ok(worker) => Some(end_after(rt, desk, worker, packet)),
         Err(_) => None,
     }
+}
+
+fn end_after<J: Naming, U: Uplink + Drop>(
+    rt: &impl Wait,
+    desk: &Desk<J>,
+    worker: Worker<J, Still, U, NoEngine>,
+    packet: &[u8],
+) -> End<J> {
+    let mut worker = worker;
+    let _ = forward(rt, &mut worker, desk, ALICE, packet);
+    worker.into_end()
 }
 
 /// The end of a sweeper that had a turn when the desk opened.
@@ -175,7 +183,15 @@ fn close_left<J: Naming>(rt: &impl Print, left: NotGathered<J>, sweeper: End<J>)
 }
 
 fn print_gathered<J: Naming>(rt: &impl Print, desk: Desk<J>, ends: Vec<End<J>>) -> io::Result<()> {
-    match gather(desk, ends) {
+    let gathered = gather(desk, ends);
+    print_closed(rt, &gathered)
+}
+
+fn print_closed<J: Naming>(
+    rt: &impl Print,
+    gathered: &Result<Closed, NotGathered<J>>,
+) -> io::Result<()> {
+    match gathered {
         Ok(closed) => print_book(rt, &closed.book),
         Err(left) => println!(rt; "not gathered: {}", left.why),
     }

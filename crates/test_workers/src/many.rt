@@ -5,7 +5,9 @@ use crate::gathering::{push_end, settler_end, sweeper_end};
 use crate::links::{NoEngine, Still, put};
 use crate::scenes::{ALICE, BOB, Given, START};
 use ilp_book::Book;
-use ilp_desk::{Desk, End, EndedHold, Ending, Naming, Record, Recorded, Share, gather};
+use ilp_desk::{
+    Closed, Desk, End, EndedHold, Ending, Naming, NotGathered, Record, Recorded, Share, gather,
+};
 use ilp_journal::What;
 use ilp_oer::Octets;
 use ilp_workers::{LinkFault, Uplink, Worker};
@@ -75,16 +77,19 @@ pub(crate) fn forward_all<J: Naming + Send + Sync, R: Print + Threads + Wait + S
     given: &Given<'_>,
 ) -> io::Result<()> {
     let ends = ends_at_once(rt, &desk, shares, given);
-    let totals = totals_of_ends(&ends);
-    match gather(desk, ends) {
-        Ok(closed) => print_totals(rt, &totals, &closed.book),
-        Err(left) => println!(rt; "not gathered: {}", left.why),
-    }
+    let _ = println!(rt; "ends: {:?}", totals_of_ends(&ends));
+    let gathered = gather(desk, ends);
+    print_totals(rt, &gathered)
 }
 
-fn print_totals(rt: &impl Print, totals: &Totals, book: &Book) -> io::Result<()> {
-    println!(rt; "ends: {totals:?}")?;
-    println!(rt; "book: {:?}", totals_of_book(book))
+fn print_totals<J: Naming>(
+    rt: &impl Print,
+    gathered: &Result<Closed, NotGathered<J>>,
+) -> io::Result<()> {
+    match gathered {
+        Ok(closed) => println!(rt; "book: {:?}", totals_of_book(&closed.book)),
+        Err(left) => println!(rt; "not gathered: {}", left.why),
+    }
 }
 
 // What the actors hand in, as far as there is memory for it.
@@ -135,15 +140,23 @@ fn work<J: Naming>(
     let alloc = desk.config().allocator();
     let dice = Dice::of_worker(share.actor());
     match Worker::new(alloc, share, Still(START), Fickle(dice), NoEngine) {
-        Ok(mut worker) => {
-            fulfilled.fetch_add(
-                forward_many(rt, desk, &mut worker, given, dice),
-                Ordering::SeqCst,
-            );
-            Some(worker.into_end())
-        }
+        Ok(worker) => Some(end_after(rt, desk, worker, given, fulfilled)),
         Err(_) => None,
     }
+}
+
+fn end_after<J: Naming>(
+    rt: &impl Wait,
+    desk: &Desk<J>,
+    worker: Worker<J, Still, Fickle, NoEngine>,
+    given: &Given<'_>,
+    fulfilled: &AtomicU64,
+) -> End<J> {
+    let mut worker = worker;
+    let dice = Dice::of_worker(worker.share().actor());
+    let forwarded = forward_many(rt, desk, &mut worker, given, dice);
+    fulfilled.fetch_add(forwarded, Ordering::SeqCst);
+    worker.into_end()
 }
 
 // Has a worker forward packets of both peers. How many of them are fulfilled?
@@ -155,32 +168,43 @@ fn forward_many<J: Naming>(
     dice: Dice,
 ) -> u64 {
     let mut dice = dice;
-    let mut room = [0; 80];
     let mut fulfilled = 0u64;
     for _packet in 0..PACKETS {
         let amount = dice.roll();
-        let (from, packet) = if amount % 2 == 0 {
-            (ALICE, of_amount(&mut room, given.packet, amount))
-        } else {
-            (BOB, of_amount(&mut room, given.other, amount))
-        };
-        let _ = forward(rt, worker, desk, from, packet);
-        if worker.reply().first().copied() == Some(0x0d) {
+        if is_fulfilled(rt, desk, worker, given, amount) {
             fulfilled = fulfilled.wrapping_add(1);
         }
     }
     fulfilled
 }
 
-// The Prepare with another amount, which stands behind its type and its length.
-fn of_amount<'a>(room: &'a mut [u8; 80], packet: &[u8], amount: u64) -> &'a [u8] {
-    let size = packet.len();
-    if size < 10 || size > 80 {
-        return &[];
+// Has a worker forward a Prepare of this amount. An even one is alice's, an odd one bob's.
+fn is_fulfilled<J: Naming>(
+    rt: &impl Wait,
+    desk: &Desk<J>,
+    worker: &mut Worker<J, Still, Fickle, NoEngine>,
+    given: &Given<'_>,
+    amount: u64,
+) -> bool {
+    let alloc = desk.config().allocator();
+    let (from, packet) = if amount % 2 == 0 {
+        (ALICE, given.packet)
+    } else {
+        (BOB, given.other)
+    };
+    let Ok(mut octets) = packet.to_vec(alloc) else {
+        return false;
+    };
+    set_amount(octets.as_mut_slice(), amount);
+    let _ = forward(rt, worker, desk, from, octets.as_slice());
+    worker.reply().first().copied() == Some(0x0d)
+}
+
+// Gives the Prepare another amount, which stands behind its type and its length.
+fn set_amount(packet: &mut [u8], amount: u64) {
+    if packet.len() >= 10 {
+        packet[2..10].copy_from_slice(&amount.to_be_bytes());
     }
-    room[..size].copy_from_slice(packet);
-    room[2..10].copy_from_slice(&amount.to_be_bytes());
-    &room[..size]
 }
 
 /// What was booked: how many entries, how many holds that were fulfilled, and their amounts in and

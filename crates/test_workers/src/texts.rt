@@ -1,6 +1,6 @@
 //! The texts of what a worker and a desk refuse, and the codes of the Rejects.
 
-use ilp_desk::WhyNotGathered;
+use ilp_desk::{WhyNoDesk, WhyNotGathered};
 use ilp_packet::PacketFault;
 use ilp_workers::{BadPacket, LinkFault, LocalReject};
 use std::{io, str};
@@ -46,5 +46,7 @@ pub(crate) fn print_texts(rt: &impl Print) -> io::Result<()> {
     for why in NOT_GATHERED {
         println!(rt; "{why}")?;
     }
+    println!(rt; "{}", WhyNoDesk::BadWorkers)?;
+    println!(rt; "{}", WhyNoDesk::Memory)?;
     println!(rt; "{LinkFault}")
 }
