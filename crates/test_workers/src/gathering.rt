@@ -4,10 +4,11 @@ use crate::forwards::forward;
 use crate::links::{NoEngine, Quiet, Still};
 use crate::scenes::{ALICE, Given, START};
 use crate::told::{print_actor, print_book};
-use ilp_book::PeerReply;
-use ilp_desk::{Closed, Desk, End, Naming, NotGathered, Share, gather};
+use ilp_book::{Book, PeerReply};
+use ilp_desk::{Closed, Desk, End, Naming, NotGathered, Share, WhyNotGathered, gather};
 use ilp_packet::Packet;
-use ilp_workers::{Settler, Sweeper, Uplink, Worker};
+use ilp_workers::{NoSettler, NoWorker, Settler, Sweeper, Uplink, Worker};
+use std::alloc::Global;
 use std::io;
 use std::sync::Wait;
 use std::sync::atomic::AtomicU64;
@@ -50,21 +51,10 @@ fn ends_of<J: Naming>(
 ) -> Vec<End<J>> {
     let mut ends = Vec::new(desk.config().allocator());
     for share in shares {
-        let end = if missing == Missing::Records && share.actor() == 0 {
-            Some(book_beside(rt, desk, share, given))
-        } else {
-            end_of(rt, desk, share, given)
-        };
-        push_end(&mut ends, end);
-    }
-    ends
-}
-
-/// Adds what an actor hands in, if there is memory for it.
-pub(crate) fn push_end<J: Naming>(ends: &mut Vec<End<J>>, end: Option<End<J>>) {
-    if let Some(end) = end {
+        let end = end_of(rt, desk, share, given, missing);
         let _ = ends.push(end);
     }
+    ends
 }
 
 fn print_ends<J: Naming>(rt: &impl Print, ends: &Vec<End<J>>) -> io::Result<()> {
@@ -74,17 +64,19 @@ fn print_ends<J: Naming>(rt: &impl Print, ends: &Vec<End<J>>) -> io::Result<()> 
     Ok(())
 }
 
-/// What an actor of a desk with one worker hands in: the worker forwards the packet, the sweeper
-/// finds nothing due, and the settler does nothing.
-pub(crate) fn end_of<J: Naming>(
+// What an actor of a desk with one worker hands in: the worker forwards the packet, the sweeper finds
+// nothing due, and the settler does nothing.
+fn end_of<J: Naming>(
     rt: &impl Wait,
     desk: &Desk<J>,
     share: Share<J>,
     given: &Given<'_>,
-) -> Option<End<J>> {
+    missing: Missing,
+) -> End<J> {
     match share.actor() {
+        0 if missing == Missing::Records => book_beside(rt, desk, share, given),
         0 => worker_end(rt, desk, share, given),
-        1 => Some(sweeper_end(rt, desk, share)),
+        1 => sweeper_end(rt, desk, share),
         _ => settler_end(desk, share),
     }
 }
@@ -94,7 +86,7 @@ fn worker_end<J: Naming>(
     desk: &Desk<J>,
     share: Share<J>,
     given: &Given<'_>,
-) -> Option<End<J>> {
+) -> End<J> {
     let asked = AtomicU64::new(0);
     let uplink = Quiet::new(given, &asked);
     end_over(rt, desk, share, uplink, given.packet)
@@ -107,12 +99,26 @@ fn end_over<J: Naming, U: Uplink + Drop>(
     share: Share<J>,
     uplink: U,
     packet: &[u8],
-) -> Option<End<J>> {
+) -> End<J> {
     let alloc = desk.config().allocator();
     match Worker::new(alloc, share, Still(START), uplink, NoEngine) {
-        Ok(worker) => Some(end_after(rt, desk, worker, packet)),
-        Err(_) => None,
+        Ok(worker) => end_after(rt, desk, worker, packet),
+        Err(back) => end_without(alloc, back),
     }
+}
+
+/// What is handed in for a worker that there is no memory for.
+pub(crate) fn end_without<J: Naming, U: Uplink + Drop>(
+    alloc: Global,
+    back: NoWorker<J, Still, U, NoEngine>,
+) -> End<J> {
+    let NoWorker {
+        share,
+        clock: _,
+        uplink: _,
+        engine: _,
+    } = back;
+    End::new(share, Vec::new(alloc))
 }
 
 fn end_after<J: Naming, U: Uplink + Drop>(
@@ -134,10 +140,18 @@ pub(crate) fn sweeper_end<J: Naming>(rt: &impl Wait, desk: &Desk<J>, share: Shar
 }
 
 /// The end of a settler that had no turn.
-pub(crate) fn settler_end<J: Naming>(desk: &Desk<J>, share: Share<J>) -> Option<End<J>> {
-    match Settler::new(desk.config().allocator(), share, Still(START), NoEngine) {
-        Ok(settler) => Some(settler.into_end()),
-        Err(_) => None,
+pub(crate) fn settler_end<J: Naming>(desk: &Desk<J>, share: Share<J>) -> End<J> {
+    let alloc = desk.config().allocator();
+    match Settler::new(alloc, share, Still(START), NoEngine) {
+        Ok(settler) => settler.into_end(),
+        Err(back) => {
+            let NoSettler {
+                share,
+                clock: _,
+                engine: _,
+            } = back;
+            End::new(share, Vec::new(alloc))
+        }
     }
 }
 
@@ -178,21 +192,30 @@ fn close_left<J: Naming>(rt: &impl Print, left: NotGathered<J>, sweeper: End<J>)
     let NotGathered { desk, ends, why } = left;
     let mut ends = ends;
     let _ = println!(rt; "not gathered: {why}");
-    push_end(&mut ends, Some(sweeper));
+    let _ = ends.push(sweeper);
     print_gathered(rt, desk, ends)
 }
 
 fn print_gathered<J: Naming>(rt: &impl Print, desk: Desk<J>, ends: Vec<End<J>>) -> io::Result<()> {
-    let gathered = gather(desk, ends);
-    print_closed(rt, &gathered)
+    match book_of(desk, ends) {
+        Ok(book) => print_book(rt, &book),
+        Err(why) => println!(rt; "not gathered: {why}"),
+    }
 }
 
-fn print_closed<J: Naming>(
-    rt: &impl Print,
-    gathered: &Result<Closed, NotGathered<J>>,
-) -> io::Result<()> {
-    match gathered {
-        Ok(closed) => print_book(rt, &closed.book),
-        Err(left) => println!(rt; "not gathered: {}", left.why),
+/// The book of the desk once its ends are gathered, or why they are not.
+pub(crate) fn book_of<J: Naming>(desk: Desk<J>, ends: Vec<End<J>>) -> Result<Book, WhyNotGathered> {
+    match gather(desk, ends) {
+        Ok(Closed { book }) => Ok(book),
+        Err(left) => Err(why_of(left)),
     }
+}
+
+fn why_of<J: Naming>(left: NotGathered<J>) -> WhyNotGathered {
+    let NotGathered {
+        desk: _,
+        ends: _,
+        why,
+    } = left;
+    why
 }

@@ -1,21 +1,19 @@
 //! Many workers that forward at once, and what their ends add up to.
 
 use crate::forwards::forward;
-use crate::gathering::{push_end, settler_end, sweeper_end};
+use crate::gathering::{book_of, end_without, settler_end, sweeper_end};
 use crate::links::{NoEngine, Still, put};
 use crate::scenes::{ALICE, BOB, Given, START};
 use ilp_book::Book;
-use ilp_desk::{
-    Closed, Desk, End, EndedHold, Ending, Naming, NotGathered, Record, Recorded, Share, gather,
-};
+use ilp_desk::{Desk, End, EndedHold, Ending, Naming, Record, Recorded, Share};
 use ilp_journal::What;
 use ilp_oer::Octets;
 use ilp_workers::{LinkFault, Uplink, Worker};
-use std::alloc::{Allocator, Global};
-use std::io;
+use std::alloc::Allocator;
 use std::sync::Wait;
 use std::sync::atomic::{AtomicU64, Ordering};
 use std::thread::{Threads, map_vec};
+use std::{cmp, io};
 
 // How many packets each worker forwards.
 const PACKETS: u32 = 200;
@@ -78,17 +76,9 @@ pub(crate) fn forward_all<J: Naming + Send + Sync, R: Print + Threads + Wait + S
 ) -> io::Result<()> {
     let ends = ends_at_once(rt, &desk, shares, given);
     let _ = println!(rt; "ends: {:?}", totals_of_ends(&ends));
-    let gathered = gather(desk, ends);
-    print_totals(rt, &gathered)
-}
-
-fn print_totals<J: Naming>(
-    rt: &impl Print,
-    gathered: &Result<Closed, NotGathered<J>>,
-) -> io::Result<()> {
-    match gathered {
-        Ok(closed) => println!(rt; "book: {:?}", totals_of_book(&closed.book)),
-        Err(left) => println!(rt; "not gathered: {}", left.why),
+    match book_of(desk, ends) {
+        Ok(book) => println!(rt; "book: {:?}", totals_of_book(&book)),
+        Err(why) => println!(rt; "not gathered: {why}"),
     }
 }
 
@@ -109,17 +99,9 @@ fn ends_at_once<J: Naming + Send + Sync, R: Print + Threads + Wait + Sync>(
     let fulfilled = fulfilled.load(Ordering::SeqCst);
     let _ = println!(rt; "senders answered with a Fulfill: {fulfilled}");
     match worked {
-        Ok(ends) => handed_in(desk.config().allocator(), ends),
+        Ok(ends) => ends,
         Err(_) => Vec::new(desk.config().allocator()),
     }
-}
-
-fn handed_in<J: Naming>(alloc: Global, worked: Vec<Option<End<J>>>) -> Vec<End<J>> {
-    let mut ends = Vec::new(alloc);
-    for end in worked {
-        push_end(&mut ends, end);
-    }
-    ends
 }
 
 // What an actor hands in, once the workers among them have forwarded.
@@ -130,18 +112,26 @@ fn work<J: Naming>(
     workers: u32,
     given: &Given<'_>,
     fulfilled: &AtomicU64,
-) -> Option<End<J>> {
-    if share.actor() > workers {
-        return settler_end(desk, share);
+) -> End<J> {
+    match share.actor().cmp(&workers) {
+        cmp::Ordering::Less => worker_end(rt, desk, share, given, fulfilled),
+        cmp::Ordering::Equal => sweeper_end(rt, desk, share),
+        cmp::Ordering::Greater => settler_end(desk, share),
     }
-    if share.actor() == workers {
-        return Some(sweeper_end(rt, desk, share));
-    }
+}
+
+fn worker_end<J: Naming>(
+    rt: &impl Wait,
+    desk: &Desk<J>,
+    share: Share<J>,
+    given: &Given<'_>,
+    fulfilled: &AtomicU64,
+) -> End<J> {
     let alloc = desk.config().allocator();
     let dice = Dice::of_worker(share.actor());
     match Worker::new(alloc, share, Still(START), Fickle(dice), NoEngine) {
-        Ok(worker) => Some(end_after(rt, desk, worker, given, fulfilled)),
-        Err(_) => None,
+        Ok(worker) => end_after(rt, desk, worker, given, fulfilled),
+        Err(back) => end_without(alloc, back),
     }
 }
 

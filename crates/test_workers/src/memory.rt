@@ -38,7 +38,10 @@ fn forward_denied<J: Naming>(
 ) -> io::Result<()> {
     let granted = u64::from(share.actor());
     let heap = DenyingAllocator::after(desk.config().allocator(), granted);
-    forward_over(rt, desk, share, &heap, given)?;
+    let asked = AtomicU64::new(0);
+    let uplink = Quiet::new(given, &asked);
+    forward_over(rt, desk, share, uplink, &heap, given)?;
+    println!(rt; "asked: {}", asked.load(Ordering::SeqCst))?;
     println!(rt; "denied: {}", heap.has_denied())
 }
 
@@ -46,25 +49,25 @@ fn forward_over<J: Naming, B: Allocator>(
     rt: &(impl Print + Wait),
     desk: &Desk<J>,
     share: Share<J>,
+    uplink: Quiet<'_, '_>,
     heap: &DenyingAllocator<B>,
     given: &Given<'_>,
 ) -> io::Result<()> {
-    let asked = AtomicU64::new(0);
     let actor = share.actor();
-    let uplink = Quiet::new(given, &asked);
     match Worker::new(heap, share, Still(START), uplink, NoEngine) {
-        Ok(mut worker) => print_answer(rt, desk, &mut worker, given)?,
-        Err(
-            NoWorker {
-                share,
-                clock,
-                uplink,
-                engine: _,
-            },
-        ) => {
-            let as_given = share.actor() == actor && clock.0 == START && uplink.is_for(given);
-            println!(rt; "no worker, and all as given: {as_given}")?;
-        }
+        Ok(mut worker) => print_answer(rt, desk, &mut worker, given),
+        Err(back) => print_back(rt, &back, actor, given),
     }
-    println!(rt; "asked: {}", asked.load(Ordering::SeqCst))
+}
+
+// Prints whether what was given for a worker came back as it was.
+fn print_back<J: Naming>(
+    rt: &impl Print,
+    back: &NoWorker<J, Still, Quiet<'_, '_>, NoEngine>,
+    actor: u32,
+    given: &Given<'_>,
+) -> io::Result<()> {
+    let is_share = back.share.actor() == actor && back.share.entries() == 0;
+    let is_given = is_share && back.clock.0 == START && back.uplink.is_for(given);
+    println!(rt; "no worker, and all as given: {is_given}")
 }
