@@ -220,7 +220,8 @@ def many(workers, packets):
 
 def gathered(name, act, first=(), entries=(), kept=True):
     """A desk that is closed once its worker has booked two entries."""
-    told = actor(0, 2, *([ended(1, 0)] if kept else [])) + actor(1, 0) + actor(2, 0)
+    told = ["asked: 1"] if kept else []
+    told += actor(0, 2, *([ended(1, 0)] if kept else [])) + actor(1, 0) + actor(2, 0)
     return scene(name, told + list(first) + list(entries), act=act, alice=prepare(),
                  other=prepare(expires=HANDED), bob=FULFILL)
 
@@ -235,7 +236,7 @@ SCENES = FORWARDS + [
           alice=prepare(), other=prepare(destination=b"test.alice")),
     gathered("a desk that is closed", "close", entries=BOOK),
     gathered("without the sweeper's end", "close-without-sweeper",
-             ["not gathered: actor 1 has no end"], BOOK),
+             ["not gathered: actor 1 has no end, 2 ends are left"], BOOK),
     gathered("without the worker's records", "close-without-records",
              ["not gathered: what actor 0 kept is not what it booked"], kept=False),
 ]

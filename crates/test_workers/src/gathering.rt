@@ -11,7 +11,7 @@ use ilp_workers::{NoSettler, NoWorker, Settler, Sweeper, Uplink, Worker};
 use std::alloc::Global;
 use std::io;
 use std::sync::Wait;
-use std::sync::atomic::AtomicU64;
+use std::sync::atomic::{AtomicU64, Ordering};
 
 /// What is left out of the ends that are handed in first.
 #[derive(Clone, Copy, PartialEq, Eq)]
@@ -43,7 +43,7 @@ pub(crate) fn close<J: Naming, R: Print + Wait>(
 
 // What the actors hand in, as far as there is memory for it.
 fn ends_of<J: Naming>(
-    rt: &impl Wait,
+    rt: &(impl Print + Wait),
     desk: &Desk<J>,
     shares: Vec<Share<J>>,
     given: &Given<'_>,
@@ -67,7 +67,7 @@ fn print_ends<J: Naming>(rt: &impl Print, ends: &Vec<End<J>>) -> io::Result<()> 
 // What an actor of a desk with one worker hands in: the worker forwards the packet, the sweeper finds
 // nothing due, and the settler does nothing.
 fn end_of<J: Naming>(
-    rt: &impl Wait,
+    rt: &(impl Print + Wait),
     desk: &Desk<J>,
     share: Share<J>,
     given: &Given<'_>,
@@ -82,14 +82,16 @@ fn end_of<J: Naming>(
 }
 
 fn worker_end<J: Naming>(
-    rt: &impl Wait,
+    rt: &(impl Print + Wait),
     desk: &Desk<J>,
     share: Share<J>,
     given: &Given<'_>,
 ) -> End<J> {
     let asked = AtomicU64::new(0);
     let uplink = Quiet::new(given, &asked);
-    end_over(rt, desk, share, uplink, given.packet)
+    let end = end_over(rt, desk, share, uplink, given.packet);
+    let _ = println!(rt; "asked: {}", asked.load(Ordering::SeqCst));
+    end
 }
 
 // The end of a worker that forwards a packet of alice over this link.
@@ -191,16 +193,20 @@ fn close_later<J: Naming>(rt: &impl Print, desk: Desk<J>, ends: Vec<End<J>>) -> 
 fn close_left<J: Naming>(rt: &impl Print, left: NotGathered<J>, sweeper: End<J>) -> io::Result<()> {
     let NotGathered { desk, ends, why } = left;
     let mut ends = ends;
-    let _ = println!(rt; "not gathered: {why}");
+    let _ = println!(rt; "not gathered: {why}, {} ends are left", ends.len());
     let _ = ends.push(sweeper);
     print_gathered(rt, desk, ends)
 }
 
 fn print_gathered<J: Naming>(rt: &impl Print, desk: Desk<J>, ends: Vec<End<J>>) -> io::Result<()> {
     match book_of(desk, ends) {
-        Ok(book) => print_book(rt, &book),
+        Ok(book) => print_closed(rt, book),
         Err(why) => println!(rt; "not gathered: {why}"),
     }
+}
+
+fn print_closed(rt: &impl Print, book: Book) -> io::Result<()> {
+    print_book(rt, &book)
 }
 
 /// The book of the desk once its ends are gathered, or why they are not.

@@ -56,18 +56,27 @@ fn forward_over<J: Naming, B: Allocator>(
     let actor = share.actor();
     match Worker::new(heap, share, Still(START), uplink, NoEngine) {
         Ok(mut worker) => print_answer(rt, desk, &mut worker, given),
-        Err(back) => print_back(rt, &back, actor, given),
+        Err(back) => print_back(rt, back, actor, given),
     }
 }
 
 // Prints whether what was given for a worker came back as it was.
 fn print_back<J: Naming>(
     rt: &impl Print,
-    back: &NoWorker<J, Still, Quiet<'_, '_>, NoEngine>,
+    back: NoWorker<J, Still, Quiet<'_, '_>, NoEngine>,
     actor: u32,
     given: &Given<'_>,
 ) -> io::Result<()> {
-    let is_share = back.share.actor() == actor && back.share.entries() == 0;
-    let is_given = is_share && back.clock.0 == START && back.uplink.is_for(given);
-    println!(rt; "no worker, and all as given: {is_given}")
+    let NoWorker {
+        share,
+        clock: Still(moment),
+        uplink,
+        engine: _,
+    } = back;
+    let is_share = share.actor() == actor && share.entries() == 0;
+    let is_uplink = uplink.is_for(given);
+    println!(rt;
+        "no worker, and all as given: {}",
+        is_share && is_uplink && moment == START
+    )
 }

@@ -5,7 +5,7 @@ use crate::links::{NoEngine, Still, TwoMoments, put};
 use crate::scenes::{Given, START};
 use ilp_desk::{Desk, Naming, Share};
 use ilp_oer::Octets;
-use ilp_workers::{LinkFault, Sweeper, Uplink, Worker};
+use ilp_workers::{Clock, LinkFault, Sweeper, Uplink, Worker};
 use std::alloc::Allocator;
 use std::io;
 use std::sync::Wait;
@@ -27,12 +27,21 @@ impl<J: Naming, R: Print + Wait> Uplink for Slow<'_, J, R> {
         _deadline: i64,
         reply: &mut Octets<A>,
     ) -> Result<(), LinkFault> {
-        for _turn in 0..3u32 {
-            let swept = self.sweeper.turn(self.rt, self.desk);
-            let _ = println!(self.rt; "swept: {swept:?}");
-        }
+        let _ = print_turn(self.rt, self.desk, &mut self.sweeper);
+        let _ = print_turn(self.rt, self.desk, &mut self.sweeper);
+        let _ = print_turn(self.rt, self.desk, &mut self.sweeper);
         put(self.came, reply)
     }
+}
+
+// Prints which hold a turn of the sweeper releases.
+fn print_turn<J: Naming, C: Clock + Drop>(
+    rt: &(impl Print + Wait),
+    desk: &Desk<J>,
+    sweeper: &mut Sweeper<J, C>,
+) -> io::Result<()> {
+    let swept = sweeper.turn(rt, desk);
+    println!(rt; "swept: {swept:?}")
 }
 
 /// Has a worker forward the packet. The moments are those of the sweeper's turns.
