@@ -3,17 +3,17 @@
 ghost use Rattle.std.specs.Prelude.{◌≡◌, [], ◌∷◌, ◌++◌, IfSome, IfOk, IsOkAnd, IsSomeAnd};
 ghost use Rattle.ilp_workers.specs.Links.{came_of, sending};
 
-use super::{BOB, DEADLINE};
+use crate::scenes::{BOB, DEADLINE, Given};
+use crate::told::print_octets;
 use ilp_oer::Octets;
 use ilp_workers::{Clock, EngineLink, EngineReply, LinkFault, Uplink};
 use std::alloc::{AllocError, Allocator, Global};
 use std::marker::Model;
-use std::process::Abort;
 use std::sync::atomic::{AtomicU64, Ordering};
 
-// A clock that stands still.
+/// A clock that stands still.
 #[derive(Drop)]
-pub(super) struct Still(pub(super) i64);
+pub(crate) struct Still(pub(crate) i64);
 
 impl Clock for Still {
     fn now(&mut self) -> i64 {
@@ -21,36 +21,57 @@ impl Clock for Still {
     }
 }
 
-// A clock that gives one moment, and another from then on. It notes the moments that it gave, for as
-// long as there is memory.
+/// A clock that tells one moment, and another from then on, and prints them. It notes them as well,
+/// for as long as there is memory.
 #[derive(Drop)]
-pub(super) struct TwoMoments {
-    pub(super) next: i64,
-    pub(super) later: i64,
-    pub(super) given: Option<Vec<i64>>,
+pub(crate) struct TwoMoments<'a, R: Print> {
+    rt: &'a R,
+    next: i64,
+    later: i64,
+    told: Option<Vec<i64>>,
 }
 
-impl Clock for TwoMoments {
+impl<'a, R: Print> TwoMoments<'a, R> {
+    pub(crate) fn new(rt: &'a R, alloc: Global, (next, later): (i64, i64)) -> TwoMoments<'a, R> {
+        TwoMoments {
+            rt,
+            next,
+            later,
+            told: Some(Vec::new(alloc)),
+        }
+    }
+}
+
+impl<R: Print> Clock for TwoMoments<'_, R> {
     ghost use Rattle.std.specs.Prelude.{option_map};
     ghost use Rattle.std.specs.declared.vec.Vec.{Vec};
 
-    ghost told = { λ clock. option_map (λ given. given.items) clock.given };
+    ghost told = { λ clock. option_map (λ told. told.items) clock.told };
 
     fn now(&mut self) -> i64 {
         let moment = self.next;
         self.next = self.later;
-        if let Some(mut given) = self.given.take() {
-            if given.push(moment).is_ok() {
-                self.given = Some(given);
-            }
-        }
+        self.told = one_more(self.told.take(), moment);
+        let _ = println!(self.rt; "the clock tells {moment}");
         moment
     }
 }
 
-// An engine that has no account and takes nothing on.
+// One moment more, if there is memory for it and was for those before.
+fn one_more(told: Option<Vec<i64>>, moment: i64) -> Option<Vec<i64>>
+    ensures { IfSome result (λ after. IsSomeAnd told (λ before.
+        after.items ≡ before.items ++ moment ∷ [])) }
+{
+    let mut told = told?;
+    match told.push(moment) {
+        Ok(()) => Some(told),
+        Err(_) => None,
+    }
+}
+
+/// An engine that has no account and takes nothing on.
 #[derive(Drop)]
-pub(super) struct NoEngine;
+pub(crate) struct NoEngine;
 
 impl EngineLink for NoEngine {
     fn account(&mut self, _peer: u32) -> bool {
@@ -71,30 +92,8 @@ impl EngineLink for NoEngine {
     }
 }
 
-// A clock and a way to the peers for packets that are not to get so far.
-#[derive(Drop)]
-pub(super) struct Unasked<'a, R: Abort>(pub(super) &'a R);
-
-impl<R: Abort> Clock for Unasked<'_, R> {
-    fn now(&mut self) -> i64 {
-        panic!(self.0; "a clock was asked")
-    }
-}
-
-impl<R: Abort> Uplink for Unasked<'_, R> {
-    fn send<A: Allocator>(
-        &mut self,
-        _to: u32,
-        _packet: &[u8],
-        _deadline: i64,
-        _reply: &mut Octets<A>,
-    ) -> Result<(), LinkFault> {
-        panic!(self.0; "a peer was asked")
-    }
-}
-
-// Puts what a peer replies, if it does.
-pub(super) fn put<A: Allocator>(
+/// Puts what a peer replies, if it does.
+pub(crate) fn put<A: Allocator>(
     came: Option<&[u8]>,
     reply: &mut Octets<A>,
 ) -> Result<(), LinkFault> {
@@ -107,17 +106,15 @@ pub(super) fn put<A: Allocator>(
     }
 }
 
-// Bob, who is to be handed this packet alone. He counts how often he is asked, and replies the same
-// each time.
+/// Bob, who replies the same each time, and prints what he is handed.
 #[derive(Drop)]
-pub(super) struct Bob<'a, R: Abort> {
-    pub(super) rt: &'a R,
-    pub(super) expected: &'a [u8],
-    pub(super) reply: Option<&'a [u8]>,
-    pub(super) asked: &'a AtomicU64,
+pub(crate) struct Bob<'a, R: Print> {
+    pub(crate) rt: &'a R,
+    pub(crate) alloc: Global,
+    pub(crate) came: Option<&'a [u8]>,
 }
 
-impl<R: Abort> Uplink for Bob<'_, R> {
+impl<R: Print> Uplink for Bob<'_, R> {
     fn send<A: Allocator>(
         &mut self,
         to: u32,
@@ -125,16 +122,56 @@ impl<R: Abort> Uplink for Bob<'_, R> {
         deadline: i64,
         reply: &mut Octets<A>,
     ) -> Result<(), LinkFault> {
-        self.asked.fetch_add(1, Ordering::SeqCst);
-        assert_eq!(self.rt; (to, deadline), (BOB, DEADLINE));
-        assert_eq!(self.rt; packet, self.expected);
-        put(self.reply, reply)
+        let _ = println!(self.rt; "peer {to} is handed, up to {deadline}:");
+        let _ = print_octets(self.rt, self.alloc, "packet", packet);
+        put(self.came, reply)
     }
 }
 
-// What a peer was handed, and what came back.
+/// A peer who prints nothing, but counts how often he is asked; 1,000 times for each packet that
+/// isn't bob's, with its deadline.
 #[derive(Drop)]
-pub(super) struct Sent {
+pub(crate) struct Quiet<'a, 'b> {
+    expected: &'a [u8],
+    came: Option<&'a [u8]>,
+    asked: &'b AtomicU64,
+}
+
+impl<'a, 'b> Quiet<'a, 'b> {
+    pub(crate) fn new(given: &Given<'a>, asked: &'b AtomicU64) -> Quiet<'a, 'b> {
+        Quiet {
+            expected: given.other,
+            came: given.came,
+            asked,
+        }
+    }
+
+    /// Whether he is as he was made.
+    pub(crate) fn is_for(&self, given: &Given<'_>) -> bool {
+        let is_same_packet = self.expected == given.other;
+        let is_same_reply = self.came == given.came;
+        is_same_packet && is_same_reply
+    }
+}
+
+impl Uplink for Quiet<'_, '_> {
+    fn send<A: Allocator>(
+        &mut self,
+        to: u32,
+        packet: &[u8],
+        deadline: i64,
+        reply: &mut Octets<A>,
+    ) -> Result<(), LinkFault> {
+        let is_his = to == BOB && packet == self.expected && deadline == DEADLINE;
+        let asked = if is_his { 1 } else { 1_000 };
+        self.asked.fetch_add(asked, Ordering::SeqCst);
+        put(self.came, reply)
+    }
+}
+
+/// What a peer was handed, and what came back.
+#[derive(Drop)]
+pub(crate) struct Sent {
     to: u32,
     packet: Vec<u8>,
     deadline: i64,
@@ -151,12 +188,22 @@ impl Model for Sent {
     ghost view = { λ s. sending s.to s.packet.items s.deadline (option_map (λ came. came.items) s.came) };
 }
 
-// A way to the peers that notes what they were handed, for as long as there is memory.
+/// A way to the peers that notes what they were handed, for as long as there is memory.
 #[derive(Drop)]
-pub(super) struct Noting<U: Uplink + Drop> {
-    pub(super) uplink: U,
-    pub(super) alloc: Global,
-    pub(super) sent: Option<Vec<Sent>>,
+pub(crate) struct Noting<U: Uplink + Drop> {
+    uplink: U,
+    alloc: Global,
+    sent: Option<Vec<Sent>>,
+}
+
+impl<U: Uplink + Drop> Noting<U> {
+    pub(crate) fn new(alloc: Global, uplink: U) -> Noting<U> {
+        Noting {
+            uplink,
+            alloc,
+            sent: Some(Vec::new(alloc)),
+        }
+    }
 }
 
 impl<U: Uplink + Drop> Uplink for Noting<U> {

@@ -1,0 +1,70 @@
+//! Each growth of a worker denied in turn.
+
+use crate::forwards::print_answer;
+use crate::links::{NoEngine, Quiet, Still};
+use crate::scenes::{Given, START};
+use crate::told::print_book;
+use ilp_desk::{Desk, Naming, Share};
+use ilp_workers::{NoWorker, Worker};
+use std::alloc::Allocator;
+use std::io;
+use std::sync::Wait;
+use std::sync::atomic::{AtomicU64, Ordering};
+use test_allocator::DenyingAllocator;
+
+/// Has each worker of a desk forward the packet: the first without its first growth, the second
+/// without its second, and so on.
+pub(crate) fn deny_each<J: Naming>(
+    rt: &(impl Print + Wait),
+    desk: &Desk<J>,
+    shares: Vec<Share<J>>,
+    given: &Given<'_>,
+) -> io::Result<()> {
+    let workers = desk.lock(rt).workers();
+    for share in shares {
+        if share.actor() < workers {
+            forward_denied(rt, desk, share, given)?;
+        }
+    }
+    print_book(rt, desk.lock(rt).book())
+}
+
+// Denies a worker the growth of its own number, from 0.
+fn forward_denied<J: Naming>(
+    rt: &(impl Print + Wait),
+    desk: &Desk<J>,
+    share: Share<J>,
+    given: &Given<'_>,
+) -> io::Result<()> {
+    let granted = u64::from(share.actor());
+    let heap = DenyingAllocator::after(desk.config().allocator(), granted);
+    forward_over(rt, desk, share, &heap, given)?;
+    println!(rt; "denied: {}", heap.has_denied())
+}
+
+fn forward_over<J: Naming, B: Allocator>(
+    rt: &(impl Print + Wait),
+    desk: &Desk<J>,
+    share: Share<J>,
+    heap: &DenyingAllocator<B>,
+    given: &Given<'_>,
+) -> io::Result<()> {
+    let asked = AtomicU64::new(0);
+    let actor = share.actor();
+    let uplink = Quiet::new(given, &asked);
+    match Worker::new(heap, share, Still(START), uplink, NoEngine) {
+        Ok(mut worker) => print_answer(rt, desk, &mut worker, given)?,
+        Err(
+            NoWorker {
+                share,
+                clock,
+                uplink,
+                engine: _,
+            },
+        ) => {
+            let as_given = share.actor() == actor && clock.0 == START && uplink.is_for(given);
+            println!(rt; "no worker, and all as given: {as_given}")?;
+        }
+    }
+    println!(rt; "asked: {}", asked.load(Ordering::SeqCst))
+}

@@ -1,0 +1,195 @@
+//! Scenes: a desk is opened, and something is done with it.
+
+ghost use Rattle.std.specs.Prelude.{◌≡◌};
+ghost use Rattle.ilp_desk.specs.Desk.{actors_of, base_of};
+
+use crate::at_once::forward_two;
+use crate::forwards::forward_one;
+use crate::gathering::{Missing, close};
+use crate::many::forward_all;
+use crate::memory::deny_each;
+use crate::row::{moments_of, octets_of, said};
+use crate::sweeping::forward_slowly;
+use ilp_accounts::Config;
+use ilp_book::Book;
+use ilp_desk::{Desk, Naming, Share};
+use std::marker::Brand;
+use std::rt::Files;
+use std::sync::Wait;
+use std::sync::ledger::Blank;
+use std::thread::Threads;
+use std::{fs, io};
+
+/// 2025-01-01T00:00:00Z.
+pub(crate) const START: i64 = 1_735_689_600_000;
+
+/// When the hold of a Prepare ends that expires 30 seconds after the start.
+pub(crate) const DEADLINE: i64 = START + 29_000;
+
+pub(crate) const ALICE: u32 = 0;
+
+pub(crate) const BOB: u32 = 1;
+
+/// What is done with a desk.
+#[derive(Clone, Copy)]
+enum Act {
+    /// A worker forwards the packet.
+    Forward,
+    /// So it does, and its hold is swept while bob is asked.
+    Sweep,
+    /// Each growth of a worker is denied in turn.
+    Deny,
+    /// Two workers forward the packet at once.
+    Two,
+    /// Many workers forward many packets.
+    Many,
+    /// The packet is forwarded, and the desk is closed.
+    Close(Missing),
+}
+
+impl Act {
+    fn of(word: &str) -> Option<Act> {
+        match word {
+            "forward" => Some(Act::Forward),
+            "sweep" => Some(Act::Sweep),
+            "deny" => Some(Act::Deny),
+            "two" => Some(Act::Two),
+            "many" => Some(Act::Many),
+            "close" => Some(Act::Close(Missing::Nothing)),
+            "close-without-sweeper" => Some(Act::Close(Missing::Sweeper)),
+            "close-without-records" => Some(Act::Close(Missing::Records)),
+            _ => None,
+        }
+    }
+}
+
+/// What a scene is played with.
+#[derive(Clone, Copy)]
+pub(crate) struct Given<'a> {
+    /// What the clock tells first, and from then on, in milliseconds since 1970.
+    pub(crate) moments: (i64, i64),
+    /// What alice sends.
+    pub(crate) packet: &'a [u8],
+    /// Another packet: what bob is to be handed of it where he is quiet, and what bob himself sends
+    /// where many packets are.
+    pub(crate) other: &'a [u8],
+    /// What bob replies, unless his link has a fault.
+    pub(crate) came: Option<&'a [u8]>,
+}
+
+#[derive(Clone, Copy)]
+struct Scene<'a> {
+    act: Act,
+    workers: u32,
+    given: Given<'a>,
+}
+
+impl Scene<'_> {
+    fn play<J: Naming + Send + Sync, R: Print + Threads + Wait + Sync>(
+        &self,
+        rt: &R,
+        desk: Desk<J>,
+        shares: Vec<Share<J>>,
+    ) -> io::Result<()> {
+        match self.act {
+            Act::Forward => forward_one(rt, &desk, shares, &self.given),
+            Act::Sweep => forward_slowly(rt, &desk, shares, &self.given),
+            Act::Deny => deny_each(rt, &desk, shares, &self.given),
+            Act::Two => forward_two(rt, &desk, shares, &self.given),
+            Act::Many => forward_all(rt, desk, shares, &self.given),
+            Act::Close(missing) => close(rt, desk, shares, &self.given, missing),
+        }
+    }
+}
+
+/// Plays the scenes, and prints what comes of each.
+pub(crate) fn print_scenes<R: Files + Print + AllocGlobal + Threads + Wait + Sync>(
+    rt: &R,
+) -> io::Result<()> {
+    let scenes = fs::read_to_string(rt, "scenes.txt")?;
+    for scene in scenes.split("== ").skip(1) {
+        let (name, lines) = scene.split_once('\n').unwrap_or((scene, ""));
+        println!(rt; "== {name}")?;
+        print_scene(rt, lines)?;
+    }
+    Ok(())
+}
+
+fn print_scene<R: Files + Print + AllocGlobal + Threads + Wait + Sync>(
+    rt: &R,
+    lines: &str,
+) -> io::Result<()> {
+    let alloc = rt.alloc();
+    let packet = octets_of(alloc, said(lines, "alice").unwrap_or(""))?;
+    let other = octets_of(alloc, said(lines, "other").unwrap_or(""))?;
+    let reply = octets_of(alloc, said(lines, "bob").unwrap_or(""))?;
+    let given = Given {
+        moments: moments_of(said(lines, "clock").unwrap_or("")).unwrap_or((0, 0)),
+        packet: &packet,
+        other: &other,
+        came: said(lines, "bob").map(|_| reply.as_slice()),
+    };
+    print_given(rt, lines, given)
+}
+
+fn print_given<R: Files + Print + AllocGlobal + Threads + Wait + Sync>(
+    rt: &R,
+    lines: &str,
+    given: Given<'_>,
+) -> io::Result<()> {
+    let Some(act) = Act::of(said(lines, "act").unwrap_or("")) else {
+        return println!(rt; "no act");
+    };
+    let workers = said(lines, "workers").unwrap_or("1");
+    let scene = Scene {
+        act,
+        workers: workers.parse::<u32>().unwrap_or(1),
+        given,
+    };
+    print_over(rt, said(lines, "over").unwrap_or(""), &scene)
+}
+
+// Plays the scene over a configuration.
+fn print_over<R: Files + Print + AllocGlobal + Threads + Wait + Sync>(
+    rt: &R,
+    name: &str,
+    scene: &Scene<'_>,
+) -> io::Result<()> {
+    let octets = fs::read(rt, name)?;
+    match Config::read(rt.alloc(), &octets) {
+        Ok(config) => play(rt, &config, scene),
+        Err(fault) => println!(rt; "no configuration: {fault}"),
+    }
+}
+
+// Plays the scene at a desk over a book of no entries.
+fn play<R: Print + Threads + Wait + Sync>(
+    rt: &R,
+    config: &Config,
+    scene: &Scene<'_>,
+) -> io::Result<()> {
+    let book = Book::new(config.allocator(), config)?;
+    let blanks = Blank::new(u64::from(scene.workers) + 2);
+    play_on::<Brand, R>(rt, config, book, scene.workers, blanks, scene)
+}
+
+// Opens a desk over this book, and plays the scene there.
+fn play_on<J: Naming + Send + Sync, R: Print + Threads + Wait + Sync>(
+    rt: &R,
+    config: &Config,
+    book: Book,
+    workers: u32,
+    blanks: Blank,
+    scene: &Scene<'_>,
+) -> io::Result<()>
+    requires config { (config.now ≡ J.desk.config) × (book.config ≡ J.desk.config) }
+    requires workers { workers ≡ J.desk.workers }
+    requires opening { (book.entries ≡ J.desk.opening) × (book.base ≡ base_of J.desk) }
+    requires ledger { (blanks.name ≡ J.name) × (blanks.parts ≡ J.parts) }
+    requires parts { J.parts ≡ actors_of J.desk }
+{
+    match Desk::<J>::open(config.allocator(), config, book, workers, blanks) {
+        Ok((desk, shares)) => scene.play(rt, desk, shares),
+        Err(_) => println!(rt; "no desk"),
+    }
+}

@@ -1,0 +1,71 @@
+//! A hold that is swept while its peer is asked.
+
+use crate::forwards::print_forward;
+use crate::links::{NoEngine, Still, TwoMoments, put};
+use crate::scenes::{Given, START};
+use ilp_desk::{Desk, Naming, Share};
+use ilp_oer::Octets;
+use ilp_workers::{LinkFault, Sweeper, Uplink, Worker};
+use std::alloc::Allocator;
+use std::io;
+use std::sync::Wait;
+
+/// A peer who replies once the sweeper had three turns.
+#[derive(Drop)]
+struct Slow<'a, J: Naming, R: Print + Wait> {
+    rt: &'a R,
+    desk: &'a Desk<J>,
+    sweeper: Sweeper<J, TwoMoments<'a, R>>,
+    came: Option<&'a [u8]>,
+}
+
+impl<J: Naming, R: Print + Wait> Uplink for Slow<'_, J, R> {
+    fn send<A: Allocator>(
+        &mut self,
+        _to: u32,
+        _packet: &[u8],
+        _deadline: i64,
+        reply: &mut Octets<A>,
+    ) -> Result<(), LinkFault> {
+        for _turn in 0..3u32 {
+            let swept = self.sweeper.turn(self.rt, self.desk);
+            let _ = println!(self.rt; "swept: {swept:?}");
+        }
+        put(self.came, reply)
+    }
+}
+
+/// Has a worker forward the packet. The moments are those of the sweeper's turns.
+pub(crate) fn forward_slowly<J: Naming, R: Print + Wait>(
+    rt: &R,
+    desk: &Desk<J>,
+    shares: Vec<Share<J>>,
+    given: &Given<'_>,
+) -> io::Result<()> {
+    let mut shares = shares.into_iter();
+    match (shares.next(), shares.next()) {
+        (Some(worker), Some(sweeper)) => forward_beside(rt, desk, worker, sweeper, given),
+        _ => println!(rt; "no shares"),
+    }
+}
+
+fn forward_beside<J: Naming, R: Print + Wait>(
+    rt: &R,
+    desk: &Desk<J>,
+    share: Share<J>,
+    sweeper: Share<J>,
+    given: &Given<'_>,
+) -> io::Result<()> {
+    let alloc = desk.config().allocator();
+    let clock = TwoMoments::new(rt, alloc, given.moments);
+    let uplink = Slow {
+        rt,
+        desk,
+        sweeper: Sweeper::new(alloc, sweeper, clock),
+        came: given.came,
+    };
+    match Worker::new(alloc, share, Still(START), uplink, NoEngine) {
+        Ok(mut worker) => print_forward(rt, desk, &mut worker, given),
+        Err(_) => println!(rt; "no worker"),
+    }
+}
