@@ -2,8 +2,7 @@
 
 use crate::forwards::forward;
 use crate::gathering::{push_end, settler_end, sweeper_end};
-use crate::links::{NoEngine, Still, put};
-use crate::scenes::{ALICE, BOB, Given, START};
+use crate::scenes::Given;
 use ilp_book::Book;
 use ilp_desk::{
     Closed, Desk, End, EndedHold, Ending, Naming, NotGathered, Record, Recorded, Share, gather,
@@ -16,6 +15,7 @@ use std::io;
 use std::sync::Wait;
 use std::sync::atomic::{AtomicU64, Ordering};
 use std::thread::{Threads, map_vec};
+use test_links::{ALICE, BOB, NoEngine, START, Still, put};
 
 // How many packets each worker forwards.
 const PACKETS: u32 = 200;
