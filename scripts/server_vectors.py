@@ -261,8 +261,8 @@ PEERS = [
            packet(["Fault(Read)", "body: "], P1, first="ilp failing 100"),
            packet(HELD, P1, reply=FULFILL)], ONE_PACKET, bob=FULFILL),
     scene("a write that fails",
-          [packet(HELD + ["Fault(Write)", *shown(CUT), "body: "], P1, first="ilp narrow 40")],
-          ONE_PACKET, bob=FULFILL),
+          [packet(HELD + ["Fault(Write)", *shown(CUT), "body: "], P1, first="ilp narrow 40"),
+           packet(clock(START), prepare(1), reply=T04)], ONE_PACKET, bob=FULFILL),
 ]
 
 # ---- the side of the engines
