@@ -1,9 +1,8 @@
 //! Two workers that forward at once.
 
 use crate::forwards::forward;
-use crate::links::{NoEngine, Quiet, Still, put};
-use crate::scenes::{ALICE, Given, START};
-use crate::told::print_book;
+use crate::quiet::Quiet;
+use crate::scenes::Given;
 use ilp_desk::{Desk, Naming, Record, Share};
 use ilp_oer::Octets;
 use ilp_workers::{LinkFault, Receipt, Uplink, Worker};
@@ -12,6 +11,7 @@ use std::io;
 use std::sync::Wait;
 use std::sync::atomic::{AtomicBool, AtomicU64, Ordering};
 use std::thread::{Threads, join, yield_now};
+use test_links::{ALICE, NoEngine, START, Still, print_book, put};
 
 // How often a thread looks whether the other has come so far.
 const TURNS: u32 = 1_000_000;

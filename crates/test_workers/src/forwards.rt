@@ -1,13 +1,12 @@
 //! One packet of alice: what bob is handed, what alice is answered, and what is booked.
 
-use crate::links::{Bob, NoEngine, Noting, TwoMoments};
-use crate::scenes::{ALICE, Given};
-use crate::told::{print_actor, print_book, print_octets};
+use crate::scenes::Given;
 use ilp_desk::{Desk, Naming, Share};
 use ilp_workers::{Clock, Receipt, Uplink, Worker};
 use std::alloc::{Allocator, Global};
 use std::io;
 use std::sync::Wait;
+use test_links::{ALICE, Bob, NoEngine, Noting, TwoMoments, print_actor, print_book, print_octets};
 
 /// Has the first worker of a desk forward the packet.
 pub(crate) fn forward_one<J: Naming, R: Print + Wait>(

@@ -1,9 +1,8 @@
 //! The end of a desk: what its actors hand back, and what is gathered of it.
 
 use crate::forwards::forward;
-use crate::links::{NoEngine, Quiet, Still};
-use crate::scenes::{ALICE, Given, START};
-use crate::told::{print_actor, print_book};
+use crate::quiet::Quiet;
+use crate::scenes::Given;
 use ilp_book::{Book, PeerReply};
 use ilp_desk::{Closed, Desk, End, Naming, NotGathered, Share, WhyNotGathered, gather};
 use ilp_packet::Packet;
@@ -12,6 +11,7 @@ use std::alloc::Global;
 use std::io;
 use std::sync::Wait;
 use std::sync::atomic::{AtomicU64, Ordering};
+use test_links::{ALICE, NoEngine, START, Still, print_actor, print_book};
 
 /// What is left out of the ends that are handed in first.
 #[derive(Clone, Copy, PartialEq, Eq)]

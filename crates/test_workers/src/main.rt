@@ -7,14 +7,12 @@
 mod at_once;
 mod forwards;
 mod gathering;
-mod links;
 mod many;
 mod memory;
-mod row;
+mod quiet;
 mod scenes;
 mod sweeping;
 mod texts;
-mod told;
 
 use scenes::print_scenes;
 use std::io;

@@ -2,8 +2,7 @@
 
 use crate::forwards::forward;
 use crate::gathering::{book_of, end_without, settler_end, sweeper_end};
-use crate::links::{NoEngine, Still, put};
-use crate::scenes::{ALICE, BOB, Given, START};
+use crate::scenes::Given;
 use ilp_book::Book;
 use ilp_desk::{Desk, End, EndedHold, Ending, Naming, Record, Recorded, Share};
 use ilp_journal::What;
@@ -14,6 +13,7 @@ use std::sync::Wait;
 use std::sync::atomic::{AtomicU64, Ordering};
 use std::thread::{Threads, map_vec};
 use std::{cmp, io};
+use test_links::{ALICE, BOB, NoEngine, START, Still, put};
 
 // How many packets each worker forwards.
 const PACKETS: u32 = 200;

@@ -1,9 +1,8 @@
 //! Each growth of a worker denied in turn.
 
 use crate::forwards::print_answer;
-use crate::links::{NoEngine, Quiet, Still};
-use crate::scenes::{Given, START};
-use crate::told::print_book;
+use crate::quiet::Quiet;
+use crate::scenes::Given;
 use ilp_desk::{Desk, Naming, Share};
 use ilp_workers::{NoWorker, Worker};
 use std::alloc::Allocator;
@@ -11,6 +10,7 @@ use std::io;
 use std::sync::Wait;
 use std::sync::atomic::{AtomicU64, Ordering};
 use test_allocator::DenyingAllocator;
+use test_links::{NoEngine, START, Still, print_book};
 
 /// Has each worker of a desk forward the packet: the first without its first growth, the second
 /// without its second, and so on.

@@ -1,14 +1,14 @@
 //! A hold that is swept while its peer is asked.
 
 use crate::forwards::print_forward;
-use crate::links::{NoEngine, Still, TwoMoments, put};
-use crate::scenes::{Given, START};
+use crate::scenes::Given;
 use ilp_desk::{Desk, Naming, Share};
 use ilp_oer::Octets;
 use ilp_workers::{Clock, LinkFault, Sweeper, Uplink, Worker};
 use std::alloc::Allocator;
 use std::io;
 use std::sync::Wait;
+use test_links::{NoEngine, START, Still, TwoMoments, put};
 
 /// A peer who replies once the sweeper had three turns.
 #[derive(Drop)]

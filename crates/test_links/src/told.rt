@@ -1,25 +1,21 @@
 //! What is printed of desks.
 
-use crate::scenes::{ALICE, BOB};
+use crate::peers::{ALICE, BOB};
+use crate::row::digits_of;
 use ilp_book::Book;
 use ilp_desk::{Naming, Record, Share};
 use ilp_journal::{Entry, What};
 use std::alloc::Global;
 use std::io;
 
-/// Prints octets as hexadecimal digits behind what they are.
-pub(crate) fn print_octets(
-    rt: &impl Print,
-    alloc: Global,
-    what: &str,
-    octets: &[u8],
-) -> io::Result<()> {
-    let digits = hex::encode(alloc, octets)?;
+/// Prints octets as hexadecimal digits behind what they are, as `digits_of` writes them.
+pub fn print_octets(rt: &impl Print, alloc: Global, what: &str, octets: &[u8]) -> io::Result<()> {
+    let digits = digits_of(alloc, octets)?;
     println!(rt; "{what}: {digits}")
 }
 
 /// Prints what an actor booked, and what it kept of it.
-pub(crate) fn print_actor<J: Naming>(
+pub fn print_actor<J: Naming>(
     rt: &impl Print,
     share: &Share<J>,
     records: &[Record],
@@ -32,7 +28,7 @@ pub(crate) fn print_actor<J: Naming>(
 }
 
 /// Prints a book.
-pub(crate) fn print_book(rt: &impl Print, book: &Book) -> io::Result<()> {
+pub fn print_book(rt: &impl Print, book: &Book) -> io::Result<()> {
     for number in 0..book.len() {
         if let Some(entry) = book.entry(number) {
             println!(rt; "entry {number} of {} at {}", entry.actor, entry.moment)?;

@@ -3,17 +3,15 @@
 ghost use Rattle.std.specs.Prelude.{◌≡◌, [], ◌∷◌, ◌++◌, IfSome, IfOk, IsOkAnd, IsSomeAnd};
 ghost use Rattle.ilp_workers.specs.Links.{came_of, sending};
 
-use crate::scenes::{BOB, DEADLINE, Given};
 use crate::told::print_octets;
 use ilp_oer::Octets;
 use ilp_workers::{Clock, EngineLink, EngineReply, LinkFault, Uplink};
 use std::alloc::{AllocError, Allocator, Global};
 use std::marker::Model;
-use std::sync::atomic::{AtomicU64, Ordering};
 
-/// A clock that stands still.
+/// A clock that stands still at this moment, in milliseconds since 1970.
 #[derive(Drop)]
-pub(crate) struct Still(pub(crate) i64);
+pub struct Still(pub i64);
 
 impl Clock for Still {
     fn now(&mut self) -> i64 {
@@ -24,7 +22,7 @@ impl Clock for Still {
 /// A clock that tells one moment, and another from then on, and prints them. It notes them as well,
 /// for as long as there is memory.
 #[derive(Drop)]
-pub(crate) struct TwoMoments<'a, R: Print> {
+pub struct TwoMoments<'a, R: Print> {
     rt: &'a R,
     next: i64,
     later: i64,
@@ -32,7 +30,8 @@ pub(crate) struct TwoMoments<'a, R: Print> {
 }
 
 impl<'a, R: Print> TwoMoments<'a, R> {
-    pub(crate) fn new(rt: &'a R, alloc: Global, (next, later): (i64, i64)) -> TwoMoments<'a, R> {
+    /// A clock that tells the first moment once, and then the second.
+    pub fn new(rt: &'a R, alloc: Global, (next, later): (i64, i64)) -> TwoMoments<'a, R> {
         TwoMoments {
             rt,
             next,
@@ -71,7 +70,7 @@ fn one_more(told: Option<Vec<i64>>, moment: i64) -> Option<Vec<i64>>
 
 /// An engine that has no account and takes nothing on.
 #[derive(Drop)]
-pub(crate) struct NoEngine;
+pub struct NoEngine;
 
 impl EngineLink for NoEngine {
     fn account(&mut self, _peer: u32) -> bool {
@@ -93,10 +92,7 @@ impl EngineLink for NoEngine {
 }
 
 /// Puts what a peer replies, if it does.
-pub(crate) fn put<A: Allocator>(
-    came: Option<&[u8]>,
-    reply: &mut Octets<A>,
-) -> Result<(), LinkFault> {
+pub fn put<A: Allocator>(came: Option<&[u8]>, reply: &mut Octets<A>) -> Result<(), LinkFault> {
     let Some(octets) = came else {
         return Err(LinkFault);
     };
@@ -108,10 +104,13 @@ pub(crate) fn put<A: Allocator>(
 
 /// Bob, who replies the same each time, and prints what he is handed.
 #[derive(Drop)]
-pub(crate) struct Bob<'a, R: Print> {
-    pub(crate) rt: &'a R,
-    pub(crate) alloc: Global,
-    pub(crate) came: Option<&'a [u8]>,
+pub struct Bob<'a, R: Print> {
+    /// Where he prints.
+    pub rt: &'a R,
+    /// Where lines take their memory.
+    pub alloc: Global,
+    /// What he replies, if he does.
+    pub came: Option<&'a [u8]>,
 }
 
 impl<R: Print> Uplink for Bob<'_, R> {
@@ -128,50 +127,9 @@ impl<R: Print> Uplink for Bob<'_, R> {
     }
 }
 
-/// A peer who prints nothing, but counts how often he is asked; 1,000 times for each packet that
-/// isn't bob's, with its deadline.
-#[derive(Drop)]
-pub(crate) struct Quiet<'a, 'b> {
-    expected: &'a [u8],
-    came: Option<&'a [u8]>,
-    asked: &'b AtomicU64,
-}
-
-impl<'a, 'b> Quiet<'a, 'b> {
-    pub(crate) fn new(given: &Given<'a>, asked: &'b AtomicU64) -> Quiet<'a, 'b> {
-        Quiet {
-            expected: given.other,
-            came: given.came,
-            asked,
-        }
-    }
-
-    /// Whether he is as he was made.
-    pub(crate) fn is_for(&self, given: &Given<'_>) -> bool {
-        let is_same_packet = self.expected == given.other;
-        let is_same_reply = self.came == given.came;
-        is_same_packet && is_same_reply
-    }
-}
-
-impl Uplink for Quiet<'_, '_> {
-    fn send<A: Allocator>(
-        &mut self,
-        to: u32,
-        packet: &[u8],
-        deadline: i64,
-        reply: &mut Octets<A>,
-    ) -> Result<(), LinkFault> {
-        let is_his = to == BOB && packet == self.expected && deadline == DEADLINE;
-        let asked = if is_his { 1 } else { 1_000 };
-        self.asked.fetch_add(asked, Ordering::SeqCst);
-        put(self.came, reply)
-    }
-}
-
 /// What a peer was handed, and what came back.
 #[derive(Drop)]
-pub(crate) struct Sent {
+pub struct Sent {
     to: u32,
     packet: Vec<u8>,
     deadline: i64,
@@ -190,14 +148,15 @@ impl Model for Sent {
 
 /// A way to the peers that notes what they were handed, for as long as there is memory.
 #[derive(Drop)]
-pub(crate) struct Noting<U: Uplink + Drop> {
+pub struct Noting<U: Uplink + Drop> {
     uplink: U,
     alloc: Global,
     sent: Option<Vec<Sent>>,
 }
 
 impl<U: Uplink + Drop> Noting<U> {
-    pub(crate) fn new(alloc: Global, uplink: U) -> Noting<U> {
+    /// Notes over this way to the peers.
+    pub fn new(alloc: Global, uplink: U) -> Noting<U> {
         Noting {
             uplink,
             alloc,

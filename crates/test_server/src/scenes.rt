@@ -1,0 +1,147 @@
+//! Scenes: a desk is opened, and something is done with it.
+
+use crate::memory::{deny_settler, deny_workers};
+use crate::playing::take_turns;
+use ilp_accounts::Config;
+use ilp_desk::{Desk, Naming, Share};
+use ilp_workers::EngineReply;
+use std::rt::Files;
+use std::sync::Wait;
+use std::{fs, io};
+use test_links::{Play, Said, moments_of, octets_of, open_desk, said};
+
+/// Who takes the steps.
+#[derive(Clone, Copy)]
+enum Act {
+    /// A worker and a settler.
+    Both,
+    /// Workers, each of which is denied another growth.
+    DenyWorkers,
+    /// A settler that is denied each growth.
+    DenySettler,
+}
+
+impl Act {
+    fn of(word: &str) -> Option<Act> {
+        match word {
+            "both" => Some(Act::Both),
+            "deny-workers" => Some(Act::DenyWorkers),
+            "deny-settler" => Some(Act::DenySettler),
+            _ => None,
+        }
+    }
+}
+
+/// What a scene is played with.
+#[derive(Clone, Copy)]
+pub(crate) struct Given<'a> {
+    /// What the worker's clock tells first, and from then on, in milliseconds since 1970.
+    pub(crate) moments: (i64, i64),
+    /// What the settler's clock tells first, and from then on.
+    pub(crate) turns: (i64, i64),
+    /// What bob replies, unless his link has a fault.
+    pub(crate) came: Option<&'a [u8]>,
+    /// What the engine answers a message, unless its link has a fault.
+    pub(crate) answer: Option<&'a [u8]>,
+    /// What the engine says of accounts and settlements first, and from then on.
+    pub(crate) said: (Said, Said),
+    /// The steps, each behind `-- `.
+    pub(crate) steps: &'a str,
+}
+
+#[derive(Clone, Copy)]
+struct Scene<'a> {
+    act: Act,
+    workers: u32,
+    given: Given<'a>,
+}
+
+impl<R: Print + Wait> Play<R> for Scene<'_> {
+    fn play<J: Naming + Send + Sync>(
+        &self,
+        rt: &R,
+        desk: Desk<J>,
+        shares: Vec<Share<J>>,
+    ) -> io::Result<()> {
+        match self.act {
+            Act::Both => take_turns(rt, &desk, shares, &self.given),
+            Act::DenyWorkers => deny_workers(rt, &desk, shares, &self.given),
+            Act::DenySettler => deny_settler(rt, &desk, shares, &self.given),
+        }
+    }
+}
+
+/// Plays the scenes, and prints what comes of each.
+pub(crate) fn print_scenes<R: Files + Print + AllocGlobal + Wait>(rt: &R) -> io::Result<()> {
+    let scenes = fs::read_to_string(rt, "scenes.txt")?;
+    for scene in scenes.split("== ").skip(1) {
+        let (name, lines) = scene.split_once('\n').unwrap_or((scene, ""));
+        println!(rt; "== {name}")?;
+        print_scene(rt, lines)?;
+    }
+    Ok(())
+}
+
+fn print_scene<R: Files + Print + AllocGlobal + Wait>(rt: &R, lines: &str) -> io::Result<()> {
+    let alloc = rt.alloc();
+    let reply = octets_of(alloc, said(lines, "bob").unwrap_or(""))?;
+    let answer = octets_of(alloc, said(lines, "replies").unwrap_or(""))?;
+    let given = Given {
+        moments: moments_of(said(lines, "clock").unwrap_or("")).unwrap_or((0, 0)),
+        turns: moments_of(said(lines, "turns").unwrap_or("")).unwrap_or((0, 0)),
+        came: said(lines, "bob").map(|_| reply.as_slice()),
+        answer: said(lines, "replies").map(|_| answer.as_slice()),
+        said: said_of(said(lines, "says").unwrap_or("")),
+        steps: lines,
+    };
+    print_given(rt, lines, given)
+}
+
+// What an engine says first, and from then on.
+fn said_of(words: &str) -> (Said, Said) {
+    let (first, second) = words.split_once(", ").unwrap_or((words, words));
+    (one_said(first), one_said(second))
+}
+
+// `account` or `no-account`, and what is said of a settlement.
+fn one_said(words: &str) -> Said {
+    let (account, settlement) = words.split_once(' ').unwrap_or((words, ""));
+    Said {
+        account: account == "account",
+        settlement: match settlement {
+            "accepted" => EngineReply::Accepted,
+            "refused" => EngineReply::Refused,
+            _ => EngineReply::Unknown,
+        },
+    }
+}
+
+fn print_given<R: Files + Print + AllocGlobal + Wait>(
+    rt: &R,
+    lines: &str,
+    given: Given<'_>,
+) -> io::Result<()> {
+    let Some(act) = Act::of(said(lines, "act").unwrap_or("")) else {
+        return println!(rt; "no act");
+    };
+    let workers = said(lines, "workers").unwrap_or("1");
+    let scene = Scene {
+        act,
+        workers: workers.parse::<u32>().unwrap_or(1),
+        given,
+    };
+    print_over(rt, said(lines, "over").unwrap_or(""), &scene)
+}
+
+// Plays the scene over a configuration.
+fn print_over<R: Files + Print + AllocGlobal + Wait>(
+    rt: &R,
+    name: &str,
+    scene: &Scene<'_>,
+) -> io::Result<()> {
+    let octets = fs::read(rt, name)?;
+    match Config::read(rt.alloc(), &octets) {
+        Ok(config) => open_desk(rt, &config, scene.workers, scene),
+        Err(fault) => println!(rt; "no configuration: {fault}"),
+    }
+}

@@ -1,0 +1,23 @@
+//! Turns of a settler.
+
+use ilp_desk::{Desk, Naming};
+use ilp_workers::{Clock, EngineLink, Settler};
+use std::alloc::Allocator;
+use std::io;
+use std::sync::Wait;
+
+/// Has a settler take a turn for a peer, and prints what it comes to.
+pub(crate) fn settle<J: Naming, C: Clock + Drop, E: EngineLink + Drop, A: Allocator>(
+    rt: &(impl Print + Wait),
+    desk: &Desk<J>,
+    settler: &mut Settler<J, C, E, A>,
+    peer: u32,
+) -> io::Result<()> {
+    if peer >= desk.config().peers() {
+        return println!(rt; "no peer");
+    }
+    match settler.turn(rt, desk, peer) {
+        Ok(turn) => println!(rt; "{turn:?}"),
+        Err(_) => println!(rt; "no memory"),
+    }
+}
