@@ -86,15 +86,19 @@ fn print_scene<R: Files + Print + AllocGlobal + Wait>(rt: &R, lines: &str) -> io
     let alloc = rt.alloc();
     let reply = octets_of(alloc, said(lines, "bob").unwrap_or(""))?;
     let answer = octets_of(alloc, said(lines, "replies").unwrap_or(""))?;
-    let given = Given {
+    print_given(rt, lines, given_in(lines, &reply, &answer))
+}
+
+// What is given, with what bob replies and what the engine answers, where they do.
+fn given_in<'a>(lines: &'a str, reply: &'a [u8], answer: &'a [u8]) -> Given<'a> {
+    Given {
         moments: moments_of(said(lines, "clock").unwrap_or("")).unwrap_or((0, 0)),
         turns: moments_of(said(lines, "turns").unwrap_or("")).unwrap_or((0, 0)),
-        came: said(lines, "bob").map(|_| reply.as_slice()),
-        answer: said(lines, "replies").map(|_| answer.as_slice()),
+        came: said(lines, "bob").map(|_| reply),
+        answer: said(lines, "replies").map(|_| answer),
         said: said_of(said(lines, "says").unwrap_or("")),
         steps: lines,
-    };
-    print_given(rt, lines, given)
+    }
 }
 
 // What an engine says first, and from then on.
