@@ -225,6 +225,24 @@ fn examine(octets: &[u8], spans: &mut [FieldSpan]) -> Finding {
     }
 }
 
+// What octets that have come so far are.
+#[allow(dead_code)]
+pub enum Examined {
+    Whole,
+    Unfinished,
+    Refused,
+}
+
+#[allow(dead_code)]
+pub fn look_at(octets: &[u8]) -> Examined {
+    let mut spans = [FieldSpan::default(); FIELD_LIMIT];
+    match examine(octets, &mut spans) {
+        Finding::Whole(_) => Examined::Whole,
+        Finding::Unfinished(_) => Examined::Unfinished,
+        Finding::Refused(_) => Examined::Refused,
+    }
+}
+
 pub struct Pieces<'a> {
     pub rest: &'a [u8],
     pub piece: usize,
