@@ -1,5 +1,8 @@
 //! Scenes: a desk is opened, and something is done with it.
 
+ghost use Rattle.std.specs.Prelude.{◌≡◌};
+ghost use Rattle.ilp_desk.specs.Desk.{actors_of, base_of};
+
 use crate::at_once::forward_two;
 use crate::forwards::forward_one;
 use crate::gathering::{Missing, close};
@@ -7,12 +10,15 @@ use crate::many::forward_all;
 use crate::memory::deny_each;
 use crate::sweeping::forward_slowly;
 use ilp_accounts::Config;
+use ilp_book::Book;
 use ilp_desk::{Desk, Naming, Share};
+use std::marker::Brand;
 use std::rt::Files;
 use std::sync::Wait;
+use std::sync::ledger::Blank;
 use std::thread::Threads;
 use std::{fs, io};
-use test_links::{Play, moments_of, octets_of, open_desk, said};
+use test_links::{moments_of, octets_of, said};
 
 /// What is done with a desk.
 #[derive(Clone, Copy)]
@@ -68,8 +74,8 @@ struct Scene<'a> {
     given: Given<'a>,
 }
 
-impl<R: Print + Threads + Wait + Sync> Play<R> for Scene<'_> {
-    fn play<J: Naming + Send + Sync>(
+impl Scene<'_> {
+    fn play<J: Naming + Send + Sync, R: Print + Threads + Wait + Sync>(
         &self,
         rt: &R,
         desk: Desk<J>,
@@ -141,7 +147,39 @@ fn print_over<R: Files + Print + AllocGlobal + Threads + Wait + Sync>(
 ) -> io::Result<()> {
     let octets = fs::read(rt, name)?;
     match Config::read(rt.alloc(), &octets) {
-        Ok(config) => open_desk(rt, &config, scene.workers, scene),
+        Ok(config) => play(rt, &config, scene),
         Err(fault) => println!(rt; "no configuration: {fault}"),
+    }
+}
+
+// Plays the scene at a desk over a book of no entries.
+fn play<R: Print + Threads + Wait + Sync>(
+    rt: &R,
+    config: &Config,
+    scene: &Scene<'_>,
+) -> io::Result<()> {
+    let book = Book::new(config.allocator(), config)?;
+    let blanks = Blank::new(u64::from(scene.workers) + 2);
+    play_on::<Brand, R>(rt, config, book, scene.workers, blanks, scene)
+}
+
+// Opens a desk over this book, and plays the scene there.
+fn play_on<J: Naming + Send + Sync, R: Print + Threads + Wait + Sync>(
+    rt: &R,
+    config: &Config,
+    book: Book,
+    workers: u32,
+    blanks: Blank,
+    scene: &Scene<'_>,
+) -> io::Result<()>
+    requires config { (config.now ≡ J.desk.config) × (book.config ≡ J.desk.config) }
+    requires workers { workers ≡ J.desk.workers }
+    requires opening { (book.entries ≡ J.desk.opening) × (book.base ≡ base_of J.desk) }
+    requires ledger { (blanks.name ≡ J.name) × (blanks.parts ≡ J.parts) }
+    requires parts { J.parts ≡ actors_of J.desk }
+{
+    match Desk::<J>::open(config.allocator(), config, book, workers, blanks) {
+        Ok((desk, shares)) => scene.play(rt, desk, shares),
+        Err(_) => println!(rt; "no desk"),
     }
 }
