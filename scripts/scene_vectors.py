@@ -146,7 +146,7 @@ FORWARDS = [
     forward("the longest Fulfill", LONGEST,
             row=LONGEST[:4].hex() + "<32 00>" + LONGEST[36:39].hex() + "<32767 5a>"),
     refused("to an address of the scheme peer", own_reject(b"F02", b"unreachable"),
-            prepare(destination=b"peer.settle")),
+            prepare(destination=b"peer.bob")),
     refused("too large an amount",
             own_reject(b"F08", b"amount too large",
                        (100).to_bytes(8, "big") + (10).to_bytes(8, "big")),
