@@ -1,12 +1,13 @@
 -- What becomes of a connection: what was read of it, what the worker made of that, and what was written.
-use Rattle.std.specs.Prelude.{◌≡◌, ℕ, List, Option, Result, Ok, Err, IfSome, IfOk}
+use Rattle.std.specs.Prelude.{◌≡◌, ℕ, List, Option, Result, Ok, Err, IfSome, IfOk, IsErrOf}
 use Rattle.std.specs.Io.KnownBytes.{Appends}
-use Rattle.ilp_io.specs.Counts.{Tally, TalliesUpTo, CountsUp}
+use Rattle.ilp_io.specs.Counts.{Tally, Tallies, TalliesUpTo, CountsUp}
 use Rattle.ilp_io.specs.Writing.{AppendsProperPrefix}
 use Rattle.ilp_http.specs.Writing.{response_text}
 use Rattle.ilp_http.specs.Answer.{IsAnswer, HasPartsOf, failed_reads}
 use Rattle.ilp_http.specs.declared.status.Status.{Status}
 use Rattle.ilp_http.specs.declared.refusal.RequestFault.{RequestFault}
+use Rattle.ilp_http.specs.declared.refusal.RequestFault.TheVariants as request_fault
 use Rattle.ilp_http.specs.declared.request.Request.{Request}
 use Rattle.ilp_desk.specs.Desk.{PlainDesk}
 use Rattle.ilp_workers.specs.Worker.{PlainWorker}
@@ -86,6 +87,7 @@ pub record Answers (desk : PlainDesk) (side : Side) (old new : Wire) (before aft
   pub read : IfSome old.input (λ octets. IsAnswer octets request)
   pub begun : IfOk request (λ found. (octets : List ℕ) × HasPartsOf octets found)
   pub counted : TalliesUpTo old.reads new.reads most_reads (failed_reads request)
+  pub patient : IsErrOf request request_fault.TooManyReads → Tallies old.reads new.reads most_reads 0
   pub outcome : Result (Result Served NotServed) ConnectionFault
   pub served : IsOutcome desk side request before after outcome
   pub told : IsTold after outcome old.output new.output handled

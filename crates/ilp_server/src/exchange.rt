@@ -1,6 +1,6 @@
 //! A request that is sent, and what comes back for it.
 ghost use Rattle.std.specs.Prelude.{◌≡◌, IfSome, IsErrOf};
-ghost use Rattle.ilp_io.specs.Counts.{CountsUp, TalliesUpTo};
+ghost use Rattle.ilp_io.specs.Counts.{CountsUp, Tallies, TalliesUpTo};
 ghost use Rattle.ilp_http.specs.Writing.{request_text};
 ghost use Rattle.ilp_server.specs.Exchange.{IsSent, IsAnswered, failed_writes, failed_reads};
 
@@ -39,6 +39,8 @@ pub fn post<'b, W: Sink, S: Source>(
     ensures writes { CountsUp (W.failures sink.old) (W.failures sink.new) (failed_writes result) }
     ensures reads { TalliesUpTo (S.tally source.old) (S.tally source.new)
         MOST_READS (failed_reads result) }
+    ensures patient { IsErrOf result (PostFault.Unanswered ResponseFault.TooManyReads)
+        → Tallies (S.tally source.old) (S.tally source.new) MOST_READS 0 }
 {
     let Ok(()) = write_request(sink, head, body) else {
         return Err(PostFault::Unsent);
