@@ -9,10 +9,11 @@ pub enum Turn {
     NoAccount,
     /// No settlement is due, or the book can't have another; this is why.
     Idle(AskFault),
-    /// The settlement of this number is open, and is tried again under the same key: the engine did
-    /// not say what became of it.
+    /// The settlement of this number is not closed by this turn: the engine did not say what became
+    /// of it, or the book had it open no more when it did. If it is open, the next turn tries it
+    /// again under the same key.
     Kept { number: u32 },
-    /// The settlement of this number is closed: the engine made it, or refused it, and then the peer
-    /// has its amount back.
+    /// The settlement of this number is closed: the engine accepted it, or refused it, and then the
+    /// peer has its amount back.
     Closed { number: u32, accepted: bool },
 }

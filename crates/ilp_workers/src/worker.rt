@@ -182,8 +182,8 @@ impl<J: Naming, C: Clock + Drop, U: Uplink + Drop, E: EngineLink + Drop, A: Allo
         self.parts.send_message(desk.config(), peer, octets)
     }
 
-    /// What the peer's engine answered to the last message: the data of the Fulfill of 32 zero
-    /// octets that `reply` has; none where it has no such Fulfill.
+    /// The data of the Fulfill of 32 zero octets that `reply` has; none where it has no such Fulfill.
+    /// Right after an `Ok` of `message` it is what the peer's engine answered.
     pub fn answer(&self) -> &[u8]
         ensures { result.now ≡ unwrap_or (answer_of (Some self.now.reply)) [] }
     {
