@@ -15,14 +15,16 @@ use ilp_workers::{Clock, EngineLink, Uplink, Worker};
 use std::alloc::{Allocator, Global};
 use std::sync::Wait;
 
-/// Reads one request of a connection at a side, has the worker serve it, and writes one response
-/// (RFC 0035 at the side of the peers, RFC 0038 at that of the engines).
+/// Reads one request of a connection at a side, in at most 4,096 reads, has the worker serve it, and
+/// writes one response (RFC 0035 at the side of the peers, RFC 0038 at that of the engines).
 ///
-/// Refused octets are answered with the status of their refusal, and whatever is refused later with
-/// an empty body; all that asks for nothing leaves the worker as it was. What was booked stays,
-/// whatever becomes of the response. Nothing is written after a failed read, and where memory for the
-/// fields was denied. `alloc` is for the fields, for the JSON of a quantity and for its answer; room
-/// for that is made before anything is booked.
+/// It answers `Done` with the status of the response that was written whole, `Close` in its place
+/// after a close at the side of the engines, and `Fault` where no response was written whole: a write
+/// failed, or nothing was written, since a read failed or memory for the fields was denied. What is
+/// refused, as octets or later, is answered with a status and an empty body, and leaves the worker
+/// as it was unless a packet, a credit or a message was tried. What was booked stays, whatever
+/// becomes of the response. `alloc` is for the fields, for the JSON of a quantity and for its answer;
+/// room for that is made before anything is booked.
 pub fn answer_connection<
     J: Naming,
     C: Clock + Drop,
