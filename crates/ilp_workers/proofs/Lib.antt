@@ -3,8 +3,6 @@ pub mod Sessions
 pub mod Sending
 pub mod Passing
 pub mod Outcomes
-pub mod Sweeping
 pub mod Standing
 pub mod CreditSessions
-pub mod SettleSessions
 pub mod EngineMessages

@@ -1,5 +1,5 @@
-//! The actors of a desk: workers, which pass packets on, the sweeper and the settler. Each has a
-//! share of the desk, a clock and links to peers and engines.
+//! Workers of a desk, which pass packets on and credit settlements, and what every actor of a desk is
+//! given: a clock, and links to peers and engines.
 #![tactic(auto)]
 
 mod closing;
@@ -10,17 +10,10 @@ mod messaging;
 mod parts;
 mod rejects;
 mod reply;
-mod settler;
-mod settling;
-mod sweeper;
-mod turn;
 mod worker;
 
 pub use links::{Clock, EngineLink, EngineReply, LinkFault, Uplink};
 pub use messaging::MessageFault;
 pub use rejects::LocalReject;
 pub use reply::{BadPacket, Receipt};
-pub use settler::{NoSettler, Settler};
-pub use sweeper::Sweeper;
-pub use turn::Turn;
 pub use worker::{NoWorker, Worker};

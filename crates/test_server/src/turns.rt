@@ -1,7 +1,8 @@
 //! Turns of a settler.
 
 use ilp_desk::{Desk, Naming};
-use ilp_workers::{Clock, EngineLink, Settler};
+use ilp_settler::Settler;
+use ilp_workers::{Clock, EngineLink};
 use std::alloc::Allocator;
 use std::io;
 use std::sync::Wait;

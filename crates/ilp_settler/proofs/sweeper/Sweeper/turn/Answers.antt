@@ -1,9 +1,9 @@
 use Rattle.std.proofs.Common.{subst}
 use Rattle.std.specs.Int.{w64}
 use Rattle.std.proofs.Math.Facts.{to_z-of_z}
-use Rattle.ilp_workers.specs.Sweeper.{sweeper, IsExpiredAt, Sweeps}
-use Rattle.ilp_workers.proofs.Sweeping.{turn_by}
-use Rattle.ilp_workers.proofs.sweeper.Sweeper.turn.Goals as goal
+use Rattle.ilp_settler.specs.Sweeper.{sweeper, IsExpiredAt, Sweeps}
+use Rattle.ilp_settler.proofs.Sweeping.{turn_by}
+use Rattle.ilp_settler.proofs.sweeper.Sweeper.turn.Goals as goal
 
 pub returns : goal.returns
 returns g c =

@@ -5,9 +5,9 @@ use Rattle.std.specs.Int.{w64}
 use Rattle.std.proofs.lemmas.Int.{to_z-of_z}
 use Rattle.ilp_book.specs.declared.fault.NotOpen.{NotOpen}
 use Rattle.ilp_desk.specs.Portion.{holding}
-use Rattle.ilp_workers.specs.Settler.{IsClosedAt}
-use Rattle.ilp_workers.proofs.SettleSessions.{closing_by}
-use Rattle.ilp_workers.proofs.settling.SettlerParts.close.Goals as goal
+use Rattle.ilp_settler.specs.Settler.{IsClosedAt}
+use Rattle.ilp_settler.proofs.SettleSessions.{closing_by}
+use Rattle.ilp_settler.proofs.settling.SettlerParts.close.Goals as goal
 
 -- nothing was open any more
 pub returns-in_default-clause-closed : goal.returns-in_default-clause-closed

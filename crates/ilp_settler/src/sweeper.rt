@@ -1,10 +1,10 @@
 //! The sweeper: it releases holds whose deadline has come.
 ghost use Rattle.std.specs.Prelude.{◌≡◌, []};
 ghost use Rattle.ilp_desk.specs.Portion.{holding};
-ghost use Rattle.ilp_workers.specs.Sweeper.{sweeper, Sweeps};
+ghost use Rattle.ilp_settler.specs.Sweeper.{sweeper, Sweeps};
 
-use crate::links::Clock;
 use ilp_desk::{Desk, End, Naming, Record, Share};
+use ilp_workers::Clock;
 use std::alloc::Global;
 use std::marker::Model;
 use std::sync::Wait;
@@ -21,7 +21,7 @@ pub struct Sweeper<J: Naming, C: Clock + Drop> {
 
 impl<J: Naming, C: Clock + Drop> Model for Sweeper<J, C> {
     ghost use Rattle.std.specs.Prelude.{◌≡◌, []};
-    ghost use Rattle.ilp_workers.specs.Sweeper.{PlainSweeper, sweeper};
+    ghost use Rattle.ilp_settler.specs.Sweeper.{PlainSweeper, sweeper};
 
     ghost Value = { PlainSweeper };
 

@@ -2,12 +2,12 @@
 ghost use Rattle.std.specs.Prelude.{◌≡◌, [], IfOk, IfErr};
 ghost use Rattle.ilp_book.specs.Configured.{IsKnown};
 ghost use Rattle.ilp_desk.specs.Portion.{holding};
-ghost use Rattle.ilp_workers.specs.Settler.{settler, no_accounts, Turns};
+ghost use Rattle.ilp_settler.specs.Settler.{settler, no_accounts, Turns};
 
-use crate::links::{Clock, EngineLink};
 use crate::settling::{LONGEST_KEY, MOST_PEERS, SettlerParts};
 use crate::turn::Turn;
 use ilp_desk::{Desk, End, Naming, Record, Share};
+use ilp_workers::{Clock, EngineLink};
 use std::alloc::{AllocError, Allocator, Global};
 use std::marker::Model;
 use std::sync::Wait;
@@ -20,7 +20,7 @@ pub struct Settler<J: Naming, C: Clock + Drop, E: EngineLink + Drop, A: Allocato
 }
 
 impl<J: Naming, C: Clock + Drop, E: EngineLink + Drop, A: Allocator> Model for Settler<J, C, E, A> {
-    ghost use Rattle.ilp_workers.specs.Settler.{PlainSettler, settler};
+    ghost use Rattle.ilp_settler.specs.Settler.{PlainSettler, settler};
 
     ghost Value = { PlainSettler };
 

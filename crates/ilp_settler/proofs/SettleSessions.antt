@@ -10,9 +10,9 @@ use Rattle.ilp_book.specs.Book.{PlainBook, By, by, Growth, granted, denied, Does
 use Rattle.ilp_book.specs.SettleStep.{ask_checked, ask_booked, ask_growth, ask_step, EngineVerdict, verdict_of, close_booked, close_step}
 use Rattle.ilp_desk.specs.Desk.{PlainDesk}
 use Rattle.ilp_desk.specs.Portion.{Portion, Holding}
-use Rattle.ilp_workers.specs.declared.turn.Turn.{Turn}
+use Rattle.ilp_settler.specs.declared.turn.Turn.{Turn}
 use Rattle.ilp_workers.specs.Links.{Tells}
-use Rattle.ilp_workers.specs.Settler.{IsAskedAt, asks_of, IsAsking, IsClosedAt, closings_of, kept_of_close, turn_of_close, IsClosing}
+use Rattle.ilp_settler.specs.Settler.{IsAskedAt, asks_of, IsAsking, IsClosedAt, closings_of, kept_of_close, turn_of_close, IsClosing}
 use Rattle.ilp_workers.proofs.Sessions.{raised_by, count_in, booked_more}
 
 -- ---- steps

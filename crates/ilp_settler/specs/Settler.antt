@@ -17,8 +17,8 @@ use Rattle.ilp_desk.specs.Portion.{Portion, portion, Holding, holding}
 use Rattle.ilp_desk.specs.Session.{IsReplyAt}
 use Rattle.ilp_workers.specs.declared.links.EngineReply.{EngineReply}
 use Rattle.ilp_workers.specs.declared.links.EngineReply.TheVariants.{Accepted, Refused, Unknown}
-use Rattle.ilp_workers.specs.declared.turn.Turn.{Turn}
-use Rattle.ilp_workers.specs.declared.turn.Turn.TheVariants.{NoAccount, Idle, Kept, Closed}
+use Rattle.ilp_settler.specs.declared.turn.Turn.{Turn}
+use Rattle.ilp_settler.specs.declared.turn.Turn.TheVariants.{NoAccount, Idle, Kept, Closed}
 use Rattle.ilp_workers.specs.Links.{Tells, ToEngine, settled, settling}
 
 -- its share, the records of what it booked, what its links tell (the moments of its clock, and what engines were handed), and

@@ -4,13 +4,13 @@ ghost use Rattle.ilp_book.specs.Configured.{IsKnown};
 ghost use Rattle.ilp_desk.specs.Portion.{holding};
 ghost use Rattle.ilp_workers.specs.declared.links.EngineReply.{EngineReply};
 ghost use Rattle.ilp_workers.specs.Links.{Tells};
-ghost use Rattle.ilp_workers.specs.Settler.{settler, longest_key, key_text, with_account, IsAsking, settlement_told, verdict_by, IsClosing, ClosesBy, record_of_close, Turns};
+ghost use Rattle.ilp_settler.specs.Settler.{settler, longest_key, key_text, with_account, IsAsking, settlement_told, verdict_by, IsClosing, ClosesBy, record_of_close, Turns};
 
-use crate::links::{Clock, EngineLink, EngineReply};
 use crate::turn::Turn;
 use ilp_accounts::Config;
 use ilp_book::{AskFault, Asked};
 use ilp_desk::{Desk, End, Naming, Record, Recorded, Share};
+use ilp_workers::{Clock, EngineLink, EngineReply};
 use itoa::Buffer;
 use std::alloc::{AllocError, Allocator, Global};
 use std::sync::Wait;

@@ -2,9 +2,9 @@ use Rattle.std.proofs.Common.{subst, rules}
 use Rattle.std.specs.Prelude.{FitsSigned}
 use Rattle.std.specs.Int.{w64}
 use Rattle.std.proofs.lemmas.Int.{to_z-of_z}
-use Rattle.ilp_workers.specs.Settler.{IsAskedAt}
-use Rattle.ilp_workers.proofs.SettleSessions.{asking_by}
-use Rattle.ilp_workers.proofs.settling.SettlerParts.ask.Goals as goal
+use Rattle.ilp_settler.specs.Settler.{IsAskedAt}
+use Rattle.ilp_settler.proofs.SettleSessions.{asking_by}
+use Rattle.ilp_settler.proofs.settling.SettlerParts.ask.Goals as goal
 
 pub returns-clause-asked : goal.returns-clause-asked
 returns-clause-asked g c =

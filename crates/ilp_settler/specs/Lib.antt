@@ -1,0 +1,2 @@
+pub mod Sweeper
+pub mod Settler
