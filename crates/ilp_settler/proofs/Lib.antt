@@ -1,2 +1,3 @@
 pub mod Sweeping
 pub mod SettleSessions
+pub mod TurnLemmas

@@ -1,5 +1,5 @@
 -- A settler as contracts see it, and what a turn of it does.
-use Rattle.std.specs.Prelude.{◌≡◌, ℕ, ◌+◌, ℤ, Bool, true, false, List, [], ◌∷◌, ◌++◌, Option, Some, None, Result, Ok, Err, IsErr, ◌⊎◌, slice_get, slice_set, replicate, codes}
+use Rattle.std.specs.Prelude.{◌≡◌, ℕ, ◌+◌, ℤ, Bool, true, false, List, [], ◌∷◌, ◌++◌, Option, Some, None, Result, Ok, Err, IsErr, ◌⊎◌, slice_get, slice_set, unwrap_or, replicate, codes}
 use Rattle.std.specs.Fmt.{decimal}
 use Rattle.ilp_accounts.specs.Limits.{most_peers}
 use Rattle.ilp_accounts.specs.Configuration.{Configuration}
@@ -19,7 +19,7 @@ use Rattle.ilp_workers.specs.declared.links.EngineReply.{EngineReply}
 use Rattle.ilp_workers.specs.declared.links.EngineReply.TheVariants.{Accepted, Refused, Unknown}
 use Rattle.ilp_settler.specs.declared.turn.Turn.{Turn}
 use Rattle.ilp_settler.specs.declared.turn.Turn.TheVariants.{NoAccount, Idle, Kept, Closed}
-use Rattle.ilp_workers.specs.Links.{Tells, ToEngine, settled, settling}
+use Rattle.ilp_workers.specs.Links.{Tells, ToEngine, asked, asking, settled, settling}
 
 -- its share, the records of what it booked, what its links tell (the moments of its clock, and what engines were handed), and
 -- which peers' engines are known to have the account, by the peers' places
@@ -33,9 +33,28 @@ pub record PlainSettler : Type 0 where
 abbrev pub settler : Portion → List Record → Option (List ℤ) → Option (List ToEngine) → List Bool → PlainSettler
 settler share kept moments engine accounts = record { share = share; kept = kept; moments = moments; engine = engine; accounts = accounts }
 
+-- ---- accounts
+
 -- no account is known yet
 abbrev pub no_accounts : List Bool
 no_accounts = replicate most_peers false
+
+-- whether the peer's engine is known to have the account
+abbrev pub knows_account : List Bool → ℕ → Bool
+knows_account accounts peer = unwrap_or (slice_get accounts peer) false
+
+-- the accounts, with one more that is known
+abbrev pub with_account : List Bool → ℕ → List Bool
+with_account accounts peer = slice_set accounts peer true
+
+-- what the peer's engine is handed for an account: the question, with what it said
+abbrev pub account_told : ℕ → Bool → ToEngine
+account_told peer said = asked (asking peer said)
+
+-- The peer's engine has the account. Where that was known, it was not asked; else it was, once, and said so.
+abbrev pub HasAccount : Bool → ℕ → Option (List ToEngine) → Option (List ToEngine) → Type 0
+HasAccount true peer told told' = told' ≡ told
+HasAccount false peer told told' = Tells told (account_told peer true) told'
 
 -- ---- keys
 
@@ -56,7 +75,7 @@ IsAskedAt desk peer now before after reply =
 
 -- how many entries a reply booked
 abbrev pub asks_of : Result Asked AskFault → ℕ
-asks_of (Ok asked) = 1
+asks_of (Ok a) = 1
 asks_of (Err fault) = 0
 
 -- A book is asked at a moment that the clock gives.
@@ -68,7 +87,7 @@ pub record IsAsking (desk : PlainDesk) (peer : ℕ) (moments moments' : Option (
 
 -- the settlement that a reply leads to: a new one, or the one that is still open
 abbrev pub settlement_of : Result Asked AskFault → Option Asked
-settlement_of (Ok asked) = Some asked
+settlement_of (Ok a) = Some a
 settlement_of (Err (ask_fault.StillOpen number amount)) = Some (record { number = number; amount = amount })
 settlement_of (Err fault) = None
 
@@ -78,7 +97,7 @@ settlement_of (Err fault) = None
 abbrev pub settlement_told : Configuration → ℕ → Asked → EngineReply → ToEngine
 settlement_told C peer a said = settled (settling peer (key_text C a.number) a.amount (scale_at C peer) said)
 
--- whether a settlement is closed as made or as refused by what the engine said, or not at all
+-- whether a settlement is closed as accepted or as refused by what the engine said, or not at all
 abbrev pub verdict_by : EngineReply → Option Bool
 verdict_by Accepted = Some true
 verdict_by Refused = Some false
@@ -86,7 +105,7 @@ verdict_by Unknown = None
 
 -- ---- closing
 
--- A book of the desk was told at a moment whether a settlement was made, and this was its reply.
+-- A book of the desk was told at a moment whether the engine accepted a settlement, and this was its reply.
 abbrev pub IsClosedAt : PlainDesk → ℕ → Bool → ℤ → Portion → Portion → Result ℕ NotOpen → Type 0
 IsClosedAt desk number accepted now before after reply =
     IsReplyAt desk (λ book. close_step book (by before.actor now) number (verdict_of accepted)) before after reply
@@ -132,56 +151,55 @@ ClosesBy desk peer a (Some accepted) moments moments' before after turn = IsClos
 
 -- ---- turns
 
--- the accounts, with one more that is known
-abbrev pub with_account : List Bool → ℕ → List Bool
-with_account accounts peer = slice_set accounts peer true
-
--- The peer's engine does not have the account, as far as is known, and all is as it was.
+-- The peer's engine is not known to have the account. It was asked, once, and said that it has none. Nothing else was done.
 pub record IsWithoutAccount (peer : ℕ) (before after : PlainSettler) : Type 0 where
-  pub unknown : slice_get before.accounts peer ≡ Some false
-  pub same : after ≡ before
+  pub unknown : knows_account before.accounts peer ≡ false
+  pub denied : Tells before.engine (account_told peer false) after.engine
+  pub same : after ≡ settler before.share before.kept before.moments after.engine before.accounts
 
--- There is no room for a record. No book is asked, and no engine is handed anything.
+-- The engine has the account, and there is no room for a record. No book is asked, and no engine for a settlement.
 pub record IsWithoutRoom (peer : ℕ) (before after : PlainSettler) : Type 0 where
-  pub accounts : after.accounts ≡ with_account before.accounts peer
-  pub same : after ≡ settler before.share before.kept before.moments before.engine after.accounts
+  pub account : HasAccount (knows_account before.accounts peer) peer before.engine after.engine
+  pub same : after ≡ settler before.share before.kept before.moments after.engine (with_account before.accounts peer)
 
 -- what a turn comes to by a refusal of the book
 abbrev pub IsTurnOfFault : {E : Type 0} → AskFault → Result Turn E → Type 0
 IsTurnOfFault ask_fault.Memory turn = IsErr turn
 IsTurnOfFault fault turn = turn ≡ Ok (Idle fault)
 
--- No settlement is due, or it can't be booked. No engine is handed anything.
-pub record IsIdle {E : Type 0} (peer : ℕ) (before after : PlainSettler) (reply : Result Asked AskFault) (turn : Result Turn E) : Type 0 where
+-- No settlement is due, or it can't be booked. No engine is asked for one.
+pub record IsIdle {E : Type 0} (before after : PlainSettler) (engine : Option (List ToEngine)) (reply : Result Asked AskFault) (turn : Result Turn E) : Type 0 where
   pub fault : AskFault
   pub refused : reply ≡ Err fault
   pub turn_is : IsTurnOfFault fault turn
   pub kept : after.kept ≡ before.kept
-  pub engine : after.engine ≡ before.engine
+  pub engine_stays : after.engine ≡ engine
 
 -- The peer's engine is asked for the settlement, once, and a book is told what it said. Between the two sessions nothing is known
 -- of the book.
-pub record IsSettling {E : Type 0} (desk : PlainDesk) (peer : ℕ) (before after : PlainSettler) (a : Asked) (share : Portion) (moments : Option (List ℤ)) (turn : Result Turn E) : Type 0 where
+pub record IsSettling {E : Type 0} (desk : PlainDesk) (peer : ℕ) (before after : PlainSettler) (engine : Option (List ToEngine)) (a : Asked) (share : Portion) (moments : Option (List ℤ)) (turn : Result Turn E) : Type 0 where
   pub said : EngineReply
-  pub handed : Tells before.engine (settlement_told desk.config peer a said) after.engine
+  pub handed : Tells engine (settlement_told desk.config peer a said) after.engine
   pub told : Turn
   pub closed : ClosesBy desk peer a (verdict_by said) moments after.moments (holding share before.kept) (holding after.share after.kept) told
   pub turn_is : turn ≡ Ok told
 
 -- after a book was asked: by the settlement that its reply leads to
-abbrev pub GoesOn : {E : Type 0} → PlainDesk → ℕ → PlainSettler → PlainSettler → Result Asked AskFault → Portion → Option (List ℤ) → Result Turn E → Option Asked → Type 0
-GoesOn desk peer before after reply share moments turn None =
-    IsIdle peer before after reply turn × (after.share ≡ share) × (after.moments ≡ moments)
-GoesOn desk peer before after reply share moments turn (Some a) = IsSettling desk peer before after a share moments turn
+abbrev pub GoesOn : {E : Type 0} → PlainDesk → ℕ → PlainSettler → PlainSettler → Option (List ToEngine) → Result Asked AskFault → Portion → Option (List ℤ) → Result Turn E → Option Asked → Type 0
+GoesOn desk peer before after engine reply share moments turn None =
+    IsIdle before after engine reply turn × (after.share ≡ share) × (after.moments ≡ moments)
+GoesOn desk peer before after engine reply share moments turn (Some a) = IsSettling desk peer before after engine a share moments turn
 
--- A book is asked for a settlement, and then the engine.
+-- The engine has the account, which is kept. A book is asked for a settlement, and then the engine.
 pub record IsTurn {E : Type 0} (desk : PlainDesk) (peer : ℕ) (before after : PlainSettler) (turn : Result Turn E) : Type 0 where
+  pub engine : Option (List ToEngine)
+  pub account : HasAccount (knows_account before.accounts peer) peer before.engine engine
   pub accounts : after.accounts ≡ with_account before.accounts peer
   pub reply : Result Asked AskFault
   pub share : Portion
   pub moments : Option (List ℤ)
   pub asked : IsAsking desk peer before.moments moments before.share share reply
-  pub goes_on : GoesOn desk peer before after reply share moments turn (settlement_of reply)
+  pub goes_on : GoesOn desk peer before after engine reply share moments turn (settlement_of reply)
 
 -- what a turn for a peer is, by what it answers
 abbrev pub Turns : {E : Type 0} → PlainDesk → ℕ → PlainSettler → PlainSettler → Result Turn E → Type 0

@@ -4,7 +4,7 @@ ghost use Rattle.ilp_book.specs.Configured.{IsKnown};
 ghost use Rattle.ilp_desk.specs.Portion.{holding};
 ghost use Rattle.ilp_workers.specs.declared.links.EngineReply.{EngineReply};
 ghost use Rattle.ilp_workers.specs.Links.{Tells};
-ghost use Rattle.ilp_settler.specs.Settler.{settler, longest_key, key_text, with_account, IsAsking, settlement_told, verdict_by, IsClosing, ClosesBy, record_of_close, Turns};
+ghost use Rattle.ilp_settler.specs.Settler.{settler, longest_key, key_text, knows_account, with_account, account_told, HasAccount, IsAsking, settlement_told, verdict_by, IsClosing, ClosesBy, record_of_close, Turns};
 
 use crate::turn::Turn;
 use ilp_accounts::Config;
@@ -70,13 +70,16 @@ impl<J: Naming, C: Clock + Drop, E: EngineLink + Drop, A: Allocator> SettlerPart
         }
     }
 
-    // Whether the peer's engine has the account, by what it said before or says now.
+    // Whether the peer's engine has the account: where it did not say so before, it is asked now.
     fn has_account(&mut self, config: &Config, peer: u32) -> bool
         requires known { IsKnown config.now peer }
-        ensures no { result ≡ false → slice_get self.old.accounts peer ≡ Some false }
+        ensures unknown { result ≡ false → knows_account self.old.accounts peer ≡ false }
+        ensures no { result ≡ false
+            → Tells (E.told self.old.engine) (account_told peer false) (E.told self.new.engine) }
         ensures stays { result ≡ false → self.new.accounts ≡ self.old.accounts }
-        ensures yes { result ≡ true → self.new.accounts ≡ with_account self.old.accounts peer }
-        ensures told { E.told self.new.engine ≡ E.told self.old.engine }
+        ensures yes { result ≡ true → HasAccount (knows_account self.old.accounts peer) peer
+            (E.told self.old.engine) (E.told self.new.engine) }
+        ensures kept { result ≡ true → self.new.accounts ≡ with_account self.old.accounts peer }
         ensures books { (self.new.share ≡ self.old.share) × (self.new.records ≡ self.old.records)
             × (self.new.clock ≡ self.old.clock) }
     {

@@ -5,7 +5,7 @@ use ilp_book::AskFault;
 /// What became of a settlement to a peer (RFC 0038).
 #[derive(Clone, Copy, Debug, PartialEq, Eq)]
 pub enum Turn {
-    /// The peer's engine has not said yet that it has an account of the peer.
+    /// The peer's engine was asked whether it has an account of the peer, and said that it has none.
     NoAccount,
     /// No settlement is due, or the book can't have another; this is why.
     Idle(AskFault),

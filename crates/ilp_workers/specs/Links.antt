@@ -1,5 +1,5 @@
 -- What links tell of what they were handed, and of what came back. A link that tells nothing is bound by nothing here.
-use Rattle.std.specs.Prelude.{◌≡◌, ℕ, ℤ, List, [], ◌∷◌, ◌++◌, Option, Some, None, Result, Ok, Err, IsSomeAnd, ⊤}
+use Rattle.std.specs.Prelude.{◌≡◌, ℕ, ℤ, Bool, List, [], ◌∷◌, ◌++◌, Option, Some, None, Result, Ok, Err, IsSomeAnd, ⊤}
 use Rattle.ilp_workers.specs.declared.links.LinkFault.{LinkFault}
 use Rattle.ilp_workers.specs.declared.links.EngineReply.{EngineReply}
 
@@ -19,6 +19,14 @@ pub record Sending : Type 0 where
 
 abbrev pub sending : ℕ → List ℕ → ℤ → Option (List ℕ) → Sending
 sending to packet deadline came = record { to = to; packet = packet; deadline = deadline; came = came }
+
+-- a peer whose account an engine was asked for, and whether it said that it has it
+pub record Asking : Type 0 where
+  pub peer : ℕ
+  pub has : Bool
+
+abbrev pub asking : ℕ → Bool → Asking
+asking peer has = record { peer = peer; has = has }
 
 -- a settlement that an engine was asked for, under its key, and what it said of it
 pub record Settling : Type 0 where
@@ -42,6 +50,7 @@ messaging peer octets came = record { peer = peer; octets = octets; came = came 
 
 -- what an engine is handed is one of these
 pub data ToEngine : Type 0 where
+  asked : Asking → ToEngine
   settled : Settling → ToEngine
   messaged : Messaging → ToEngine
 

@@ -1,6 +1,6 @@
 //! What the actors of a desk are given: a clock, and ways to peers and to settlement engines.
 ghost use Rattle.std.specs.Prelude.{◌≡◌};
-ghost use Rattle.ilp_workers.specs.Links.{Tells, came_of, sending, settling, messaging, settled, messaged};
+ghost use Rattle.ilp_workers.specs.Links.{Tells, came_of, sending, asking, settling, messaging, asked, settled, messaged};
 
 use ilp_oer::Octets;
 use std::alloc::Allocator;
@@ -64,7 +64,7 @@ pub trait EngineLink {
 
     /// Whether the engine has an account of the peer, which is set up if it has none.
     fn account(&mut self, peer: u32) -> bool
-        ensures { told self.new ≡ told self.old };
+        ensures { Tells (told self.old) (asked (asking peer result)) (told self.new) };
 
     /// Asks for a settlement to the peer, of an amount at a scale, under a key that the engine
     /// takes once.
