@@ -26,7 +26,7 @@ use Rattle.ilp_book.specs.Lawful.{most_open_asks, owed_above}
 
 -- ---- credits
 
--- the credit of a peer that is kept under a key, with its number
+-- the credit of a settlement from a peer that is kept under a key, with its number
 abbrev pub kept : Entries → ℕ → List ℕ → Option (ℕ × Credited)
 kept j peer key = option_and_then (λ n. option_map (λ (c : Credited). (n, c)) (credit_at j n)) (kept_at j peer key)
 
@@ -36,7 +36,7 @@ credit_kept q (n, c) =
     if (c.named == q.amount) && (c.scale == q.scale) then Ok (record { number = n; amount = c.credited; fresh = false })
     else Err (credit_fault.KeyTaken n)
 
--- a settlement of a peer, under its key
+-- a settlement from a peer, under its key
 pub record Payment : Type 0 where
   pub peer : ℕ
   pub key : List ℕ
@@ -45,7 +45,7 @@ pub record Payment : Type 0 where
 abbrev pub payment : ℕ → List ℕ → Quantity → Payment
 payment peer key quantity = record { peer = peer; key = key; quantity = quantity }
 
--- what a payment adds to its peer's balance
+-- what a payment adds to the balance of the peer from which it came
 abbrev pub amount_of : Configuration → Payment → ℕ
 amount_of C p = credited_at p.quantity (scale_at C p.peer)
 
@@ -131,7 +131,7 @@ ask_step book caller peer growth = ask_booked book caller growth (ask_checked bo
 
 -- ---- closings
 
--- what an engine says of a settlement: it was made, or it was refused
+-- what an engine says of a settlement: that it accepted it, or that it refused it
 pub data EngineVerdict : Type 0 where
   accepted : EngineVerdict
   rejected : EngineVerdict

@@ -123,7 +123,8 @@ fn owed_above(balance: i128, settle_to: i64) -> u64
     }
 }
 
-/// What is booked of an engine's verdict on a settlement: that it was made, or that it is undone.
+/// What is booked of an engine's verdict on a settlement: that it is confirmed, or that it is
+/// undone.
 pub(crate) fn closing(ask: u32, accepted: bool) -> What
     ensures { result ≡ settles.closing_of_verdict ask (settles.verdict_of accepted) }
 {

@@ -1,5 +1,6 @@
 //! What holds of every run of calls, and of every hold. These functions do nothing: their contracts
-//! are the laws.
+//! are the laws. A law tells whoever reads the definitions what follows from them; no code needs to
+//! call it.
 
 ghost use Rattle.std.specs.Prelude.{◌≡◌, ℕ, ◌≤◌, ◌≤ℤ◌, ◌<ℤ◌, List, length, replicate, true, Some, None, IsNone};
 ghost use Rattle.ilp_terms.specs.Condition.{meets};

@@ -66,7 +66,7 @@ most_key = 128
 abbrev pub key_in : List ℕ → Option (List ℕ)
 key_in text = if nat_le 1 (length text) && nat_le (length text) most_key then Some text else None
 
--- what an engine says of a settlement: `yes` where it was made, `no` where it was not
+-- what an engine says of a settlement: `yes` where it accepted it, `no` where it refused it
 abbrev pub verdict_in : List ℕ → Option EngineVerdict
 verdict_in text =
     if bytes_eq text (codes "yes") then Some accepted

@@ -35,9 +35,9 @@ pub(crate) enum LineReply {
     Credited(Kept),
     /// A settlement to a peer is asked for.
     Asked(Asked),
-    /// A settlement to a peer was made.
+    /// The engine accepted a settlement to a peer.
     Confirmed { number: u32, entry: u32 },
-    /// A settlement to a peer was not made.
+    /// The engine refused a settlement to a peer.
     Undone { number: u32, entry: u32 },
     /// A settlement is refused.
     Refused(Refusal),

@@ -20,7 +20,7 @@ use Rattle.ilp_desk.specs.declared.record.Ending.TheVariants.{Fulfilled, Release
 abbrev pub ended : ℕ → Ending → Hold → Recorded
 ended n ending h = recorded.Ended (record { hold = n; from = h.from; to = h.to; amount = h.amount; out = h.out; condition = h.condition; ending = ending })
 
--- the settlement n, and whether it was made
+-- the settlement n, and whether its engine accepted it
 abbrev pub closed : ℕ → Bool → Ask → Recorded
 closed n accepted a = recorded.Closed n a.peer a.amount accepted
 

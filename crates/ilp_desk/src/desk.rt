@@ -50,7 +50,9 @@ pub enum WhyNoDesk {
 /// The book that no desk was opened for, as it was given.
 #[derive(Drop)]
 pub struct NoDesk {
+    /// The book.
     pub book: Book,
+    /// Why it has no desk.
     pub why: WhyNoDesk,
 }
 
@@ -121,7 +123,8 @@ impl<J: Naming> Desk<J> {
         Desk { config, locked }
     }
 
-    /// `LockedBook::hold`, with the lock taken for this session alone.
+    /// `LockedBook::hold`, with the lock taken for this session alone: `now` is in milliseconds
+    /// since 1970, and a refusal by `HoldFault` books nothing and leaves the share as it was.
     pub fn hold(
         &self,
         rt: &impl Wait,
@@ -138,7 +141,9 @@ impl<J: Naming> Desk<J> {
         self.lock(rt).hold(share, from, prepare, now)
     }
 
-    /// `LockedBook::answer`, with the lock taken for this session alone.
+    /// `LockedBook::answer`, with the lock taken for this session alone: `now` is in milliseconds
+    /// since 1970, and where the hold is not open nothing is booked and the share is left as it
+    /// was.
     pub fn answer(
         &self,
         rt: &impl Wait,
@@ -153,7 +158,9 @@ impl<J: Naming> Desk<J> {
         self.lock(rt).answer(share, number, reply, now)
     }
 
-    /// `LockedBook::expire_one`, with the lock taken for this session alone.
+    /// `LockedBook::expire_one`, with the lock taken for this session alone: `now` is in
+    /// milliseconds since 1970, and where no hold is due nothing is booked and the share is left as
+    /// it was.
     pub fn expire_one(&self, rt: &impl Wait, share: &mut Share<J>, now: i64) -> Option<u32>
         ensures { IsReplyAt J.desk (λ book. expire_step book (by share.old.actor now))
             share.old share.new result }
@@ -161,7 +168,9 @@ impl<J: Naming> Desk<J> {
         self.lock(rt).expire_one(share, now)
     }
 
-    /// `LockedBook::credit`, with the lock taken for this session alone.
+    /// `LockedBook::credit`, with the lock taken for this session alone: `now` is in milliseconds
+    /// since 1970, and a refusal by `CreditFault`, or a key that is kept with an equal quantity,
+    /// books nothing and leaves the share as it was.
     pub fn credit(
         &self,
         rt: &impl Wait,
@@ -179,7 +188,8 @@ impl<J: Naming> Desk<J> {
         self.lock(rt).credit(share, peer, key, quantity, now)
     }
 
-    /// `LockedBook::ask`, with the lock taken for this session alone.
+    /// `LockedBook::ask`, with the lock taken for this session alone: `now` is in milliseconds
+    /// since 1970, and a refusal by `AskFault` books nothing and leaves the share as it was.
     pub fn ask(
         &self,
         rt: &impl Wait,
@@ -194,7 +204,9 @@ impl<J: Naming> Desk<J> {
         self.lock(rt).ask(share, peer, now)
     }
 
-    /// `LockedBook::settle_close`, with the lock taken for this session alone.
+    /// `LockedBook::settle_close`, with the lock taken for this session alone: `now` is in
+    /// milliseconds since 1970, and where the settlement is not open nothing is booked and the
+    /// share is left as it was.
     pub fn settle_close(
         &self,
         rt: &impl Wait,

@@ -16,14 +16,18 @@ use thiserror::Error;
 /// The book of a desk whose ends were gathered.
 #[derive(Drop)]
 pub struct Closed {
+    /// The book, which no actor has any more.
     pub book: Book,
 }
 
 /// A desk that was not closed, and the ends that were not gathered.
 #[derive(Drop)]
 pub struct NotGathered<J: Naming> {
+    /// The desk, as it was.
     pub desk: Desk<J>,
+    /// The ends, in the order in which they were handed in.
     pub ends: Vec<End<J>>,
+    /// Why they were not gathered.
     pub why: WhyNotGathered,
 }
 

@@ -1,4 +1,5 @@
-//! What holds of every book of a desk. These functions do nothing: their contracts are the laws.
+//! What holds of every book of a desk. These functions do nothing: their contracts are the laws. A
+//! law tells whoever reads the definitions what follows from them; no code needs to call it.
 
 ghost use Rattle.std.specs.Prelude.{◌≡◌, ℕ, ◌≤◌, List};
 ghost use Rattle.ilp_book.specs.Quote.{most};

@@ -82,7 +82,8 @@ impl<J: Naming> LockedBook<J> {
         self.workers
     }
 
-    /// `Book::hold` by the share's actor. A refusal leaves the book and the share as they were.
+    /// `Book::hold` by the share's actor, where `now` is in milliseconds since 1970. The refusals
+    /// are those of `HoldFault`, in its order; each leaves the book and the share as they were.
     pub fn hold(
         &mut self,
         share: &mut Share<J>,
@@ -102,7 +103,9 @@ impl<J: Naming> LockedBook<J> {
         result
     }
 
-    /// `Book::answer` by the share's actor.
+    /// `Book::answer` by the share's actor, where `now` is in milliseconds since 1970. The refusal
+    /// names the entry that ended the hold, if one did, and leaves the book and the share as they
+    /// were.
     pub fn answer(
         &mut self,
         share: &mut Share<J>,
@@ -120,7 +123,8 @@ impl<J: Naming> LockedBook<J> {
         result
     }
 
-    /// `Book::expire_one` by the share's actor.
+    /// `Book::expire_one` by the share's actor, where `now` is in milliseconds since 1970. Where
+    /// none is due, the book and the share are left as they were.
     pub fn expire_one(&mut self, share: &mut Share<J>, now: i64) -> Option<u32>
         ensures step { Does self.old self.new result
             (expire_step self.old (by share.old.actor now)) }
@@ -132,7 +136,9 @@ impl<J: Naming> LockedBook<J> {
         result
     }
 
-    /// `Book::credit` by the share's actor. A refusal leaves the book and the share as they were.
+    /// `Book::credit` by the share's actor, where `now` is in milliseconds since 1970. The refusals
+    /// are those of `CreditFault`, in its order; each leaves the book and the share as they were,
+    /// and so does a key that is kept with an equal quantity.
     pub fn credit(
         &mut self,
         share: &mut Share<J>,
@@ -153,7 +159,8 @@ impl<J: Naming> LockedBook<J> {
         result
     }
 
-    /// `Book::ask` by the share's actor. A refusal leaves the book and the share as they were.
+    /// `Book::ask` by the share's actor, where `now` is in milliseconds since 1970. The refusals
+    /// are those of `AskFault`, in its order; each leaves the book and the share as they were.
     pub fn ask(&mut self, share: &mut Share<J>, peer: u32, now: i64) -> Result<Asked, AskFault>
         requires known { IsKnown J.desk.config peer }
         ensures step { Does self.old self.new result
@@ -167,7 +174,9 @@ impl<J: Naming> LockedBook<J> {
         result
     }
 
-    /// `Book::settle_close` by the share's actor.
+    /// `Book::settle_close` by the share's actor, where `now` is in milliseconds since 1970. The
+    /// refusal names the entry that closed the settlement, if one did, and leaves the book and the
+    /// share as they were.
     pub fn settle_close(
         &mut self,
         share: &mut Share<J>,

@@ -22,7 +22,7 @@ pub enum Recorded {
         peer: u32,
         amount: u64,
     },
-    /// A settlement to a peer, in units of its asset, which its engine made or refused.
+    /// A settlement to a peer, in units of its asset, which its engine accepted or refused.
     Closed {
         ask: u32,
         peer: u32,

@@ -62,7 +62,7 @@ fn ended(book: &Book, number: u32, ending: Ending) -> Option<Recorded>
     }))
 }
 
-// The settlement of this number, if there is one, and whether it was made.
+// The settlement of this number, if there is one, and whether its engine accepted it.
 fn closed(book: &Book, number: u32, accepted: bool) -> Option<Recorded>
     ensures { result ≡ option_map (closed number accepted) (ask_at book.now.entries number) }
 {

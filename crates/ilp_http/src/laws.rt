@@ -1,4 +1,5 @@
-//! What holds of all octets. These functions do nothing: their contracts are the laws.
+//! What holds of all octets. These functions do nothing: their contracts are the laws. A law tells
+//! whoever reads the definitions what follows from them; no code needs to call it.
 ghost use Rattle.std.specs.Prelude.{◌≡◌, ℕ, List, ◌++◌};
 ghost use Rattle.httparse.specs.Grammar.{RequestHead};
 ghost use Rattle.ilp_http.specs.Request.{BeginsWithRequest, HoldsRequest, EndsEarly, IsRefused};

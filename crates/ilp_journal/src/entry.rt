@@ -31,7 +31,7 @@ pub enum What {
     Credited(Credited),
     /// A settlement to a peer was asked for: its balance falls.
     Asked(Ask),
-    /// An asked settlement was made.
+    /// An asked settlement was accepted by its engine.
     Confirmed { ask: u32 },
     /// An asked settlement was refused: the peer gets the amount back.
     Undone { ask: u32 },

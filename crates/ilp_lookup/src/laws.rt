@@ -1,5 +1,6 @@
-//! What follows from the definitions alone: an address has one route, and a text one place. Each law
-//! is the contract of a function that does nothing.
+//! What follows from the definitions alone: an address has one route, and a text one place. Each
+//! law is the contract of a function that does nothing. A law tells whoever reads the definitions
+//! what follows from them; no code needs to call it.
 ghost use Rattle.std.specs.Prelude.{◌≡◌, ℕ, List, Option, length};
 ghost use Rattle.ilp_lookup.specs.Route.{Route, AreDistinct, Matches, IsRoute};
 ghost use Rattle.ilp_lookup.specs.Answer.{routed_peer};

@@ -1,5 +1,6 @@
 //! What follows from the definition of octet strings alone. Each law is the contract of a function
-//! that does nothing.
+//! that does nothing. A law tells whoever reads the definitions what follows from them; no code
+//! needs to call it.
 ghost use Rattle.std.specs.Prelude.{◌≡◌, ◌↔◌, ℕ, List, None};
 ghost use Rattle.ilp_oer.specs.OctetString.{Splits, BeginsWithSpelling, fault_of};
 ghost use Rattle.ilp_oer.specs.Octets.{AreOctets};

@@ -1,4 +1,5 @@
-//! What holds of all packets. These functions do nothing: their contracts are the laws.
+//! What holds of all packets. These functions do nothing: their contracts are the laws. A law tells
+//! whoever reads the definitions what follows from them; no code needs to call it.
 ghost use Rattle.std.specs.Prelude.{◌≡◌, ◌↔◌, ℕ, List, [], ◌++◌, length, drop, Contains, IsTrue, Ok, None};
 ghost use Rattle.ilp_terms.specs.Expiry.{IsExpiry};
 ghost use Rattle.ilp_packet.specs.Address.{IsAddress, schemes, is_scheme, is_address};

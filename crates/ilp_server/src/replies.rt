@@ -31,8 +31,9 @@ pub fn message_reply<'b>(came: Result<Response<'b>, PostFault>) -> Result<&'b [u
     }
 }
 
-/// What an engine says of a settlement (RFC 0038): 200 to 299 accepts it, and 400 to 499 refuses it,
-/// but for 409, which says that the key is in use. Whatever else came leaves it unknown.
+/// What an engine says of a settlement (RFC 0038): 200 to 299 is `Accepted`, and 400 to 499
+/// `Refused`, but for 409, which says that the key is in use. Every other status is `Unknown`, 409
+/// among them, and so is no response: the engine may or may not have taken the settlement on.
 pub fn settlement_reply(came: Result<Response<'_>, PostFault>) -> EngineReply
     ensures { result ≡ replies.settlement_reply came.entry }
 {

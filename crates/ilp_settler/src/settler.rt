@@ -30,8 +30,11 @@ impl<J: Naming, C: Clock + Drop, E: EngineLink + Drop, A: Allocator> Model for S
 /// What was given for a settler that there is no memory for, as it was given.
 #[derive(Drop)]
 pub struct NoSettler<J: Naming, C: Clock + Drop, E: EngineLink + Drop> {
+    /// The share of the desk, with which nothing was booked meanwhile.
     pub share: Share<J>,
+    /// The clock, which was not asked.
     pub clock: C,
+    /// The way to the engines, of which none was handed anything.
     pub engine: E,
 }
 
@@ -83,11 +86,13 @@ impl<J: Naming, C: Clock + Drop, E: EngineLink + Drop, A: Allocator> Settler<J, 
         self.parts.records.as_slice()
     }
 
-    /// Has a peer's engine settle what is due to the peer (RFC 0038), or what is still open. Once the
-    /// engine said that it has an account of the peer, the settlement is booked, or the open one is
+    /// Has a peer's engine settle what is due to the peer (RFC 0038), or what is still open. An
+    /// engine that never said that it has an account of the peer is asked for that first, and where
+    /// it says no the turn ends as `NoAccount`. Then the settlement is booked, or the open one is
     /// taken up; the engine is asked for it under the key `RUN-NUMBER`, while no lock is held; and
     /// what it said is booked. The error is want of memory, which is denied before the engine is
-    /// asked; nothing is booked then, and that the engine has the account is kept.
+    /// asked to settle. Nothing is booked then, share and records are as they were, and that the
+    /// engine has the account is kept, so that the next turn does not ask for it again.
     pub fn turn(&mut self, rt: &impl Wait, desk: &Desk<J>, peer: u32) -> Result<Turn, AllocError>
         requires known { IsKnown J.desk.config peer }
         ensures { Turns J.desk peer self.old self.new result }

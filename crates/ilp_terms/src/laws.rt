@@ -1,5 +1,6 @@
 //! What follows from the definition of an expiry alone. The law is the contract of a function that
-//! does nothing.
+//! does nothing. It tells whoever reads the definitions what follows from them; no code needs to
+//! call it.
 ghost use Rattle.std.specs.Prelude.{◌≡◌, ℕ, List};
 ghost use Rattle.ilp_terms.specs.Expiry.{IsExpiry, moment_of};
 

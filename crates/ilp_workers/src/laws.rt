@@ -1,4 +1,5 @@
-//! What holds of the definitions. These functions do nothing: their contracts are the laws.
+//! What holds of the definitions. These functions do nothing: their contracts are the laws. A law
+//! tells whoever reads the definitions what follows from them; no code needs to call it.
 ghost use Rattle.std.specs.Prelude.{◌≡◌, ◌⊎◌, ℕ, ◌≤◌, true, List, length, codes, Some, Ok};
 ghost use Rattle.ilp_oer.specs.Octets.{AreOctets};
 ghost use Rattle.ilp_terms.specs.Condition.{meets};

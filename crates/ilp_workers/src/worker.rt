@@ -48,9 +48,13 @@ impl<J: Naming, C: Clock + Drop, U: Uplink + Drop, E: EngineLink + Drop, A: Allo
 /// What was given for a worker that there is no memory for, as it was given.
 #[derive(Drop)]
 pub struct NoWorker<J: Naming, C: Clock + Drop, U: Uplink + Drop, E: EngineLink + Drop> {
+    /// The share of the desk, with which nothing was booked meanwhile.
     pub share: Share<J>,
+    /// The clock, which was not asked.
     pub clock: C,
+    /// The way to the peers, of whom none was handed anything.
     pub uplink: U,
+    /// The way to the engines, of which none was handed anything.
     pub engine: E,
 }
 
