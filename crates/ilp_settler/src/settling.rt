@@ -1,5 +1,5 @@
 //! Of what a settler consists, and how it has a peer's engine settle.
-ghost use Rattle.std.specs.Prelude.{◌≡◌, ◌<◌, ◌≤◌, [], ◌++◌, Ok, true, false, slice_get, length, OnOk, OnErr, codes, vec_len, vec_capacity, string_bytes, string_len, string_capacity};
+ghost use Rattle.std.specs.Prelude.{◌≡◌, ◌<◌, ◌≤◌, Ok, true, false, vec_len, vec_capacity, string_bytes, string_capacity};
 ghost use Rattle.ilp_book.specs.Configured.{IsKnown};
 ghost use Rattle.ilp_desk.specs.Portion.{holding};
 ghost use Rattle.ilp_workers.specs.declared.links.EngineReply.{EngineReply};
