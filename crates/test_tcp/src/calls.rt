@@ -1,11 +1,13 @@
 //! Calls of links while a stand-in does its part, and what is to come of them.
 
 use crate::stand_in::{Does, stand_in};
+use ilp_accounts::Config;
+use ilp_links::Notices;
 use ilp_oer::Octets;
 use ilp_workers::{Clock, EngineLink, EngineReply, LinkFault, Uplink};
 use std::alloc::Global;
 use std::io;
-use std::net::TcpListener;
+use std::net::{SocketAddr, TcpListener};
 use std::process::Abort;
 use std::thread::{Threads, join};
 use std::time::{Duration, Instant};
@@ -23,12 +25,15 @@ impl Clock for Still {
     }
 }
 
-/// Where a stand-in listens, and what it needs.
+/// Where a stand-in listens, and the configuration that names that place.
 #[derive(Clone, Copy)]
 pub(crate) struct Scene<'a, R> {
     pub(crate) rt: &'a R,
     pub(crate) alloc: Global,
     pub(crate) listener: &'a TcpListener,
+    pub(crate) place: SocketAddr,
+    pub(crate) config: &'a Config,
+    pub(crate) notices: &'a Notices,
 }
 
 impl<R: Threads + std::time::Clock + Abort + Sync> Scene<'_, R> {
@@ -45,6 +50,7 @@ impl<R: Threads + std::time::Clock + Abort + Sync> Scene<'_, R> {
             rt,
             alloc,
             listener,
+            ..
         } = *self;
         join(
             rt,
@@ -102,6 +108,7 @@ impl<R: Threads + std::time::Clock + Abort + Sync> Scene<'_, R> {
             rt,
             alloc,
             listener,
+            ..
         } = *self;
         let does = Does::Answers(request.len(), response);
         let (heard, has) = join(
@@ -125,6 +132,7 @@ impl<R: Threads + std::time::Clock + Abort + Sync> Scene<'_, R> {
             rt,
             alloc,
             listener,
+            ..
         } = *self;
         let does = Does::Answers(request.len(), response);
         let (heard, said) = join(
@@ -149,6 +157,7 @@ impl<R: Threads + std::time::Clock + Abort + Sync> Scene<'_, R> {
             rt,
             alloc,
             listener,
+            ..
         } = *self;
         let mut reply = Octets::new(alloc);
         let does = Does::Answers(request.len(), response);

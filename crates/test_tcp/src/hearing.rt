@@ -26,9 +26,20 @@ impl<R: Copy> Hearing<R> {
         }
     }
 
-    /// What was written.
-    pub(crate) fn into_text(self) -> String {
-        self.text.into_inner()
+    /// Whether what was written begins so.
+    pub(crate) fn wrote(&self, text: &str) -> bool {
+        match self.text.try_lock() {
+            Some(written) => written.as_str().starts_with(text),
+            None => false,
+        }
+    }
+
+    /// Whether this was written, and nothing else.
+    pub(crate) fn wrote_only(&self, text: &str) -> bool {
+        match self.text.try_lock() {
+            Some(written) => written.as_str() == text,
+            None => false,
+        }
     }
 }
 

@@ -7,6 +7,8 @@ mod calls;
 #[cfg(test)]
 mod hearing;
 #[cfg(test)]
+mod stage;
+#[cfg(test)]
 mod stand_in;
 #[cfg(test)]
 mod tests;

@@ -4,7 +4,6 @@ use ilp_accounts::Config;
 use std::alloc::Global;
 use std::io::{Read, Write};
 use std::net::{Shutdown, SocketAddr, TcpListener, TcpStream};
-use std::test::*;
 use std::time::{Clock, Duration};
 use std::{io, thread};
 
@@ -75,7 +74,7 @@ fn drip<R: Clock>(rt: &R, stream: &mut TcpStream) {
 
 /// Alice is at this place and has no engine; bob's engine is there, and he listens nowhere; carol's
 /// host is no place.
-pub(crate) fn config_at(alloc: Global, place: SocketAddr) -> Result<Config, Fail> {
+pub(crate) fn config_at(alloc: Global, place: SocketAddr) -> io::Result<Config> {
     let text = format!(in alloc;
         r#"address = "test.hub"
 run = "r1"
@@ -109,6 +108,8 @@ prefix = "test.alice"
 peer = "alice"
 "#
     )?;
-    let config = Config::read(alloc, text.as_bytes())?;
-    Ok(config)
+    match Config::read(alloc, text.as_bytes()) {
+        Ok(config) => Ok(config),
+        Err(_) => Err(io::Error::from(io::ErrorKind::InvalidData)),
+    }
 }

@@ -3,14 +3,16 @@
 
 use crate::calls::{START, Scene, Still};
 use crate::hearing::{At, Hearing};
-use crate::stand_in::{Does, config_at};
+use crate::stage::{Play, stage};
+use crate::stand_in::Does;
+use ilp_accounts::Config;
 use ilp_links::{Links, Notices, SystemClock, TcpLinks, TimedReader, TimedWriter};
 use ilp_oer::Octets;
 use ilp_workers::{Clock, EngineLink, EngineReply, Uplink};
 use std::alloc::Global;
 use std::io;
-use std::io::{ErrorKind, Read, Write};
-use std::net::{Net, SocketAddr, TcpListener, TcpStream};
+use std::io::{Eprint, ErrorKind, Read, Write};
+use std::net::{Net, TcpListener, TcpStream};
 use std::process::Abort;
 use std::test::*;
 use std::thread::Threads;
@@ -20,6 +22,12 @@ use std::time::{Duration, Instant};
 const FULFILL: &[u8; 35] =
     b"\x0d\x21\0\0\0\0\0\0\0\0\0\0\0\0\0\0\0\0\0\0\0\0\0\0\0\0\0\0\0\0\0\0\0\0\0";
 
+const CREATED: &[u8] = b"HTTP/1.1 201 Created\r\nContent-Length: 0\r\n\r\n";
+
+const NOT_FOUND: &[u8] = b"HTTP/1.1 404 Not Found\r\nContent-Length: 0\r\n\r\n";
+
+const CONFLICT: &[u8] = b"HTTP/1.1 409 Conflict\r\nContent-Length: 0\r\n\r\n";
+
 // A 200 with that Fulfill.
 fn fulfilled(alloc: Global) -> io::Result<Vec<u8>> {
     let mut octets = Vec::new(alloc);
@@ -28,7 +36,7 @@ fn fulfilled(alloc: Global) -> io::Result<Vec<u8>> {
     Ok(octets)
 }
 
-// A 200 with a body that is longer than any may be.
+// A 200 with 100,000 octets, which are more than a body may have.
 fn too_long(alloc: Global) -> io::Result<Vec<u8>> {
     let mut octets = Vec::new(alloc);
     octets.extend_from_slice(b"HTTP/1.1 200 OK\r\n\r\n")?;
@@ -36,47 +44,85 @@ fn too_long(alloc: Global) -> io::Result<Vec<u8>> {
     Ok(octets)
 }
 
-// What alice may do with a packet, and what comes of it.
-fn send_to_alice<R: Threads + std::time::Clock + Abort + Sync, U: Uplink>(
+// Alice answers with the Fulfill.
+fn fulfil<R: Threads + std::time::Clock + Abort + Sync, U: Uplink>(
     scene: Scene<'_, R>,
     link: &mut U,
-    place: SocketAddr,
+    request: &[u8],
 ) -> io::Result<()> {
-    let request = format!(in scene.alloc;
-        "POST /ilp HTTP/1.1\r\nHost: {place}\r\nContent-Type: application/octet-stream\r\nContent-Length: 6\r\nAuthorization: Bearer to-alice\r\nConnection: close\r\n\r\npacket"
-    )?;
-    let count = request.len();
-    let whole = fulfilled(scene.alloc)?;
-    scene.replies(link, request.as_bytes(), &whole, FULFILL)?;
-    let responses: [&[u8]; 3] = [
-        b"rubbish, and no response at all\r\n\r\n",
-        b"HTTP/1.1 500 Internal Server Error\r\nContent-Length: 0\r\n\r\n",
-        b"HTTP/1.1 100 Continue\r\nContent-Length: 0\r\n\r\n",
-    ];
-    for response in responses {
-        scene.fails(link, Does::Answers(count, response))?;
-    }
-    let long = too_long(scene.alloc)?;
-    scene.fails(link, Does::Answers(count, &long))?;
+    let response = fulfilled(scene.alloc)?;
+    scene.replies(link, request, &response, FULFILL)
+}
+
+// Alice answers with more than may come.
+fn flood<R: Threads + std::time::Clock + Abort + Sync, U: Uplink>(
+    scene: Scene<'_, R>,
+    link: &mut U,
+    count: usize,
+) -> io::Result<()> {
+    let response = too_long(scene.alloc)?;
+    scene.fails(link, Does::Answers(count, &response))
+}
+
+// What else alice may do with a packet.
+fn fail<R: Threads + std::time::Clock + Abort + Sync, U: Uplink>(
+    scene: Scene<'_, R>,
+    link: &mut U,
+    count: usize,
+) -> io::Result<()> {
+    let rubbish = b"rubbish, and no response at all\r\n\r\n";
+    let failed = b"HTTP/1.1 500 Internal Server Error\r\nContent-Length: 0\r\n\r\n";
+    let going_on = b"HTTP/1.1 100 Continue\r\nContent-Length: 0\r\n\r\n";
+    scene.fails(link, Does::Answers(count, rubbish))?;
+    scene.fails(link, Does::Answers(count, failed))?;
+    scene.fails(link, Does::Answers(count, going_on))?;
     scene.fails(link, Does::Closes)?;
     scene.runs_out(link, Does::Waits)?;
     scene.runs_out(link, Does::Drips)
 }
 
+// The request that a packet to alice is.
+fn packet_request<R>(scene: Scene<'_, R>) -> io::Result<String> {
+    let place = scene.place;
+    let text = format!(in scene.alloc;
+        "POST /ilp HTTP/1.1\r\nHost: {place}\r\nContent-Type: application/octet-stream\r\nContent-Length: 6\r\nAuthorization: Bearer to-alice\r\nConnection: close\r\n\r\npacket"
+    )?;
+    Ok(text)
+}
+
+// What alice may do with a packet, and what comes of it.
+fn send_to_alice<R: Threads + std::time::Clock + Abort + Copy + Sync, U: Uplink>(
+    scene: Scene<'_, R>,
+    link: &mut U,
+) -> io::Result<()> {
+    let request = packet_request(scene)?;
+    fulfil(scene, link, request.as_bytes())?;
+    flood(scene, link, request.len())?;
+    fail(scene, link, request.len())
+}
+
+struct Packets;
+
+impl Play for Packets {
+    fn play<R>(&self, scene: Scene<'_, R>) -> io::Result<()>
+    where
+        R: Net<Stream = TcpStream, Listener = TcpListener>
+            + Threads
+            + std::time::Clock
+            + Eprint
+            + Abort
+            + Copy
+            + Send
+            + Sync,
+    {
+        let mut link = TcpLinks::new(*scene.rt, scene.config, Still, scene.notices).uplink()?;
+        send_to_alice(scene, &mut link)
+    }
+}
+
 #[test]
-fn packets(rt: HostRuntime) -> Result<(), Fail> {
-    let alloc = rt.alloc();
-    let listener = TcpListener::bind(&rt, "127.0.0.1:0")?;
-    let place = listener.local_addr()?;
-    let config = config_at(alloc, place)?;
-    let notices = Notices::new(alloc, &config)?;
-    let mut link = TcpLinks::new(rt, &config, Still, &notices).uplink()?;
-    let scene = Scene {
-        rt: &rt,
-        alloc,
-        listener: &listener,
-    };
-    send_to_alice(scene, &mut link, place)?;
+fn packets_to_alice(rt: HostRuntime) -> Result<(), Fail> {
+    stage(&rt, rt.alloc(), &Packets)?;
     Ok(())
 }
 
@@ -93,63 +139,95 @@ fn send_to_nobody<U: Uplink>(rt: &impl Abort, alloc: Global, link: &mut U) {
     assert!(rt; reply.as_slice().is_empty());
 }
 
-#[test]
-fn nobody(rt: HostRuntime) -> Result<(), Fail> {
-    let alloc = rt.alloc();
-    let listener = TcpListener::bind(&rt, "127.0.0.1:0")?;
-    let config = config_at(alloc, listener.local_addr()?)?;
-    let notices = Notices::new(alloc, &config)?;
-    let hearing = Hearing::new(rt, alloc);
-    let mut link = TcpLinks::new(&hearing, &config, Still, &notices).uplink()?;
-    send_to_nobody(&rt, alloc, &mut link);
-    drop(link);
-    let text = hearing.into_text();
-    let want =
-        "peer bob at 127.0.0.1:0: not reached: connection refused\npeer carol at localhost:7001: it has no IP:PORT\n";
-    assert_eq!(rt; text.as_str(), want);
-    // Nobody connected.
-    listener.set_nonblocking(true)?;
-    assert!(rt; listener.accept().is_err());
+struct Nobody;
+
+impl Play for Nobody {
+    fn play<R>(&self, scene: Scene<'_, R>) -> io::Result<()>
+    where
+        R: Net<Stream = TcpStream, Listener = TcpListener>
+            + Threads
+            + std::time::Clock
+            + Eprint
+            + Abort
+            + Copy
+            + Send
+            + Sync,
+    {
+        let hearing = Hearing::new(*scene.rt, scene.alloc);
+        heard_of_nobody(scene, &hearing)?;
+        assert!(scene.rt;
+            hearing.wrote_only(
+                "peer bob at 127.0.0.1:0: not reached: connection refused\npeer carol at localhost:7001: it has no IP:PORT\n"
+            )
+        );
+        // Nobody connected.
+        scene.listener.set_nonblocking(true)?;
+        assert!(scene.rt; scene.listener.accept().is_err());
+        Ok(())
+    }
+}
+
+// Sends them, and has what is told of them heard.
+fn heard_of_nobody<R, H>(scene: Scene<'_, R>, hearing: &H) -> io::Result<()>
+where
+    R: Abort,
+    H: Net<Stream = TcpStream> + std::time::Clock + Eprint + Sync,
+{
+    let mut link = TcpLinks::new(hearing, scene.config, Still, scene.notices).uplink()?;
+    send_to_nobody(scene.rt, scene.alloc, &mut link);
     Ok(())
 }
 
-// What bob's engine may do, and what comes of it.
-fn ask_engine<R: Threads + std::time::Clock + Abort + Sync, E: EngineLink>(
+#[test]
+fn packets_to_nobody(rt: HostRuntime) -> Result<(), Fail> {
+    stage(&rt, rt.alloc(), &Nobody)?;
+    Ok(())
+}
+
+// Whether bob's engine has his account.
+fn ask_for_accounts<R: Threads + std::time::Clock + Abort + Sync, E: EngineLink>(
     scene: Scene<'_, R>,
     link: &mut E,
-    place: SocketAddr,
 ) -> io::Result<()> {
-    let (rt, alloc) = (scene.rt, scene.alloc);
-    let created = b"HTTP/1.1 201 Created\r\nContent-Length: 0\r\n\r\n";
-    let refused = b"HTTP/1.1 404 Not Found\r\nContent-Length: 0\r\n\r\n";
-    let conflict = b"HTTP/1.1 409 Conflict\r\nContent-Length: 0\r\n\r\n";
-    let answer = b"HTTP/1.1 201 Created\r\nContent-Length: 6\r\n\r\nanswer";
-    let account = format!(in alloc;
+    let place = scene.place;
+    let text = format!(in scene.alloc;
         "POST /accounts HTTP/1.1\r\nHost: {place}\r\nContent-Type: application/json\r\nContent-Length: 12\r\nConnection: close\r\n\r\n{{\"id\":\"bob\"}}"
     )?;
-    assert!(rt; scene.account(link, account.as_bytes(), created)?);
-    assert!(rt; scene.account(link, account.as_bytes(), conflict)?);
-    assert!(rt; !scene.account(link, account.as_bytes(), refused)?);
-    let settlement = format!(in alloc;
+    assert!(scene.rt; scene.account(link, text.as_bytes(), CREATED)?);
+    assert!(scene.rt; scene.account(link, text.as_bytes(), CONFLICT)?);
+    assert!(scene.rt; !scene.account(link, text.as_bytes(), NOT_FOUND)?);
+    Ok(())
+}
+
+// What it says of a settlement.
+fn ask_for_settlements<R: Threads + std::time::Clock + Abort + Sync, E: EngineLink>(
+    scene: Scene<'_, R>,
+    link: &mut E,
+) -> io::Result<()> {
+    let place = scene.place;
+    let text = format!(in scene.alloc;
         "POST /accounts/bob/settlements HTTP/1.1\r\nHost: {place}\r\nContent-Type: application/json\r\nContent-Length: 26\r\nIdempotency-Key: r1-7\r\nConnection: close\r\n\r\n{{\"amount\":\"250\",\"scale\":2}}"
     )?;
-    let settlement = settlement.as_bytes();
-    assert_eq!(rt;
-        scene.settle(link, settlement, created)?,
-        EngineReply::Accepted
-    );
-    assert_eq!(rt;
-        scene.settle(link, settlement, refused)?,
-        EngineReply::Refused
-    );
-    assert_eq!(rt;
-        scene.settle(link, settlement, conflict)?,
-        EngineReply::Unknown
-    );
-    let message = format!(in alloc;
+    let accepted = scene.settle(link, text.as_bytes(), CREATED)?;
+    let refused = scene.settle(link, text.as_bytes(), NOT_FOUND)?;
+    let unknown = scene.settle(link, text.as_bytes(), CONFLICT)?;
+    assert_eq!(scene.rt; accepted, EngineReply::Accepted);
+    assert_eq!(scene.rt; refused, EngineReply::Refused);
+    assert_eq!(scene.rt; unknown, EngineReply::Unknown);
+    Ok(())
+}
+
+// What it answers to a message.
+fn send_messages<R: Threads + std::time::Clock + Abort + Sync, E: EngineLink>(
+    scene: Scene<'_, R>,
+    link: &mut E,
+) -> io::Result<()> {
+    let place = scene.place;
+    let text = format!(in scene.alloc;
         "POST /accounts/bob/messages HTTP/1.1\r\nHost: {place}\r\nContent-Type: application/octet-stream\r\nContent-Length: 7\r\nConnection: close\r\n\r\nmessage"
     )?;
-    scene.answers(link, message.as_bytes(), answer, b"answer")
+    let response = b"HTTP/1.1 201 Created\r\nContent-Length: 6\r\n\r\nanswer";
+    scene.answers(link, text.as_bytes(), response, b"answer")
 }
 
 // Alice has no engine, and there is no fourth peer: nobody is asked.
@@ -163,103 +241,167 @@ fn ask_no_engine<E: EngineLink>(rt: &impl Abort, alloc: Global, link: &mut E) {
     assert!(rt; reply.as_slice().is_empty());
 }
 
+struct Engines;
+
+impl Play for Engines {
+    fn play<R>(&self, scene: Scene<'_, R>) -> io::Result<()>
+    where
+        R: Net<Stream = TcpStream, Listener = TcpListener>
+            + Threads
+            + std::time::Clock
+            + Eprint
+            + Abort
+            + Copy
+            + Send
+            + Sync,
+    {
+        let hearing = Hearing::new(*scene.rt, scene.alloc);
+        heard_of_engines(scene, &hearing)?;
+        // Bob's engine was not told of before, and then at most once a second.
+        assert!(scene.rt; hearing.wrote("engine of bob at 127.0.0.1:"));
+        Ok(())
+    }
+}
+
+// Asks them, and has what is told of them heard.
+fn heard_of_engines<R, H>(scene: Scene<'_, R>, hearing: &H) -> io::Result<()>
+where
+    R: Threads + std::time::Clock + Abort + Copy + Sync,
+    H: Net<Stream = TcpStream> + std::time::Clock + Eprint + Sync,
+{
+    let mut link = TcpLinks::new(hearing, scene.config, Still, scene.notices).engine()?;
+    ask_no_engine(scene.rt, scene.alloc, &mut link);
+    ask_for_accounts(scene, &mut link)?;
+    ask_for_settlements(scene, &mut link)?;
+    send_messages(scene, &mut link)
+}
+
 #[test]
-fn engines(rt: HostRuntime) -> Result<(), Fail> {
-    let alloc = rt.alloc();
-    let listener = TcpListener::bind(&rt, "127.0.0.1:0")?;
-    let place = listener.local_addr()?;
-    let config = config_at(alloc, place)?;
-    let notices = Notices::new(alloc, &config)?;
-    let hearing = Hearing::new(rt, alloc);
-    let mut link = TcpLinks::new(&hearing, &config, Still, &notices).engine()?;
-    ask_no_engine(&rt, alloc, &mut link);
-    ask_engine(
-        Scene {
-            rt: &rt,
-            alloc,
-            listener: &listener,
-        },
-        &mut link,
-        place,
-    )?;
-    drop(link);
-    let text = hearing.into_text();
-    let want = format!(in alloc; "engine of bob at {place}: status 404\n")?;
-    assert!(rt; text.as_str().starts_with(want.as_str()));
+fn calls_of_engines(rt: HostRuntime) -> Result<(), Fail> {
+    stage(&rt, rt.alloc(), &Engines)?;
     Ok(())
 }
 
-// Four settlements stay open within a second, and one after it.
+// Whether this is told of a settlement with a peer that stays open at this time.
+fn tells(
+    alloc: Global,
+    notices: &Notices,
+    config: &Config,
+    (time, peer): (u64, u32),
+    text: &str,
+) -> bool {
+    let hearing = Hearing::new(At(time), alloc);
+    notices.kept_open(&hearing, config, peer, 7);
+    hearing.wrote_only(text)
+}
+
+struct Limits;
+
+impl Play for Limits {
+    fn play<R>(&self, scene: Scene<'_, R>) -> io::Result<()>
+    where
+        R: Net<Stream = TcpStream, Listener = TcpListener>
+            + Threads
+            + std::time::Clock
+            + Eprint
+            + Abort
+            + Copy
+            + Send
+            + Sync,
+    {
+        let rows = [
+            ((0, 1), "settlement 7 with bob is kept open\n"),
+            ((0, 1), ""),
+            ((1, 1), ""),
+            ((999, 1), ""),
+            ((999, 0), "settlement 7 with alice is kept open\n"),
+            (
+                (1_000, 1),
+                "settlement 7 with bob is kept open (3 more since the last line)\n",
+            ),
+            ((1_001, 3), ""),
+        ];
+        for (at, text) in rows {
+            assert!(scene.rt; tells(scene.alloc, scene.notices, scene.config, at, text));
+        }
+        Ok(())
+    }
+}
+
 #[test]
 fn lines_are_limited(rt: HostRuntime) -> Result<(), Fail> {
-    let alloc = rt.alloc();
-    let listener = TcpListener::bind(&rt, "127.0.0.1:0")?;
-    let config = config_at(alloc, listener.local_addr()?)?;
-    let notices = Notices::new(alloc, &config)?;
-    let mut text = String::new(alloc);
-    for (time, peer) in [
-        (0, 1),
-        (0, 1),
-        (1, 1),
-        (999, 1),
-        (999, 0),
-        (1_000, 1),
-        (1_001, 3),
-    ] {
-        let hearing = Hearing::new(At(time), alloc);
-        notices.kept_open(&hearing, &config, peer, 7);
-        text.push_str(hearing.into_text().as_str())?;
-    }
-    assert_eq!(rt;
-        text.as_str(),
-        "settlement 7 with bob is kept open\nsettlement 7 with alice is kept open\nsettlement 7 with bob is kept open (3 more since the last line)\n"
-    );
+    stage(&rt, rt.alloc(), &Limits)?;
     Ok(())
 }
 
 // Writes to a connection that was closed fail, and don't end the process.
-fn write_until_closed<R: std::time::Clock + Abort>(rt: &R, stream: &TcpStream, until: Instant) {
-    let mut sink = TimedWriter::new(rt, stream, until);
-    let mut fault = None;
+fn write_until_closed<R: std::time::Clock + Abort>(rt: &R, stream: &TcpStream) -> io::Result<()> {
+    let mut sink = TimedWriter::new(rt, stream, moment_in(rt, 30_000)?);
     for _ in 0..10_000 {
         if let Err(error) = sink.write(b"octets") {
-            fault = Some(error.kind());
-            break;
+            assert!(rt; error.kind() != ErrorKind::TimedOut);
+            return Ok(());
         }
     }
-    assert!(rt; fault.is_some());
-    assert!(rt; fault != Some(ErrorKind::TimedOut));
+    Err(io::Error::from(ErrorKind::Other))
 }
 
 // A read has what is left of the time, and none when that is over.
-fn read_until_late<R: std::time::Clock + Abort>(rt: &R, stream: &TcpStream, until: Instant) {
-    let mut source = TimedReader::new(rt, stream, until);
+fn read_until_late<R: std::time::Clock + Abort>(rt: &R, stream: &TcpStream) -> io::Result<()> {
+    let mut source = TimedReader::new(rt, stream, moment_in(rt, 50)?);
     let mut room = [0; 8];
-    let first = source.read(&mut room).map_err(|error| error.kind());
-    let second = source.read(&mut room).map_err(|error| error.kind());
-    assert_eq!(rt; first, Err(ErrorKind::WouldBlock));
-    assert_eq!(rt; second, Err(ErrorKind::TimedOut));
-}
-
-#[test]
-fn timed(rt: HostRuntime) -> Result<(), Fail> {
-    let listener = TcpListener::bind(&rt, "127.0.0.1:0")?;
-    let stream = TcpStream::connect(&rt, listener.local_addr()?)?;
-    let (theirs, _) = listener.accept()?;
-    let now = Instant::now(&rt)?;
-    let (Some(soon), Some(later)) = (
-        now.checked_add(Duration::from_millis(50)),
-        now.checked_add(Duration::from_secs(30)),
-    ) else {
-        return Err(Fail::new("the clock is at its end"));
-    };
-    read_until_late(&rt, &stream, soon);
-    drop(theirs);
-    write_until_closed(&rt, &stream, later);
+    let first = source.read(&mut room);
+    assert!(rt; first.is_err_and(|error| error.kind() == ErrorKind::WouldBlock));
+    let second = source.read(&mut room);
+    assert!(rt; second.is_err_and(|error| error.kind() == ErrorKind::TimedOut));
     Ok(())
 }
 
-// A runtime whose clock can't be read gives the last moment of all.
+fn moment_in(rt: &impl std::time::Clock, milliseconds: u64) -> io::Result<Instant> {
+    match Instant::now(rt)?.checked_add(Duration::from_millis(milliseconds)) {
+        Some(moment) => Ok(moment),
+        None => Err(io::Error::from(ErrorKind::InvalidData)),
+    }
+}
+
+// The other side of a connection is open, and then closed.
+fn read_and_write<R: std::time::Clock + Abort>(
+    rt: &R,
+    listener: &TcpListener,
+    stream: &TcpStream,
+) -> io::Result<()> {
+    let (theirs, _) = listener.accept()?;
+    read_until_late(rt, stream)?;
+    drop(theirs);
+    write_until_closed(rt, stream)
+}
+
+struct Timed;
+
+impl Play for Timed {
+    fn play<R>(&self, scene: Scene<'_, R>) -> io::Result<()>
+    where
+        R: Net<Stream = TcpStream, Listener = TcpListener>
+            + Threads
+            + std::time::Clock
+            + Eprint
+            + Abort
+            + Copy
+            + Send
+            + Sync,
+    {
+        let stream = TcpStream::connect(scene.rt, scene.place)?;
+        read_and_write(scene.rt, scene.listener, &stream)
+    }
+}
+
+#[test]
+fn timed_streams(rt: HostRuntime) -> Result<(), Fail> {
+    stage(&rt, rt.alloc(), &Timed)?;
+    Ok(())
+}
+
+// The clock tells milliseconds since 1970.
 #[test]
 fn clocks(rt: HostRuntime) {
     assert!(rt; SystemClock::new(rt).now() > START);
