@@ -2,6 +2,7 @@
 
 use crate::calls::Scene;
 use crate::stand_in::config_at;
+use crate::tests::{play_engines, play_limits, play_nobody, play_packets, play_timed};
 use ilp_accounts::Config;
 use ilp_links::Notices;
 use std::alloc::Global;
@@ -12,22 +13,23 @@ use std::process::Abort;
 use std::thread::Threads;
 use std::time::Clock;
 
-/// What a test does.
-pub(crate) trait Play {
-    fn play<R>(&self, scene: Scene<'_, R>) -> io::Result<()>
-    where
-        R: Net<Stream = TcpStream, Listener = TcpListener>
-            + Threads
-            + Clock
-            + Eprint
-            + Abort
-            + Copy
-            + Send
-            + Sync;
+/// What a test plays.
+#[derive(Clone, Copy)]
+pub(crate) enum Play {
+    /// Packets for alice, and what she may do with them.
+    Packets,
+    /// Packets for which no connection is made.
+    Nobody,
+    /// Calls of engines.
+    Engines,
+    /// Lines that would come too often.
+    Limits,
+    /// Reads and writes until a moment.
+    Timed,
 }
 
 /// Plays at a listener of its own.
-pub(crate) fn stage<R, P>(rt: &R, alloc: Global, play: &P) -> io::Result<()>
+pub(crate) fn stage<R>(rt: &R, alloc: Global, play: Play) -> io::Result<()>
 where
     R: Net<Stream = TcpStream, Listener = TcpListener>
         + Threads
@@ -37,14 +39,13 @@ where
         + Copy
         + Send
         + Sync,
-    P: Play,
 {
     let listener = TcpListener::bind(rt, "127.0.0.1:0")?;
     play_at(rt, alloc, &listener, play)
 }
 
 // Plays at this listener.
-fn play_at<R, P>(rt: &R, alloc: Global, listener: &TcpListener, play: &P) -> io::Result<()>
+fn play_at<R>(rt: &R, alloc: Global, listener: &TcpListener, play: Play) -> io::Result<()>
 where
     R: Net<Stream = TcpStream, Listener = TcpListener>
         + Threads
@@ -54,19 +55,18 @@ where
         + Copy
         + Send
         + Sync,
-    P: Play,
 {
     let config = config_at(alloc, listener.local_addr()?)?;
     play_with(rt, alloc, listener, &config, play)
 }
 
 // Plays with this configuration, which names the listener's place.
-fn play_with<R, P>(
+fn play_with<R>(
     rt: &R,
     alloc: Global,
     listener: &TcpListener,
     config: &Config,
-    play: &P,
+    play: Play,
 ) -> io::Result<()>
 where
     R: Net<Stream = TcpStream, Listener = TcpListener>
@@ -77,16 +77,22 @@ where
         + Copy
         + Send
         + Sync,
-    P: Play,
 {
     let place = listener.local_addr()?;
     let notices = Notices::new(alloc, config)?;
-    play.play(Scene {
+    let scene = Scene {
         rt,
         alloc,
         listener,
         place,
         config,
         notices: &notices,
-    })
+    };
+    match play {
+        Play::Packets => play_packets(scene),
+        Play::Nobody => play_nobody(scene),
+        Play::Engines => play_engines(scene),
+        Play::Limits => play_limits(scene),
+        Play::Timed => play_timed(scene),
+    }
 }

@@ -101,28 +101,24 @@ fn send_to_alice<R: Threads + std::time::Clock + Abort + Copy + Sync, U: Uplink>
     fail(scene, link, request.len())
 }
 
-struct Packets;
-
-impl Play for Packets {
-    fn play<R>(&self, scene: Scene<'_, R>) -> io::Result<()>
-    where
-        R: Net<Stream = TcpStream, Listener = TcpListener>
-            + Threads
-            + std::time::Clock
-            + Eprint
-            + Abort
-            + Copy
-            + Send
-            + Sync,
-    {
-        let mut link = TcpLinks::new(*scene.rt, scene.config, Still, scene.notices).uplink()?;
-        send_to_alice(scene, &mut link)
-    }
+pub(crate) fn play_packets<R>(scene: Scene<'_, R>) -> io::Result<()>
+where
+    R: Net<Stream = TcpStream, Listener = TcpListener>
+        + Threads
+        + std::time::Clock
+        + Eprint
+        + Abort
+        + Copy
+        + Send
+        + Sync,
+{
+    let mut link = TcpLinks::new(*scene.rt, scene.config, Still, scene.notices).uplink()?;
+    send_to_alice(scene, &mut link)
 }
 
 #[test]
 fn packets_to_alice(rt: HostRuntime) -> Result<(), Fail> {
-    stage(&rt, rt.alloc(), &Packets)?;
+    stage(&rt, rt.alloc(), Play::Packets)?;
     Ok(())
 }
 
@@ -139,32 +135,28 @@ fn send_to_nobody<U: Uplink>(rt: &impl Abort, alloc: Global, link: &mut U) {
     assert!(rt; reply.as_slice().is_empty());
 }
 
-struct Nobody;
-
-impl Play for Nobody {
-    fn play<R>(&self, scene: Scene<'_, R>) -> io::Result<()>
-    where
-        R: Net<Stream = TcpStream, Listener = TcpListener>
-            + Threads
-            + std::time::Clock
-            + Eprint
-            + Abort
-            + Copy
-            + Send
-            + Sync,
-    {
-        let hearing = Hearing::new(*scene.rt, scene.alloc);
-        heard_of_nobody(scene, &hearing)?;
-        assert!(scene.rt;
-            hearing.wrote_only(
-                "peer bob at 127.0.0.1:0: not reached: connection refused\npeer carol at localhost:7001: it has no IP:PORT\n"
-            )
-        );
-        // Nobody connected.
-        scene.listener.set_nonblocking(true)?;
-        assert!(scene.rt; scene.listener.accept().is_err());
-        Ok(())
-    }
+pub(crate) fn play_nobody<R>(scene: Scene<'_, R>) -> io::Result<()>
+where
+    R: Net<Stream = TcpStream, Listener = TcpListener>
+        + Threads
+        + std::time::Clock
+        + Eprint
+        + Abort
+        + Copy
+        + Send
+        + Sync,
+{
+    let hearing = Hearing::new(*scene.rt, scene.alloc);
+    heard_of_nobody(scene, &hearing)?;
+    assert!(scene.rt;
+        hearing.wrote_only(
+            "peer bob at 127.0.0.1:0: not reached: connection refused\npeer carol at localhost:7001: it has no IP:PORT\n"
+        )
+    );
+    // Nobody connected.
+    scene.listener.set_nonblocking(true)?;
+    assert!(scene.rt; scene.listener.accept().is_err());
+    Ok(())
 }
 
 // Sends them, and has what is told of them heard.
@@ -180,7 +172,7 @@ where
 
 #[test]
 fn packets_to_nobody(rt: HostRuntime) -> Result<(), Fail> {
-    stage(&rt, rt.alloc(), &Nobody)?;
+    stage(&rt, rt.alloc(), Play::Nobody)?;
     Ok(())
 }
 
@@ -241,26 +233,22 @@ fn ask_no_engine<E: EngineLink>(rt: &impl Abort, alloc: Global, link: &mut E) {
     assert!(rt; reply.as_slice().is_empty());
 }
 
-struct Engines;
-
-impl Play for Engines {
-    fn play<R>(&self, scene: Scene<'_, R>) -> io::Result<()>
-    where
-        R: Net<Stream = TcpStream, Listener = TcpListener>
-            + Threads
-            + std::time::Clock
-            + Eprint
-            + Abort
-            + Copy
-            + Send
-            + Sync,
-    {
-        let hearing = Hearing::new(*scene.rt, scene.alloc);
-        heard_of_engines(scene, &hearing)?;
-        // Bob's engine was not told of before, and then at most once a second.
-        assert!(scene.rt; hearing.wrote("engine of bob at 127.0.0.1:"));
-        Ok(())
-    }
+pub(crate) fn play_engines<R>(scene: Scene<'_, R>) -> io::Result<()>
+where
+    R: Net<Stream = TcpStream, Listener = TcpListener>
+        + Threads
+        + std::time::Clock
+        + Eprint
+        + Abort
+        + Copy
+        + Send
+        + Sync,
+{
+    let hearing = Hearing::new(*scene.rt, scene.alloc);
+    heard_of_engines(scene, &hearing)?;
+    // Bob's engine was not told of before, and then at most once a second.
+    assert!(scene.rt; hearing.wrote("engine of bob at 127.0.0.1:"));
+    Ok(())
 }
 
 // Asks them, and has what is told of them heard.
@@ -278,7 +266,7 @@ where
 
 #[test]
 fn calls_of_engines(rt: HostRuntime) -> Result<(), Fail> {
-    stage(&rt, rt.alloc(), &Engines)?;
+    stage(&rt, rt.alloc(), Play::Engines)?;
     Ok(())
 }
 
@@ -295,42 +283,38 @@ fn tells(
     hearing.wrote_only(text)
 }
 
-struct Limits;
-
-impl Play for Limits {
-    fn play<R>(&self, scene: Scene<'_, R>) -> io::Result<()>
-    where
-        R: Net<Stream = TcpStream, Listener = TcpListener>
-            + Threads
-            + std::time::Clock
-            + Eprint
-            + Abort
-            + Copy
-            + Send
-            + Sync,
-    {
-        let rows = [
-            ((0, 1), "settlement 7 with bob is kept open\n"),
-            ((0, 1), ""),
-            ((1, 1), ""),
-            ((999, 1), ""),
-            ((999, 0), "settlement 7 with alice is kept open\n"),
-            (
-                (1_000, 1),
-                "settlement 7 with bob is kept open (3 more since the last line)\n",
-            ),
-            ((1_001, 3), ""),
-        ];
-        for (at, text) in rows {
-            assert!(scene.rt; tells(scene.alloc, scene.notices, scene.config, at, text));
-        }
-        Ok(())
+pub(crate) fn play_limits<R>(scene: Scene<'_, R>) -> io::Result<()>
+where
+    R: Net<Stream = TcpStream, Listener = TcpListener>
+        + Threads
+        + std::time::Clock
+        + Eprint
+        + Abort
+        + Copy
+        + Send
+        + Sync,
+{
+    let rows = [
+        ((0, 1), "settlement 7 with bob is kept open\n"),
+        ((0, 1), ""),
+        ((1, 1), ""),
+        ((999, 1), ""),
+        ((999, 0), "settlement 7 with alice is kept open\n"),
+        (
+            (1_000, 1),
+            "settlement 7 with bob is kept open (3 more since the last line)\n",
+        ),
+        ((1_001, 3), ""),
+    ];
+    for (at, text) in rows {
+        assert!(scene.rt; tells(scene.alloc, scene.notices, scene.config, at, text));
     }
+    Ok(())
 }
 
 #[test]
 fn lines_are_limited(rt: HostRuntime) -> Result<(), Fail> {
-    stage(&rt, rt.alloc(), &Limits)?;
+    stage(&rt, rt.alloc(), Play::Limits)?;
     Ok(())
 }
 
@@ -376,28 +360,24 @@ fn read_and_write<R: std::time::Clock + Abort>(
     write_until_closed(rt, stream)
 }
 
-struct Timed;
-
-impl Play for Timed {
-    fn play<R>(&self, scene: Scene<'_, R>) -> io::Result<()>
-    where
-        R: Net<Stream = TcpStream, Listener = TcpListener>
-            + Threads
-            + std::time::Clock
-            + Eprint
-            + Abort
-            + Copy
-            + Send
-            + Sync,
-    {
-        let stream = TcpStream::connect(scene.rt, scene.place)?;
-        read_and_write(scene.rt, scene.listener, &stream)
-    }
+pub(crate) fn play_timed<R>(scene: Scene<'_, R>) -> io::Result<()>
+where
+    R: Net<Stream = TcpStream, Listener = TcpListener>
+        + Threads
+        + std::time::Clock
+        + Eprint
+        + Abort
+        + Copy
+        + Send
+        + Sync,
+{
+    let stream = TcpStream::connect(scene.rt, scene.place)?;
+    read_and_write(scene.rt, scene.listener, &stream)
 }
 
 #[test]
 fn timed_streams(rt: HostRuntime) -> Result<(), Fail> {
-    stage(&rt, rt.alloc(), &Timed)?;
+    stage(&rt, rt.alloc(), Play::Timed)?;
     Ok(())
 }
 
