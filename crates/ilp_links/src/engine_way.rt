@@ -1,5 +1,5 @@
 //! The way to the settlement engines.
-ghost use Rattle.std.specs.Prelude.{◌≡◌, ◌+◌, ◌<◌, ◌≤◌, length, IfSome};
+ghost use Rattle.std.specs.Prelude.{◌+◌, ◌<◌, ◌≤◌, length, IfSome};
 
 use crate::asking::ask;
 use crate::no_answer::NoAnswer;
