@@ -1,0 +1,23 @@
+//! The links of a running connector: its clock, and the ways over TCP by which the actors of a desk
+//! reach peers and settlement engines.
+//!
+//! What a socket gives or takes, and how long that takes, no clause can say: it stands in the
+//! comments, and `test_tcp` tests it over real sockets.
+#![tactic(auto)]
+
+mod asking;
+mod engine_way;
+mod links;
+mod no_answer;
+mod notices;
+mod peer_link;
+mod system_clock;
+mod time_left;
+mod timed;
+
+pub use engine_way::EngineWay;
+pub use links::{Links, TcpLinks};
+pub use notices::Notices;
+pub use peer_link::PeerLink;
+pub use system_clock::SystemClock;
+pub use timed::{TimedReader, TimedWriter};

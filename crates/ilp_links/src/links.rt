@@ -1,0 +1,76 @@
+//! What the actors of a desk are given.
+
+use crate::engine_way::EngineWay;
+use crate::notices::Notices;
+use crate::peer_link::PeerLink;
+use ilp_accounts::Config;
+use ilp_workers::{Clock, EngineLink, Uplink};
+use std::alloc::AllocError;
+use std::io::Eprint;
+use std::net::{Net, TcpStream};
+
+/// Makes what the actors of a desk are given: one of each for each actor, which may take it into a
+/// thread of its own.
+pub trait Links {
+    type Clock: Clock + Drop + Send;
+
+    type Uplink: Uplink + Drop + Send;
+
+    type Engine: EngineLink + Drop + Send;
+
+    /// A clock.
+    fn clock(&self) -> Self::Clock;
+
+    /// A way to the peers. `AllocError` tells that memory is short.
+    fn uplink(&self) -> Result<Self::Uplink, AllocError>;
+
+    /// A way to the settlement engines. `AllocError` tells that memory is short.
+    fn engine(&self) -> Result<Self::Engine, AllocError>;
+}
+
+/// The links over TCP of a connector with this configuration, which tell its notices of peers and
+/// engines that give no answer.
+#[derive(Clone, Copy)]
+pub struct TcpLinks<'c, R: Copy, C: Clock + Copy> {
+    rt: R,
+    config: &'c Config,
+    clock: C,
+    notices: &'c Notices,
+}
+
+impl<'c, R: Copy, C: Clock + Copy> TcpLinks<'c, R, C> {
+    /// The links of a connector with this configuration. Each uplink finds by its clock how long is
+    /// left until a deadline.
+    pub fn new(rt: R, config: &'c Config, clock: C, notices: &'c Notices) -> TcpLinks<'c, R, C> {
+        TcpLinks {
+            rt,
+            config,
+            clock,
+            notices,
+        }
+    }
+}
+
+impl<
+    'c,
+    R: Net<Stream = TcpStream> + std::time::Clock + Eprint + Copy + Send,
+    C: Clock + Copy + Drop + Send,
+> Links for TcpLinks<'c, R, C> {
+    type Clock = C;
+
+    type Uplink = PeerLink<'c, R, C>;
+
+    type Engine = EngineWay<'c, R>;
+
+    fn clock(&self) -> C {
+        self.clock
+    }
+
+    fn uplink(&self) -> Result<PeerLink<'c, R, C>, AllocError> {
+        PeerLink::new(self.rt, self.config, self.clock, self.notices)
+    }
+
+    fn engine(&self) -> Result<EngineWay<'c, R>, AllocError> {
+        EngineWay::new(self.rt, self.config, self.notices)
+    }
+}

@@ -1,0 +1,94 @@
+//! The way to the peers.
+ghost use Rattle.std.specs.Prelude.{◌<◌, length};
+
+use crate::asking::ask;
+use crate::no_answer::NoAnswer;
+use crate::notices::Notices;
+use crate::time_left::time_left;
+use ilp_accounts::Config;
+use ilp_http::Buffer;
+use ilp_oer::Octets;
+use ilp_server::{packet_head, packet_reply};
+use ilp_workers::{Clock, LinkFault, Uplink};
+use std::alloc::{AllocError, Allocator};
+use std::io::Eprint;
+use std::net::{Net, TcpStream};
+
+/// The way to the peers over TCP (RFC 0035): one connection for each packet, closed after.
+///
+/// What is left until the deadline is found once by the clock, counts for an hour at most, and is
+/// kept from then on by the clock that never goes back. Connecting, each write and each read have
+/// what is left of it. Faults: no such peer; no time left, and then nothing is sent; a `host` that
+/// is no `IP:PORT`; a peer that isn't reached, gives no answer in time, none that is a response of
+/// HTTP, or another status than 200; want of memory for the reply. All but the first two and the
+/// last are told to the notices.
+#[derive(Drop)]
+pub struct PeerLink<'c, R: Copy, C: Clock + Copy> {
+    rt: R,
+    config: &'c Config,
+    clock: C,
+    notices: &'c Notices,
+    buffer: Buffer,
+}
+
+impl<'c, R: Copy, C: Clock + Copy> PeerLink<'c, R, C> {
+    // The way to the peers of this configuration. It is refused only where memory for responses is
+    // denied.
+    pub(crate) fn new(
+        rt: R,
+        config: &'c Config,
+        clock: C,
+        notices: &'c Notices,
+    ) -> Result<PeerLink<'c, R, C>, AllocError> {
+        Ok(PeerLink {
+            rt,
+            config,
+            clock,
+            notices,
+            buffer: Buffer::new(config.allocator())?,
+        })
+    }
+}
+
+impl<R: Net<Stream = TcpStream> + std::time::Clock + Eprint + Copy, C: Clock + Copy> Uplink
+    for PeerLink<'_, R, C> {
+    fn send<A: Allocator>(
+        &mut self,
+        to: u32,
+        packet: &[u8],
+        deadline: i64,
+        reply: &mut Octets<A>,
+    ) -> Result<(), LinkFault> {
+        if to >= self.config.peers() {
+            return Err(LinkFault);
+        }
+        let left = time_left(deadline, self.clock.now());
+        if left == 0 {
+            return Err(LinkFault);
+        }
+        match packet_answer(&self.rt, self.config, to, packet, left, &mut self.buffer) {
+            Ok(octets) => reply.append(octets).map_err(|_| LinkFault),
+            Err(why) => {
+                self.notices
+                    .no_answer_of_peer(&self.rt, self.config, to, why);
+                Err(LinkFault)
+            }
+        }
+    }
+}
+
+// What the peer answers to the packet in so many milliseconds.
+fn packet_answer<'b, R: Net<Stream = TcpStream> + std::time::Clock>(
+    rt: &R,
+    config: &Config,
+    to: u32,
+    packet: &[u8],
+    left: u64,
+    buffer: &'b mut Buffer,
+) -> Result<&'b [u8], NoAnswer>
+    requires { to < length config.now.peers }
+{
+    let head = packet_head(config, to);
+    let response = ask(rt, config.host(to), left, &head, packet, buffer)?;
+    packet_reply(Ok(response)).map_err(|_| NoAnswer::Status(response.status))
+}

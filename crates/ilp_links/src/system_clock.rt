@@ -1,0 +1,38 @@
+//! The system's clock.
+ghost use Rattle.std.specs.Prelude.{◌≡◌, ◌/◌, ◌-◌, ◌^◌, min, pos};
+ghost use Rattle.std.specs.Duration.{as_nanos};
+
+use ilp_workers::Clock;
+use std::time::Duration;
+
+/// The system's clock, in milliseconds since 1970.
+///
+/// Where it can't be read, or stands before 1970, it gives the greatest moment that an `i64` has:
+/// everything is late then, so that nothing passes.
+#[derive(Clone, Copy)]
+pub struct SystemClock<R> {
+    rt: R,
+}
+
+impl<R: std::time::Clock + Copy> SystemClock<R> {
+    /// The clock of this runtime.
+    pub fn new(rt: R) -> SystemClock<R> {
+        SystemClock { rt }
+    }
+}
+
+impl<R: std::time::Clock + Copy> Clock for SystemClock<R> {
+    fn now(&mut self) -> i64 {
+        match self.rt.since_1970() {
+            Ok(time) => milliseconds(time),
+            Err(_) => i64::MAX,
+        }
+    }
+}
+
+// The whole milliseconds of a time, and at most the greatest moment.
+fn milliseconds(time: Duration) -> i64
+    ensures { result ≡ pos (min (as_nanos time / 1_000_000) (2 ^ 63 - 1)) }
+{
+    i64::try_from(time.as_millis()).unwrap_or(i64::MAX)
+}

@@ -1,0 +1,175 @@
+//! Calls of links while a stand-in does its part, and what is to come of them.
+
+use crate::stand_in::{Does, stand_in};
+use ilp_accounts::Config;
+use ilp_links::Notices;
+use ilp_oer::Octets;
+use ilp_workers::{Clock, EngineLink, EngineReply, LinkFault, Uplink};
+use std::alloc::Global;
+use std::io;
+use std::net::{SocketAddr, TcpListener};
+use std::process::Abort;
+use std::thread::{Threads, join};
+use std::time::{Duration, Instant};
+
+// 2025-01-01T00:00:00Z.
+pub(crate) const START: i64 = 1_735_689_600_000;
+
+/// A clock that stands still there.
+#[derive(Clone, Copy)]
+pub(crate) struct Still;
+
+impl Clock for Still {
+    fn now(&mut self) -> i64 {
+        START
+    }
+}
+
+/// Where a stand-in listens, and the configuration that names that place.
+#[derive(Clone, Copy)]
+pub(crate) struct Scene<'a, R> {
+    pub(crate) rt: &'a R,
+    pub(crate) alloc: Global,
+    pub(crate) listener: &'a TcpListener,
+    pub(crate) place: SocketAddr,
+    pub(crate) config: &'a Config,
+    pub(crate) notices: &'a Notices,
+}
+
+impl<R: Threads + std::time::Clock + Abort + Sync> Scene<'_, R> {
+    /// Alice is sent a packet of these octets while the stand-in does its part. Gives what it heard,
+    /// and what she replied.
+    fn sent<U: Uplink>(
+        &self,
+        link: &mut U,
+        wait: i64,
+        does: Does<'_>,
+        reply: &mut Octets,
+    ) -> (io::Result<Vec<u8>>, Result<(), LinkFault>) {
+        let Scene {
+            rt,
+            alloc,
+            listener,
+            ..
+        } = *self;
+        join(
+            rt,
+            move || stand_in(rt, alloc, listener, does),
+            || link.send(0, b"packet", START.saturating_add(wait), reply),
+        )
+    }
+
+    /// A packet to alice goes out as this request, and this reply comes back.
+    pub(crate) fn replies<U: Uplink>(
+        &self,
+        link: &mut U,
+        request: &[u8],
+        response: &[u8],
+        want: &[u8],
+    ) -> io::Result<()> {
+        let mut reply = Octets::new(self.alloc);
+        let does = Does::Answers(request.len(), response);
+        let (heard, came) = self.sent(link, 10_000, does, &mut reply);
+        let heard = heard?;
+        assert!(self.rt; heard.as_slice() == request);
+        assert!(self.rt; came.is_ok());
+        assert!(self.rt; reply.as_slice() == want);
+        Ok(())
+    }
+
+    /// A packet to alice is a fault where the stand-in does so.
+    pub(crate) fn fails<U: Uplink>(&self, link: &mut U, does: Does<'_>) -> io::Result<()> {
+        let mut reply = Octets::new(self.alloc);
+        let (_, came) = self.sent(link, 10_000, does, &mut reply);
+        assert!(self.rt; came.is_err());
+        Ok(())
+    }
+
+    /// A packet to alice with 300 milliseconds left is a fault after about that time.
+    pub(crate) fn runs_out<U: Uplink>(&self, link: &mut U, does: Does<'_>) -> io::Result<()> {
+        let mut reply = Octets::new(self.alloc);
+        let begun = Instant::now(self.rt)?;
+        let (_, came) = self.sent(link, 300, does, &mut reply);
+        let took = begun.elapsed(self.rt)?;
+        assert!(self.rt; came.is_err());
+        assert!(self.rt; took >= Duration::from_millis(290));
+        assert!(self.rt; took < Duration::from_secs(5));
+        Ok(())
+    }
+
+    /// Whether bob's engine has an account of him, after this request and this response.
+    pub(crate) fn account<E: EngineLink>(
+        &self,
+        link: &mut E,
+        request: &[u8],
+        response: &[u8],
+    ) -> io::Result<bool> {
+        let Scene {
+            rt,
+            alloc,
+            listener,
+            ..
+        } = *self;
+        let does = Does::Answers(request.len(), response);
+        let (heard, has) = join(
+            rt,
+            move || stand_in(rt, alloc, listener, does),
+            || link.account(1),
+        );
+        let heard = heard?;
+        assert!(rt; heard.as_slice() == request);
+        Ok(has)
+    }
+
+    /// What bob's engine says of a settlement, after this request and this response.
+    pub(crate) fn settle<E: EngineLink>(
+        &self,
+        link: &mut E,
+        request: &[u8],
+        response: &[u8],
+    ) -> io::Result<EngineReply> {
+        let Scene {
+            rt,
+            alloc,
+            listener,
+            ..
+        } = *self;
+        let does = Does::Answers(request.len(), response);
+        let (heard, said) = join(
+            rt,
+            move || stand_in(rt, alloc, listener, does),
+            || link.settle(1, "r1-7", 250, 2),
+        );
+        let heard = heard?;
+        assert!(rt; heard.as_slice() == request);
+        Ok(said)
+    }
+
+    /// A message to bob's engine goes out as this request, and this answer comes back.
+    pub(crate) fn answers<E: EngineLink>(
+        &self,
+        link: &mut E,
+        request: &[u8],
+        response: &[u8],
+        want: &[u8],
+    ) -> io::Result<()> {
+        let Scene {
+            rt,
+            alloc,
+            listener,
+            ..
+        } = *self;
+        let mut reply = Octets::new(alloc);
+        let does = Does::Answers(request.len(), response);
+        let (heard, came) = join(
+            rt,
+            move || stand_in(rt, alloc, listener, does),
+            || link.message(1, b"message", &mut reply),
+        );
+        let heard = heard?;
+        assert!(rt; heard.as_slice() == request);
+        assert!(rt; came.is_ok());
+        assert!(rt; reply.as_slice() == want);
+        Ok(())
+    }
+}
