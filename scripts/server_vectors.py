@@ -29,6 +29,7 @@ STATUSES = {
     401: ("Unauthorized", "Unauthorized"), 404: ("Not Found", "NotFound"),
     405: ("Method Not Allowed", "MethodNotAllowed"), 409: ("Conflict", "Conflict"),
     411: ("Length Required", "LengthRequired"), 413: ("Content Too Large", "ContentTooLarge"),
+    431: ("Request Header Fields Too Large", "FieldsTooLarge"),
     502: ("Bad Gateway", "BadGateway"), 503: ("Service Unavailable", "Unavailable")}
 OWN = {401: ["WWW-Authenticate: Bearer"], 405: ["Allow: POST"]}
 OCTETS, JSON = "application/octet-stream", "application/json"

@@ -19,7 +19,7 @@ use Rattle.ilp_book.specs.declared.fault.AskFault.{AskFault}
 use Rattle.ilp_book.specs.declared.fault.AskFault.TheVariants as ask_fault
 use Rattle.ilp_connector.specs.declared.refusal.Refusal.{Refusal}
 use Rattle.ilp_connector.specs.declared.refusal.Refusal.TheVariants as refusals
-use Rattle.ilp_connector.specs.declared.refusal.Refusal.TheVariants.{Truncated, BadPrefix, TooLong, UnknownType, Trailing, BadExpiry, BadAddress, FieldTooLong, BadHex, NotPrepare, DoubleAsset, NoSuchAsset, ScaleGap, ZeroPrice, NoPrice, RoundsToNothing, OutTooLarge, DoublePrice, ConfigUnread, NotToml, Missing, BadValue, DoublePeer, DoubleToken, DoubleRoute, BadLevels, NotJson, BadAmount, BadScale, TooLarge, AmountTooLarge, NoRoute, BackToSender, Expired, TooShort, Full, TotalFull, BelowLeast, Memory, KeyTaken, NotDue, StillOpen, ReadFault, WriteFault, ScriptTooLong}
+use Rattle.ilp_connector.specs.declared.refusal.Refusal.TheVariants.{Truncated, BadPrefix, TooLong, UnknownType, Trailing, BadExpiry, BadAddress, FieldTooLong, BadHex, NotPrepare, DoubleAsset, NoSuchAsset, ScaleGap, ZeroPrice, NoPrice, RoundsToNothing, OutTooLarge, DoublePrice, ConfigUnread, NotToml, Missing, BadValue, DoublePeer, DoubleToken, DoubleRoute, BadLevels, NotJson, BadAmount, BadScale, TooLarge, AmountTooLarge, NoRoute, BackToSender, Expired, TooShort, Full, TotalFull, BelowLeast, Memory, KeyTaken, NotDue, StillOpen, MissingEnd, DoubleEnd, Disagrees, ReadFault, WriteFault, ScriptTooLong, ListenFault, SpawnFault}
 
 -- a number, and a name
 abbrev pub refusal_row : Refusal → ℕ × List ℕ
@@ -65,9 +65,14 @@ refusal_row Memory = (44, codes "Memory")
 refusal_row (KeyTaken kept) = (46, codes "KeyTaken")
 refusal_row (NotDue balance) = (47, codes "NotDue")
 refusal_row (StillOpen number amount) = (48, codes "StillOpen")
+refusal_row (MissingEnd actor) = (51, codes "Missing")
+refusal_row (DoubleEnd actor) = (52, codes "Double")
+refusal_row (Disagrees actor) = (53, codes "Disagrees")
 refusal_row ReadFault = (61, codes "ReadFault")
 refusal_row WriteFault = (64, codes "WriteFault")
 refusal_row ScriptTooLong = (65, codes "ScriptTooLong")
+refusal_row ListenFault = (66, codes "ListenFault")
+refusal_row SpawnFault = (67, codes "SpawnFault")
 
 abbrev pub refusal_number : Refusal → ℕ
 refusal_number refusal = (refusal_row refusal).0
@@ -81,7 +86,8 @@ refusal_field (Missing field) = Some field
 refusal_field (BadValue field) = Some field
 refusal_field _ = None
 
--- what a refusal names, each after a space: a field of the configuration, the greatest amount, the balance, the entry of a key, or a settlement with its amount
+-- what a refusal names, each after a space: a field of the configuration, the greatest amount, the balance, the entry of a key, a settlement with its
+-- amount, or an actor
 abbrev pub detail_text : Refusal → List ℕ
 detail_text (Missing field) = codes " " ++ key field
 detail_text (BadValue field) = codes " " ++ key field
@@ -90,6 +96,9 @@ detail_text (BelowLeast balance) = codes " " ++ signed_decimal balance
 detail_text (KeyTaken kept) = codes " " ++ decimal kept
 detail_text (NotDue balance) = codes " " ++ signed_decimal balance
 detail_text (StillOpen number amount) = codes " " ++ (decimal number ++ (codes " " ++ decimal amount))
+detail_text (MissingEnd actor) = codes " " ++ decimal actor
+detail_text (DoubleEnd actor) = codes " " ++ decimal actor
+detail_text (Disagrees actor) = codes " " ++ decimal actor
 detail_text _ = []
 
 -- the name of a refusal, and what it names

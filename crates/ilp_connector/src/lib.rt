@@ -19,4 +19,5 @@ pub use checking::check;
 pub use config_file::{CONFIG_LIMIT, read_config};
 pub use describe::describe_packet;
 pub use refusal::Refusal;
+pub use reply::report_text;
 pub use runner::{ReplayFault, replay};

@@ -99,12 +99,22 @@ pub enum Refusal {
     NotDue { balance: i128 },
     /// A settlement to the peer, which is this, is open already.
     StillOpen { number: u32, amount: u64 },
+    /// No end of this actor of a desk is there.
+    MissingEnd { actor: u32 },
+    /// Two ends of this actor of a desk are there.
+    DoubleEnd { actor: u32 },
+    /// What this actor of a desk kept is not what it booked.
+    Disagrees { actor: u32 },
     /// A read failed.
     ReadFault,
     /// A write failed, or took no octet.
     WriteFault,
     /// A script is too long.
     ScriptTooLong,
+    /// An address that is to be listened at can't be had.
+    ListenFault,
+    /// A thread can't be started.
+    SpawnFault,
 }
 
 impl Refusal {
@@ -155,9 +165,14 @@ impl Refusal {
             Refusal::KeyTaken { .. } => 46,
             Refusal::NotDue { .. } => 47,
             Refusal::StillOpen { .. } => 48,
+            Refusal::MissingEnd { .. } => 51,
+            Refusal::DoubleEnd { .. } => 52,
+            Refusal::Disagrees { .. } => 53,
             Refusal::ReadFault => 61,
             Refusal::WriteFault => 64,
             Refusal::ScriptTooLong => 65,
+            Refusal::ListenFault => 66,
+            Refusal::SpawnFault => 67,
         }
     }
 
@@ -208,15 +223,20 @@ impl Refusal {
             Refusal::KeyTaken { .. } => "KeyTaken",
             Refusal::NotDue { .. } => "NotDue",
             Refusal::StillOpen { .. } => "StillOpen",
+            Refusal::MissingEnd { .. } => "Missing",
+            Refusal::DoubleEnd { .. } => "Double",
+            Refusal::Disagrees { .. } => "Disagrees",
             Refusal::ReadFault => "ReadFault",
             Refusal::WriteFault => "WriteFault",
             Refusal::ScriptTooLong => "ScriptTooLong",
+            Refusal::ListenFault => "ListenFault",
+            Refusal::SpawnFault => "SpawnFault",
         }
     }
 }
 
 /// `NUMBER NAME`, and each after a space what it names: the key of a field, the greatest amount, the
-/// balance, the entry of a key, or the number and the amount of a settlement.
+/// balance, the entry of a key, the number and the amount of a settlement, or an actor.
 impl fmt::Display for Refusal {
     ghost use Rattle.std.specs.Prelude.{Some};
     ghost use Rattle.ilp_connector.specs.Refusals.{refusal_text};
@@ -254,6 +274,9 @@ impl fmt::Display for Named {
             }
             Refusal::KeyTaken { kept } => write!(f, "{name} {kept}"),
             Refusal::StillOpen { number, amount } => write!(f, "{name} {number} {amount}"),
+            Refusal::MissingEnd { actor }
+            | Refusal::DoubleEnd { actor }
+            | Refusal::Disagrees { actor } => write!(f, "{name} {actor}"),
             _ => write!(f, "{name}"),
         }
     }

@@ -1,5 +1,6 @@
 //! One request over a connection of its own.
 
+use crate::hurry::{Hurry, HurriedReader, connect};
 use crate::no_answer::NoAnswer;
 use crate::time_left::{left_until, moment_in};
 use crate::timed::{TimedReader, TimedWriter};
@@ -20,39 +21,13 @@ pub(crate) fn ask<'b, R: Net<Stream = TcpStream> + Clock>(
     body: &[u8],
     buffer: &'b mut Buffer,
 ) -> Result<Response<'b>, NoAnswer> {
-    let Ok(address) = place.parse::<SocketAddr>() else {
-        return Err(NoAnswer::NoPlace);
+    let (address, until) = destination(rt, place, milliseconds)?;
+    let stream = match connect_to(rt, address, until) {
+        Ok(stream) => stream,
+        Err(error) => return Err(NoAnswer::NotReached(error.kind())),
     };
-    match connected(rt, address, milliseconds) {
-        Ok((stream, until)) => ask_over(rt, &stream, until, head, body, buffer),
-        Err(error) => Err(NoAnswer::NotReached(error.kind())),
-    }
-}
-
-// A connection that sends each piece at once, and the moment by which all over it ends.
-fn connected<R: Net<Stream = TcpStream> + Clock>(
-    rt: &R,
-    address: SocketAddr,
-    milliseconds: u64,
-) -> io::Result<(TcpStream, Instant)> {
-    let until = moment_in(rt, milliseconds)?;
-    let left = left_until(rt, until)?;
-    let stream = TcpStream::connect_timeout(rt, &address, left)?;
-    stream.set_nodelay(true)?;
-    Ok((stream, until))
-}
-
-// The response to a request over this connection.
-fn ask_over<'b, R: Clock>(
-    rt: &R,
-    stream: &TcpStream,
-    until: Instant,
-    head: &Outgoing<'_>,
-    body: &[u8],
-    buffer: &'b mut Buffer,
-) -> Result<Response<'b>, NoAnswer> {
-    let mut sink = TimedWriter::new(rt, stream, until);
-    let mut source = TimedReader::new(rt, stream, until);
+    let mut sink = TimedWriter::new(rt, &stream, until);
+    let mut source = TimedReader::new(rt, &stream, until);
     match post(&mut sink, &mut source, head, body, buffer) {
         Ok(response) => Ok(response),
         Err(fault) => match left_until(rt, until) {
@@ -60,4 +35,58 @@ fn ask_over<'b, R: Clock>(
             Err(_) => Err(NoAnswer::Late),
         },
     }
+}
+
+/// Asks an engine, as `ask` does. Nor is its answer waited for, but for a second or two, once the
+/// connector ends.
+pub(crate) fn ask_hurried<'b, R: Net<Stream = TcpStream> + Clock>(
+    rt: &R,
+    place: &str,
+    milliseconds: u64,
+    hurry: &Hurry,
+    head: &Outgoing<'_>,
+    body: &[u8],
+    buffer: &'b mut Buffer,
+) -> Result<Response<'b>, NoAnswer> {
+    let (address, until) = destination(rt, place, milliseconds)?;
+    let stream = match connect(rt, address, until, hurry) {
+        Ok(stream) => stream,
+        Err(error) => return Err(NoAnswer::NotReached(error.kind())),
+    };
+    let mut sink = TimedWriter::new(rt, &stream, until);
+    let mut source = HurriedReader::new(rt, &stream, until, hurry);
+    match post(&mut sink, &mut source, head, body, buffer) {
+        Ok(response) => Ok(response),
+        Err(_) if hurry.is_told() => Err(NoAnswer::Late),
+        Err(fault) => match left_until(rt, until) {
+            Ok(_) => Err(NoAnswer::NoResponse(fault)),
+            Err(_) => Err(NoAnswer::Late),
+        },
+    }
+}
+
+// Where a place is, and the moment so many milliseconds from now.
+fn destination(
+    rt: &impl Clock,
+    place: &str,
+    milliseconds: u64,
+) -> Result<(SocketAddr, Instant), NoAnswer> {
+    let Ok(address) = place.parse::<SocketAddr>() else {
+        return Err(NoAnswer::NoPlace);
+    };
+    match moment_in(rt, milliseconds) {
+        Ok(until) => Ok((address, until)),
+        Err(error) => Err(NoAnswer::NotReached(error.kind())),
+    }
+}
+
+// A connection that sends each piece at once.
+fn connect_to<R: Net<Stream = TcpStream> + Clock>(
+    rt: &R,
+    address: SocketAddr,
+    until: Instant,
+) -> io::Result<TcpStream> {
+    let stream = TcpStream::connect_timeout(rt, &address, left_until(rt, until)?)?;
+    stream.set_nodelay(true)?;
+    Ok(stream)
 }

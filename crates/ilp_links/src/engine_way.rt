@@ -1,7 +1,8 @@
 //! The way to the settlement engines.
 ghost use Rattle.std.specs.Prelude.{◌+◌, ◌<◌, ◌≤◌, length, IfSome};
 
-use crate::asking::ask;
+use crate::asking::ask_hurried;
+use crate::hurry::Hurry;
 use crate::no_answer::NoAnswer;
 use crate::notices::Notices;
 use ilp_accounts::Config;
@@ -21,7 +22,8 @@ use std::time::Clock;
 const ENGINE_WAIT: u64 = 10_000;
 
 /// The way to the peers' settlement engines over TCP (RFC 0038): one connection for each call,
-/// closed after, for which there are 10 seconds in all.
+/// closed after, for which there are 10 seconds in all; and a second or two from when the connector
+/// begins to end.
 ///
 /// A peer that is unknown or has no engine in the configuration has no account; a settlement with it
 /// is Unknown and a message to it a fault, and nothing is sent. So it is where the engine gives no
@@ -31,6 +33,7 @@ pub struct EngineWay<'c, R: Copy> {
     rt: R,
     config: &'c Config,
     notices: &'c Notices,
+    hurry: &'c Hurry,
     buffer: Buffer,
     // Room for the JSON of a quantity.
     quantity: Octets,
@@ -44,6 +47,7 @@ impl<'c, R: Copy> EngineWay<'c, R> {
         rt: R,
         config: &'c Config,
         notices: &'c Notices,
+        hurry: &'c Hurry,
     ) -> Result<EngineWay<'c, R>, AllocError> {
         let alloc = config.allocator();
         let buffer = Buffer::new(alloc)?;
@@ -53,6 +57,7 @@ impl<'c, R: Copy> EngineWay<'c, R> {
             rt,
             config,
             notices,
+            hurry,
             buffer,
             quantity,
         })
@@ -74,7 +79,7 @@ impl<R: Net<Stream = TcpStream> + Clock + Eprint + Copy> EngineLink for EngineWa
         };
         let text = account_text(self.config, peer);
         let head = account_head(engine);
-        let came = ask_engine(&self.rt, engine, &head, text.as_slice(), &mut self.buffer);
+        let came = ask_engine(&self.rt, self.hurry, engine, &head, text.as_slice(), &mut self.buffer);
         match came.and_then(account_in) {
             Ok(()) => true,
             Err(why) => {
@@ -92,7 +97,7 @@ impl<R: Net<Stream = TcpStream> + Clock + Eprint + Copy> EngineLink for EngineWa
         let target = settlements_target(self.config, peer);
         let head = settlement_head(engine, &target, key);
         let body = self.quantity.as_slice();
-        let came = ask_engine(&self.rt, engine, &head, body, &mut self.buffer);
+        let came = ask_engine(&self.rt, self.hurry, engine, &head, body, &mut self.buffer);
         match came.and_then(reply_in) {
             Ok(reply) => reply,
             Err(why) => {
@@ -113,7 +118,7 @@ impl<R: Net<Stream = TcpStream> + Clock + Eprint + Copy> EngineLink for EngineWa
         };
         let target = messages_target(self.config, peer);
         let head = message_head(engine, &target);
-        let came = ask_engine(&self.rt, engine, &head, octets, &mut self.buffer);
+        let came = ask_engine(&self.rt, self.hurry, engine, &head, octets, &mut self.buffer);
         match came.and_then(answer_in) {
             Ok(answer) => reply.append(answer).map_err(|_| LinkFault),
             Err(why) => {
@@ -138,12 +143,13 @@ fn engine_of(config: &Config, peer: u32) -> Option<&str>
 // What an engine responds to a request.
 fn ask_engine<'b, R: Net<Stream = TcpStream> + Clock>(
     rt: &R,
+    hurry: &Hurry,
     engine: &str,
     head: &Outgoing<'_>,
     body: &[u8],
     buffer: &'b mut Buffer,
 ) -> Result<Response<'b>, NoAnswer> {
-    ask(rt, engine, ENGINE_WAIT, head, body, buffer)
+    ask_hurried(rt, engine, ENGINE_WAIT, hurry, head, body, buffer)
 }
 
 // That the engine has the account that it was told of.

@@ -7,6 +7,7 @@
 
 mod asking;
 mod engine_way;
+mod hurry;
 mod links;
 mod no_answer;
 mod notices;
@@ -16,6 +17,7 @@ mod time_left;
 mod timed;
 
 pub use engine_way::EngineWay;
+pub use hurry::Hurry;
 pub use links::{Links, TcpLinks};
 pub use notices::Notices;
 pub use peer_link::PeerLink;

@@ -1,6 +1,7 @@
 //! What the actors of a desk are given.
 
 use crate::engine_way::EngineWay;
+use crate::hurry::Hurry;
 use crate::notices::Notices;
 use crate::peer_link::PeerLink;
 use ilp_accounts::Config;
@@ -26,6 +27,10 @@ pub trait Links {
 
     /// A way to the settlement engines. `AllocError` tells that memory is short.
     fn engine(&self) -> Result<Self::Engine, AllocError>;
+
+    /// By this the links are told that all requests are answered and the connector ends: no engine is
+    /// to keep it waiting for long from then on.
+    fn hurry(&self) -> &Hurry;
 }
 
 /// The links over TCP of a connector with this configuration, which tell its notices of peers and
@@ -36,17 +41,25 @@ pub struct TcpLinks<'c, R: Copy, C: Clock + Copy> {
     config: &'c Config,
     clock: C,
     notices: &'c Notices,
+    hurry: &'c Hurry,
 }
 
 impl<'c, R: Copy, C: Clock + Copy> TcpLinks<'c, R, C> {
     /// The links of a connector with this configuration. Each uplink finds by its clock how long is
-    /// left until a deadline.
-    pub fn new(rt: R, config: &'c Config, clock: C, notices: &'c Notices) -> TcpLinks<'c, R, C> {
+    /// left until a deadline, and by `hurry` those to engines are told that the connector ends.
+    pub fn new(
+        rt: R,
+        config: &'c Config,
+        clock: C,
+        notices: &'c Notices,
+        hurry: &'c Hurry,
+    ) -> TcpLinks<'c, R, C> {
         TcpLinks {
             rt,
             config,
             clock,
             notices,
+            hurry,
         }
     }
 }
@@ -71,6 +84,10 @@ impl<
     }
 
     fn engine(&self) -> Result<EngineWay<'c, R>, AllocError> {
-        EngineWay::new(self.rt, self.config, self.notices)
+        EngineWay::new(self.rt, self.config, self.notices, self.hurry)
+    }
+
+    fn hurry(&self) -> &Hurry {
+        self.hurry
     }
 }

@@ -7,8 +7,8 @@ use std::time::Duration;
 
 /// The system's clock, in milliseconds since 1970.
 ///
-/// Where it can't be read, or stands before 1970, it gives the greatest moment that an `i64` has:
-/// everything is late then, so that nothing passes.
+/// Where it can't be read, or stands before 1970, it gives 0. A book, whose time never goes back, takes
+/// the moment of its last entry then.
 #[derive(Clone, Copy)]
 pub struct SystemClock<R> {
     rt: R,
@@ -25,7 +25,7 @@ impl<R: std::time::Clock + Copy> Clock for SystemClock<R> {
     fn now(&mut self) -> i64 {
         match self.rt.since_1970() {
             Ok(time) => milliseconds(time),
-            Err(_) => i64::MAX,
+            Err(_) => 0,
         }
     }
 }

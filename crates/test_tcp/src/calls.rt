@@ -2,7 +2,7 @@
 
 use crate::stand_in::{Does, stand_in};
 use ilp_accounts::Config;
-use ilp_links::Notices;
+use ilp_links::{Hurry, Notices};
 use ilp_oer::Octets;
 use ilp_workers::{Clock, EngineLink, EngineReply, LinkFault, Uplink};
 use std::alloc::Global;
@@ -34,6 +34,7 @@ pub(crate) struct Scene<'a, R> {
     pub(crate) place: SocketAddr,
     pub(crate) config: &'a Config,
     pub(crate) notices: &'a Notices,
+    pub(crate) hurry: &'a Hurry,
 }
 
 impl<R: Threads + std::time::Clock + Abort + Sync> Scene<'_, R> {
@@ -119,6 +120,26 @@ impl<R: Threads + std::time::Clock + Abort + Sync> Scene<'_, R> {
         let heard = heard?;
         assert!(rt; heard.as_slice() == request);
         Ok(has)
+    }
+
+    /// Once the connector ends, an engine of bob's that does not answer is not waited for.
+    pub(crate) fn hurries<E: EngineLink>(&self, link: &mut E) -> io::Result<()> {
+        let Scene {
+            rt,
+            alloc,
+            listener,
+            ..
+        } = *self;
+        let begun = Instant::now(rt)?;
+        self.hurry.tell();
+        let (_, has) = join(
+            rt,
+            move || stand_in(rt, alloc, listener, Does::Waits),
+            || link.account(1),
+        );
+        assert!(rt; !has);
+        assert!(rt; begun.elapsed(rt)? < Duration::from_secs(5));
+        Ok(())
     }
 
     /// What bob's engine says of a settlement, after this request and this response.

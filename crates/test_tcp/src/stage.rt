@@ -4,7 +4,7 @@ use crate::calls::Scene;
 use crate::stand_in::config_at;
 use crate::tests::{play_engines, play_limits, play_nobody, play_packets, play_timed};
 use ilp_accounts::Config;
-use ilp_links::Notices;
+use ilp_links::{Hurry, Notices};
 use std::alloc::Global;
 use std::io;
 use std::io::Eprint;
@@ -80,6 +80,7 @@ where
 {
     let place = listener.local_addr()?;
     let notices = Notices::new(alloc, config)?;
+    let hurry = Hurry::new();
     let scene = Scene {
         rt,
         alloc,
@@ -87,6 +88,7 @@ where
         place,
         config,
         notices: &notices,
+        hurry: &hurry,
     };
     match play {
         Play::Packets => play_packets(scene),

@@ -1,0 +1,26 @@
+//! How many connections wait, and for how long.
+
+/// How many connections wait at an intake. When one more comes, the one that has waited longest is
+/// closed without an answer.
+pub const MOST_WAITING: usize = 1_024;
+
+/// How long a request may take to come, in milliseconds from the moment at which its connection was
+/// accepted. The time in which an intake waits for whoever takes its connections is not counted.
+pub const ALLOWANCE_MS: u64 = 10_000;
+
+/// How long a request may still take to come once the intake is closed, in milliseconds.
+pub const GRACE_MS: u64 = 1_000;
+
+// How many connections are accepted before others are looked after: as many as the system has wait
+// at a listening socket of std.
+pub(crate) const MOST_AT_ONCE: usize = 128;
+
+// How many descriptors are told of as ready at once.
+pub(crate) const MOST_EVENTS: usize = 256;
+
+// How long to rest, in milliseconds, where no connection can be accepted although one waits, since
+// no descriptor is left for it.
+pub(crate) const REST_MS: u64 = 10;
+
+// How many octets are read at once.
+pub(crate) const PIECE: usize = 4_096;
