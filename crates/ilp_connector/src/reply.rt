@@ -184,10 +184,7 @@ fn name_of(config: &Config, peer: u32) -> &str
 
 /// What a script's line `report` prints, and the running connector in its end: a line with the balance
 /// of each peer, in the order of the configuration. It is refused where memory is denied.
-pub fn report_text<A: Allocator + Copy>(
-    alloc: A,
-    book: &Book<A>,
-) -> Result<String<A>, AllocError>
+pub fn report_text<A: Allocator + Copy>(alloc: A, book: &Book<A>) -> Result<String<A>, AllocError>
     ensures { IfOk result (λ text. string_bytes text
         ≡ balance_lines book.now.entries 0 (peer_names book.now.config.peers)) }
 {

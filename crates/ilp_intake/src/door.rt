@@ -20,7 +20,10 @@ impl Door {
 
 /// Listens at an address of the form `IP:PORT`. It is refused where the text names no place
 /// (`InvalidInput`), and where the system refuses it.
-pub fn open_door<R: Net<Listener = net::TcpListener, Stream = net::TcpStream>>(rt: &R, place: &str) -> io::Result<Door> {
+pub fn open_door<R: Net<Listener = net::TcpListener, Stream = net::TcpStream>>(
+    rt: &R,
+    place: &str,
+) -> io::Result<Door> {
     let Ok(address) = place.parse::<SocketAddr>() else {
         return Err(io::Error::from(ErrorKind::InvalidInput));
     };

@@ -35,7 +35,12 @@ pub(crate) enum Stage {
 }
 
 impl Guest {
-    pub(crate) fn new(alloc: Global, number: usize, stream: TcpStream, accepted: Duration) -> Guest {
+    pub(crate) fn new(
+        alloc: Global,
+        number: usize,
+        stream: TcpStream,
+        accepted: Duration,
+    ) -> Guest {
         Guest {
             number,
             stream,

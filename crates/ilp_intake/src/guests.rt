@@ -72,7 +72,11 @@ impl Guests {
 
     /// Reads what has come of the connection of this number, if it still waits.
     pub(crate) fn read(&mut self, number: usize) {
-        if let Some(place) = self.waiting.iter().position(|guest| guest.number() == number) {
+        if let Some(place) = self
+            .waiting
+            .iter()
+            .position(|guest| guest.number() == number)
+        {
             self.waiting[place].read();
         }
     }
@@ -90,7 +94,10 @@ impl Guests {
     /// The first connection that is to be given on, if one is.
     pub(crate) fn leave(&mut self, registry: &Registry, now: Duration) -> Option<Arrival> {
         for _ in 0..MOST_WAITING {
-            let place = self.waiting.iter().position(|guest| guest.stage() == Stage::Ready)?;
+            let place = self
+                .waiting
+                .iter()
+                .position(|guest| guest.stage() == Stage::Ready)?;
             if let Ok(arrival) = self.waiting.remove(place).leave(registry, now) {
                 return Some(arrival);
             }

@@ -15,6 +15,7 @@ use std::{io, thread};
 
 // Connections have numbers from 0 on, and there are never so many.
 const DOOR: Token = Token(usize::MAX);
+
 const CLOSER: Token = Token(usize::MAX - 1);
 
 /// Takes in the connections of one listening socket, and gives them on one by one.

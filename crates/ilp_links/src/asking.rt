@@ -1,6 +1,6 @@
 //! One request over a connection of its own.
 
-use crate::hurry::{Hurry, HurriedReader, connect};
+use crate::hurry::{HurriedReader, Hurry, connect};
 use crate::no_answer::NoAnswer;
 use crate::time_left::{left_until, moment_in};
 use crate::timed::{TimedReader, TimedWriter};

@@ -79,7 +79,14 @@ impl<R: Net<Stream = TcpStream> + Clock + Eprint + Copy> EngineLink for EngineWa
         };
         let text = account_text(self.config, peer);
         let head = account_head(engine);
-        let came = ask_engine(&self.rt, self.hurry, engine, &head, text.as_slice(), &mut self.buffer);
+        let came = ask_engine(
+            &self.rt,
+            self.hurry,
+            engine,
+            &head,
+            text.as_slice(),
+            &mut self.buffer,
+        );
         match came.and_then(account_in) {
             Ok(()) => true,
             Err(why) => {
@@ -118,7 +125,14 @@ impl<R: Net<Stream = TcpStream> + Clock + Eprint + Copy> EngineLink for EngineWa
         };
         let target = messages_target(self.config, peer);
         let head = message_head(engine, &target);
-        let came = ask_engine(&self.rt, self.hurry, engine, &head, octets, &mut self.buffer);
+        let came = ask_engine(
+            &self.rt,
+            self.hurry,
+            engine,
+            &head,
+            octets,
+            &mut self.buffer,
+        );
         match came.and_then(answer_in) {
             Ok(answer) => reply.append(answer).map_err(|_| LinkFault),
             Err(why) => {

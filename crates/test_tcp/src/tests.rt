@@ -112,7 +112,13 @@ where
         + Send
         + Sync,
 {
-    let mut link = TcpLinks::new(*scene.rt, scene.config, Still, scene.notices, scene.hurry).uplink()?;
+    let mut link = TcpLinks::new(
+        *scene.rt,
+        scene.config,
+        Still,
+        scene.notices,
+        scene.hurry,
+    ).uplink()?;
     send_to_alice(scene, &mut link)
 }
 
@@ -165,7 +171,13 @@ where
     R: Abort,
     H: Net<Stream = TcpStream> + std::time::Clock + Eprint + Sync,
 {
-    let mut link = TcpLinks::new(hearing, scene.config, Still, scene.notices, scene.hurry).uplink()?;
+    let mut link = TcpLinks::new(
+        hearing,
+        scene.config,
+        Still,
+        scene.notices,
+        scene.hurry,
+    ).uplink()?;
     send_to_nobody(scene.rt, scene.alloc, &mut link);
     Ok(())
 }
@@ -257,7 +269,13 @@ where
     R: Threads + std::time::Clock + Abort + Copy + Sync,
     H: Net<Stream = TcpStream> + std::time::Clock + Eprint + Sync,
 {
-    let mut link = TcpLinks::new(hearing, scene.config, Still, scene.notices, scene.hurry).engine()?;
+    let mut link = TcpLinks::new(
+        hearing,
+        scene.config,
+        Still,
+        scene.notices,
+        scene.hurry,
+    ).engine()?;
     ask_no_engine(scene.rt, scene.alloc, &mut link);
     ask_for_accounts(scene, &mut link)?;
     ask_for_settlements(scene, &mut link)?;
