@@ -34,8 +34,9 @@ impl Guests {
         self.waiting.is_empty()
     }
 
-    /// Has a connection wait that was accepted at this time. Where as many wait as may, the one that
-    /// came first is closed. One that can't be looked after is closed.
+    /// Has a connection wait that was accepted at this time. Where as many wait as may, the first of
+    /// them whose request has not come is closed, and else the first. One that can't be looked after is
+    /// closed.
     pub(crate) fn enter(&mut self, registry: &Registry, stream: TcpStream, now: Duration) {
         let _ = self.try_enter(registry, stream, now);
     }

@@ -1,7 +1,7 @@
 //! How many connections wait, and for how long.
 
-/// How many connections wait at an intake. When one more comes, the one that has waited longest is
-/// closed without an answer.
+/// How many connections wait at an intake. When one more comes, the one that has waited longest for
+/// its request is closed without an answer.
 pub const MOST_WAITING: usize = 1_024;
 
 /// How long a request may take to come, in milliseconds from the moment at which its connection was
