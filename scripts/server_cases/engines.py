@@ -122,12 +122,14 @@ def engine_that_never_tells_of_an_account(laboratory: Laboratory) -> None:
 
 @case
 def settlement_kept_open(laboratory: Laboratory) -> None:
-    """A settlement that stays open is told on standard error, and not more than once a second."""
+    """An open settlement and its engine are told of, each not more than once a second."""
     program = owe(laboratory, status(503))
     start = time.monotonic()
     laboratory.engine.await_count(SETTLEMENTS, 50, 20.0)
-    await_line(program, "bob")
+    await_line(program, "settlement 1 with bob is kept open")
     close(program, bob=200)
-    told = [line for line in program.error_lines()[1:] if "bob" in line]
     most = seconds_since(start) + 2
-    expect_that(f"{len(told)} lines on bob, and not at most {most:.0f}", len(told) <= most)
+    for beginning in ("engine of bob", "settlement 1 with bob"):
+        told = [line for line in program.error_lines() if line.startswith(beginning)]
+        what = f"{len(told)} lines on {beginning}, and not 1 to {most:.0f}"
+        expect_that(what, 1 <= len(told) <= most)

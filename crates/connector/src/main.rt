@@ -1,14 +1,18 @@
-//! The connector's command line. So far it describes a packet, checks a configuration, and replays a
-//! script from standard input over one.
+//! The connector's command line. It describes a packet, checks a configuration, replays a script from
+//! standard input over one, or runs a connector of one.
 #![tactic(auto)]
 
 mod checking;
 mod configuring;
+mod host;
 mod replaying;
+mod serving;
 
 use checking::run_check;
+use host::Host;
 use ilp_connector::{Refusal, describe_packet};
 use replaying::run_replay;
+use serving::run_serve;
 use std::env;
 use std::io::ErrorKind;
 use std::process::ExitCode;
@@ -32,7 +36,7 @@ fn main(rt: HostRuntime) -> ExitCode {
 }
 
 // Runs what the arguments ask for.
-fn run<R: Runtime + AllocGlobal>(rt: &R) -> Ending {
+fn run<R: Host>(rt: &R) -> Ending {
     let mut words = match env::args(rt) {
         Ok(args) => args.skip(1),
         Err(error) if error.kind() == ErrorKind::OutOfMemory => {
@@ -48,11 +52,12 @@ fn run<R: Runtime + AllocGlobal>(rt: &R) -> Ending {
     }
 }
 
-fn run_command<R: Runtime + AllocGlobal>(rt: &R, command: &str, argument: &str) -> Ending {
+fn run_command<R: Host>(rt: &R, command: &str, argument: &str) -> Ending {
     match (command, argument) {
         ("packet", text) => run_packet(rt, text),
         ("check", path) => run_check(rt, path),
         ("replay", path) => run_replay(rt, path),
+        ("serve", path) => run_serve(rt, path),
         _ => Ending::Misused,
     }
 }

@@ -1,0 +1,74 @@
+//! The actors of a desk, ready to be started.
+
+use ilp_desk::{Desk, Naming, Share};
+use ilp_http::Buffer;
+use ilp_links::Links;
+use ilp_settler::{Settler, Sweeper};
+use ilp_workers::{Clock, EngineLink, Uplink, Worker};
+use std::alloc::{AllocError, Global};
+
+/// A worker, and the buffer into which it reads requests.
+#[derive(Drop)]
+pub(crate) struct Hand<J: Naming, C: Clock + Drop, U: Uplink + Drop, E: EngineLink + Drop> {
+    pub(crate) worker: Worker<J, C, U, E>,
+    pub(crate) buffer: Buffer,
+}
+
+/// The actors of a desk, with all the memory that they are given.
+#[derive(Drop)]
+pub(crate) struct Actors<J: Naming, C: Clock + Drop, U: Uplink + Drop, E: EngineLink + Drop> {
+    pub(crate) hands: Vec<Hand<J, C, U, E>>,
+    pub(crate) sweeper: Sweeper<J, C>,
+    pub(crate) settler: Settler<J, C, E>,
+}
+
+// The actors whose links are made by `L`.
+type ActorsOf<J, L> = Actors<J, <L as Links>::Clock, <L as Links>::Uplink, <L as Links>::Engine>;
+
+/// The actors whose shares these are, the settler's last and the sweeper's before it.
+pub(crate) fn actors_of<J: Naming, L: Links>(
+    desk: &Desk<J>,
+    shares: Vec<Share<J>>,
+    links: &L,
+) -> Result<ActorsOf<J, L>, AllocError> {
+    let alloc = desk.config().allocator();
+    let mut shares = shares;
+    let settler = new_settler(alloc, shares.pop().ok_or(AllocError)?, links)?;
+    let share = shares.pop().ok_or(AllocError)?;
+    let sweeper = Sweeper::new(alloc, share, links.clock());
+    let mut hands = Vec::new(alloc);
+    for share in shares {
+        hands.push(new_hand(alloc, share, links)?)?;
+    }
+    Ok(Actors {
+        hands,
+        sweeper,
+        settler,
+    })
+}
+
+fn new_hand<J: Naming, L: Links>(
+    alloc: Global,
+    share: Share<J>,
+    links: &L,
+) -> Result<Hand<J, L::Clock, L::Uplink, L::Engine>, AllocError> {
+    let buffer = Buffer::new(alloc)?;
+    let uplink = links.uplink()?;
+    let engine = links.engine()?;
+    match Worker::new(alloc, share, links.clock(), uplink, engine) {
+        Ok(worker) => Ok(Hand { worker, buffer }),
+        Err(_) => Err(AllocError),
+    }
+}
+
+fn new_settler<J: Naming, L: Links>(
+    alloc: Global,
+    share: Share<J>,
+    links: &L,
+) -> Result<Settler<J, L::Clock, L::Engine>, AllocError> {
+    let engine = links.engine()?;
+    match Settler::new(alloc, share, links.clock(), engine) {
+        Ok(settler) => Ok(settler),
+        Err(_) => Err(AllocError),
+    }
+}

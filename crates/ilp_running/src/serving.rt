@@ -1,0 +1,186 @@
+//! A connector from its beginning to its end.
+ghost use Rattle.std.specs.Prelude.{◌≡◌, IfOk};
+ghost use Rattle.ilp_desk.specs.Desk as desk;
+ghost use Rattle.ilp_desk.specs.Desk.{base_of};
+ghost use Rattle.ilp_running.specs.Serving.{desk_of, IsClosed, Prints, Serves};
+
+use crate::actors::actors_of;
+use crate::fault::{ServeFault, Unprinted, not_gathered};
+use crate::taking::Closers;
+use crate::telling::{tell_listening, tell_no_thread, tell_not_listening};
+use crate::threads::{House, Intakes, run};
+use ilp_accounts::Config;
+use ilp_book::Book;
+use ilp_connector::report_text;
+use ilp_desk::{Closed, Desk, End, Naming, Share, gather};
+use ilp_intake::{Closer, Intake, open_door};
+use ilp_io::{Sink, put_all};
+use ilp_links::{Links, Notices};
+use ilp_server::Side;
+use std::io::{Eprint, ErrorKind};
+use std::marker::Brand;
+use std::net::{Net, TcpListener, TcpStream};
+use std::sync::Wait;
+use std::sync::ledger::Blank;
+use std::thread::Threads;
+use std::time::Clock;
+
+/// Runs a connector of this configuration until it is asked to close, and prints the balances of its
+/// book then.
+#[tactic(auto, using(crate::proofs::Printed::serves))]
+pub fn serve<R, L, W>(
+    rt: &R,
+    config: &Config,
+    links: &L,
+    writer: &mut W,
+) -> Result<(), ServeFault>
+where
+    R: Net<Listener = TcpListener, Stream = TcpStream> + Threads + Wait + Clock + Eprint + Sync,
+    L: Links,
+    W: Sink,
+    ensures { Serves (desk_of config.now) (W.contents writer.old) (W.contents writer.new) result }
+{
+    let doors = open_sides(rt, config)?;
+    let book = match Book::new(config.allocator(), config) {
+        Ok(book) => book,
+        Err(_) => return Err(ServeFault::Unprinted(Unprinted::Memory)),
+    };
+    let blanks = Blank::new(u64::from(config.workers()) + 2);
+    let book = serve_desk::<Brand, R, L>(rt, config, book, blanks, links, doors)?;
+    print_report(&book, writer)
+}
+
+// What takes connections in at both sides, and what closes it.
+#[derive(Drop)]
+struct Sides {
+    intakes: Intakes,
+    closers: Closers,
+}
+
+// Listens at both sides.
+fn open_sides<R>(rt: &R, config: &Config) -> Result<Sides, Unprinted>
+where
+    R: Net<Listener = TcpListener, Stream = TcpStream> + Eprint,
+{
+    let (peers, close_peers) = open_side(rt, config, Side::Ilp, config.listen())?;
+    let (engines, close_engines) = open_side(rt, config, Side::Engine, config.engine_listen())?;
+    Ok(Sides {
+        intakes: Intakes { peers, engines },
+        closers: Closers {
+            peers: close_peers,
+            engines: close_engines,
+        },
+    })
+}
+
+fn open_side<R>(
+    rt: &R,
+    config: &Config,
+    side: Side,
+    place: &str,
+) -> Result<(Intake, Closer), Unprinted>
+where
+    R: Net<Listener = TcpListener, Stream = TcpStream> + Eprint,
+{
+    let opened = match open_door(rt, place) {
+        Ok(door) => Intake::new(rt, config.allocator(), door),
+        Err(error) => Err(error),
+    };
+    match opened {
+        Ok(opened) => Ok(opened),
+        Err(error) if error.kind() == ErrorKind::OutOfMemory => Err(Unprinted::Memory),
+        Err(error) => {
+            tell_not_listening(rt, place, &error);
+            Err(Unprinted::Listen(side))
+        }
+    }
+}
+
+// Opens a desk over this book, runs it, and closes it.
+fn serve_desk<J, R, L>(
+    rt: &R,
+    config: &Config,
+    book: Book,
+    blanks: Blank,
+    links: &L,
+    sides: Sides,
+) -> Result<Book, Unprinted>
+where
+    J: Naming + Send + Sync,
+    R: Threads + Wait + Clock + Eprint + Sync,
+    L: Links,
+    requires config { (config.now ≡ J.desk.config) × (book.config ≡ J.desk.config) }
+    requires workers { config.now.settings.workers ≡ J.desk.workers }
+    requires opening { (book.entries ≡ J.desk.opening) × (book.base ≡ base_of J.desk) }
+    requires ledger { (blanks.name ≡ J.name) × (blanks.parts ≡ J.parts) }
+    requires parts { J.parts ≡ desk.actors_of J.desk }
+    ensures { IfOk result (IsClosed J.desk) }
+{
+    let workers = config.workers();
+    match Desk::<J>::open(config.allocator(), config, book, workers, blanks) {
+        Ok((desk, shares)) => {
+            let ends = run_desk(rt, &desk, shares, links, sides);
+            close_desk(desk, ends)
+        }
+        Err(_) => Err(Unprinted::Memory),
+    }
+}
+
+// Runs a desk until it is closed, and gives what its actors hand in.
+fn run_desk<J, R, L>(
+    rt: &R,
+    desk: &Desk<J>,
+    shares: Vec<Share<J>>,
+    links: &L,
+    sides: Sides,
+) -> Result<Vec<End<J>>, Unprinted>
+where
+    J: Naming + Send + Sync,
+    R: Threads + Wait + Clock + Eprint + Sync,
+    L: Links,
+{
+    let notices = Notices::new(desk.config().allocator(), desk.config())?;
+    let actors = actors_of(desk, shares, links)?;
+    let Sides { intakes, closers } = sides;
+    tell_listening(rt, desk.config());
+    let house = House {
+        rt,
+        desk,
+        closers: &closers,
+        notices: &notices,
+    };
+    let ends = run(house, actors, intakes, links.hurry());
+    if let Err(Unprinted::Spawn) = &ends {
+        tell_no_thread(rt);
+    }
+    ends
+}
+
+// Closes a desk whose actors handed these in.
+fn close_desk<J: Naming>(
+    desk: Desk<J>,
+    ends: Result<Vec<End<J>>, Unprinted>,
+) -> Result<Book, Unprinted>
+    ensures { IfOk result (IsClosed J.desk) }
+{
+    match ends {
+        Ok(ends) => match gather(desk, ends) {
+            Ok(Closed { book }) => Ok(book),
+            Err(left) => Err(not_gathered(left.why)),
+        },
+        Err(fault) => Err(fault),
+    }
+}
+
+// Prints the balances of a book.
+fn print_report<W: Sink>(book: &Book, writer: &mut W) -> Result<(), ServeFault>
+    ensures { Prints book.now (W.contents writer.old) (W.contents writer.new) result }
+{
+    let Ok(text) = report_text(book.config().allocator(), book) else {
+        return Err(ServeFault::Unprinted(Unprinted::Memory));
+    };
+    match put_all(writer, text.as_bytes()) {
+        Ok(()) => Ok(()),
+        Err(_) => Err(ServeFault::Write),
+    }
+}
