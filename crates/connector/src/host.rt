@@ -6,19 +6,17 @@ use std::sync::Wait;
 use std::thread::Threads;
 
 /// What a connector runs on: files, streams and a clock, sockets and threads.
-pub(crate) trait Host:
-    Runtime
+pub(crate) trait Host: Runtime
     + AllocGlobal
     + Net<Listener = TcpListener, Stream = TcpStream>
     + Threads
     + Wait
     + Copy
     + Send
-    + Sync
-{
-}
+    + Sync {}
 
-impl<R> Host for R where
+impl<R> Host for R
+where
     R: Runtime
         + AllocGlobal
         + Net<Listener = TcpListener, Stream = TcpStream>
@@ -26,6 +24,5 @@ impl<R> Host for R where
         + Wait
         + Copy
         + Send
-        + Sync
-{
-}
+        + Sync,
+{}

@@ -8,12 +8,11 @@ use ilp_intake::Arrival;
 use ilp_links::{TimedReader, TimedWriter};
 use ilp_server::{Handled, answer_connection};
 use ilp_workers::{Clock, EngineLink, Uplink};
-use std::io;
 use std::io::{Read, Write};
 use std::net::{Shutdown, TcpStream};
 use std::sync::Wait;
-use std::time;
 use std::time::{Duration, Instant};
+use std::{io, time};
 
 // How long a response may take to be written, in milliseconds.
 const RESPONSE_MS: u64 = 10_000;
@@ -50,21 +49,14 @@ fn answer<
     U: Uplink + Drop,
     E: EngineLink + Drop,
     R: Wait + time::Clock,
->(
-    rt: &R,
-    desk: &Desk<J>,
-    hand: &mut Hand<J, C, U, E>,
-    caller: &Caller,
-) -> io::Result<Handled> {
+>(rt: &R, desk: &Desk<J>, hand: &mut Hand<J, C, U, E>, caller: &Caller) -> io::Result<Handled> {
     let Arrival {
         stream,
         octets,
         left,
     } = &caller.arrival;
     let until = moment_in(rt, *left)?;
-    let mut source = octets
-        .as_slice()
-        .chain(TimedReader::new(rt, stream, until));
+    let mut source = octets.as_slice().chain(TimedReader::new(rt, stream, until));
     let mut sink = Response::new(rt, stream);
     let alloc = desk.config().allocator();
     let handled = answer_connection(

@@ -28,12 +28,7 @@ use std::time::Clock;
 /// Runs a connector of this configuration until it is asked to close, and prints the balances of its
 /// book then.
 #[tactic(auto, using(crate::proofs::Printed::serves))]
-pub fn serve<R, L, W>(
-    rt: &R,
-    config: &Config,
-    links: &L,
-    writer: &mut W,
-) -> Result<(), ServeFault>
+pub fn serve<R, L, W>(rt: &R, config: &Config, links: &L, writer: &mut W) -> Result<(), ServeFault>
 where
     R: Net<Listener = TcpListener, Stream = TcpStream> + Threads + Wait + Clock + Eprint + Sync,
     L: Links,

@@ -13,7 +13,9 @@ pub(crate) fn tell_listening<R: Eprint>(rt: &R, config: &Config) {
 fn try_tell_listening<R: Eprint>(rt: &R, config: &Config) -> io::Result<()> {
     let (peers_at, engines_at) = (config.listen(), config.engine_listen());
     let (workers, peers) = (config.workers(), config.peers());
-    eprint!(rt; "listening at {peers_at} for peers and at {engines_at} for engines: {workers} workers, {peers} peers")?;
+    eprint!(rt;
+        "listening at {peers_at} for peers and at {engines_at} for engines: {workers} workers, {peers} peers"
+    )?;
     for peer in 0..config.peers() {
         let name = config.name(peer);
         match config.engine(peer) {

@@ -12,9 +12,11 @@ use std::thread::{Threads, join};
 use std::time::Clock;
 
 const PEERS: &str = "127.0.0.1:7768";
+
 const ENGINES: &str = "127.0.0.1:7769";
 
 /// The places at which bob's server and his engine listen.
+#[derive(Drop)]
 pub(crate) struct Others<'a> {
     pub(crate) bob: &'a TcpListener,
     pub(crate) engine: &'a TcpListener,

@@ -52,16 +52,14 @@ Host: 127.0.0.1:7003\r\nContent-Type: application/json\r\nContent-Length: 26\r\n
 Idempotency-Key: r1-5\r\nConnection: close\r\n\r\n{\"amount\":\"900\",\"scale\":2}";
 
 /// The operator's request to close.
-pub(crate) const CLOSE: &[u8] =
-    b"POST /close HTTP/1.1\r\nHost: hub\r\nContent-Length: 0\r\n\r\n";
+pub(crate) const CLOSE: &[u8] = b"POST /close HTTP/1.1\r\nHost: hub\r\nContent-Length: 0\r\n\r\n";
 
 /// What it is answered.
 pub(crate) const CLOSED: &[u8] =
     b"HTTP/1.1 200 OK\r\nContent-Length: 0\r\nConnection: close\r\n\r\n";
 
 /// What is printed in the end.
-pub(crate) const PRINTED: &[u8] =
-    b"balance   alice                                         -100\n\
+pub(crate) const PRINTED: &[u8] = b"balance   alice                                         -100\n\
 balance   bob                                            200\n";
 
 /// A head with its body.

@@ -8,13 +8,12 @@ use ilp_links::{Hurry, Notices, TcpLinks};
 use ilp_running::serve;
 use ilp_workers::Clock;
 use std::alloc::Global;
-use std::io;
-use std::io::{ErrorKind, Eprint};
+use std::io::{Eprint, ErrorKind};
 use std::net::{Net, TcpListener, TcpStream};
 use std::sync::Wait;
 use std::test::Fail;
 use std::thread::{Threads, join};
-use std::time;
+use std::{io, time};
 
 // 2025-01-01T00:00:00Z.
 const START: i64 = 1_735_689_600_000;

@@ -24,10 +24,10 @@ scope-requires g c =
                   search sendable depth 20,
                   search sendable depth 20,
                   search sendable depth 20,
-                )
-              )
-            )
-          )
-        )
-      )
+                ),
+              ),
+            ),
+          ),
+        ),
+      ),
     )
