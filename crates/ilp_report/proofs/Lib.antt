@@ -1,0 +1,6 @@
+mod LineLemmas
+mod AmountLemmas
+mod WalkLemmas
+mod NameLemmas
+mod WrittenLemmas
+mod BalanceLemmas
