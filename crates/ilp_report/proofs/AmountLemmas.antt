@@ -160,8 +160,8 @@ entries_sum j have f part =
 holds_sum : (j : Entries) → HaveAmounts j → (test : ℕ → Bool) (f : Hold → ℕ) → IsPart f → sum_of_holds test f j ≤ most_sum
 holds_sum j have test f part =
     let all : sum_of_holds test f j ≤ length j * 2 ^ 64 =
-            sum_from_members (λ n (e : Entry). cond (test n) (of_hold f e.what) 0) (2 ^ 64) 0 j
-            (λ n k e stands. cond_le (test n) (of_hold f e.what) _ (hold_part f part e.what (have.amounts k e stands))) in
+    sum_from_members (λ n (e : Entry). cond (test n) (of_hold f e.what) 0) (2 ^ 64) 0 j
+    (λ n k e stands. cond_le (test n) (of_hold f e.what) _ (hold_part f part e.what (have.amounts k e stands))) in
     omega (arith, all, have.few)
 
 amount_in_part : (assets : List ℕ) (x : ℕ) → IsPart (amount_in assets x)

@@ -21,7 +21,7 @@ pub fulfilled_next : (j : Entries) (n count : ℕ) (e : Entry) (here : Bool) →
 fulfilled_next j n count e here stands told counted =
     let first : nat_le 0 (length (take n j)) ≡ true = grind (arith, nat_tests) in
     let grown : fulfilled_since 0 (take n j ++ e ∷ []) ≡ fulfilled_since 0 (take n j) + cond (is_some (fulfilled e.what)) 1 0 =
-            fulfilled_since-push 0 (take n j) e ∙ ap (λ b. fulfilled_since 0 (take n j) + cond (b && is_some (fulfilled e.what)) 1 0) first in
+    fulfilled_since-push 0 (take n j) e ∙ ap (λ b. fulfilled_since 0 (take n j) + cond (b && is_some (fulfilled e.what)) 1 0) first in
     ap (λ m. m + cond here 1 0) counted ∙ ap (λ b. fulfilled_since 0 (take n j) + cond b 1 0) told ∙ sym grown ∙ ap (fulfilled_since 0) (sym (take_next j n e stands))
 
 -- the amounts of the entries as far as a number, with those of the one there

@@ -52,6 +52,6 @@ stopped_at f xs n x u v w stands before here =
     let front = flat_map f (take n xs) ++ f x in
     let rest = flat_map f (drop (n + 1) xs) in
     let all : front ++ rest ≡ flat_map f xs =
-            ap (λ (lines : List ℕ). lines ++ rest) (lines_next f xs n x stands) ∙ sym (flat_map-append f (take (n + 1) xs) (drop (n + 1) xs)) ∙ ap (flat_map f) (take-append-drop (n + 1) xs) in
+    ap (λ (lines : List ℕ). lines ++ rest) (lines_next f xs n x stands) ∙ sym (flat_map-append f (take (n + 1) xs) (drop (n + 1) xs)) ∙ ap (flat_map f) (take-append-drop (n + 1) xs) in
     subst (AppendsProperPrefix u w) all
     (AppendsProperPrefix-more u w front rest (AppendsProperPrefix-after u v w (flat_map f (take n xs)) (f x) before here))

@@ -36,5 +36,5 @@ Balances s x = (asset : PlainBooks) → slice_get s.assets x ≡ Some asset
     → balances_in s.peers x +ℤ asset.sums.held +ℤ asset.sums.fees +ℤ asset.sums.bought -ℤ asset.sums.sold ≡ asset.sums.settled
 
 -- the trial balance of each asset
-abbrev pub IsBalanced : PlainSnapshot → Type 0
-IsBalanced s = (x : ℕ) → Balances s x
+abbrev pub AreBalanced : PlainSnapshot → Type 0
+AreBalanced s = (x : ℕ) → Balances s x

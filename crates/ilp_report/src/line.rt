@@ -11,7 +11,9 @@ use itoa::Buffer;
 
 // Where the columns end: a label, a name and a number. After them comes LF.
 const LABEL_END: usize = 10;
+
 const NAME_END: usize = 30;
+
 const NUMBER_END: usize = 60;
 
 /// Writes a line: a label, a name and a number, each of which fits its column.

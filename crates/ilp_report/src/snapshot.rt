@@ -1,7 +1,7 @@
 //! What the report of a book tells, apart from the book.
 ghost use Rattle.std.specs.Prelude.{◌≡◌, IfOk};
 ghost use Rattle.ilp_report.specs.Report.{snapshot_of};
-ghost use Rattle.ilp_report.specs.Sound.{IsBalanced};
+ghost use Rattle.ilp_report.specs.Sound.{AreBalanced};
 
 use crate::accounts::{AssetBooks, PeerAccount, accounts_of, all_books_of};
 use crate::amounts::fulfilled;
@@ -21,7 +21,7 @@ pub struct Snapshot<A: Allocator = Global> {
 
 impl<A: Allocator> Model for Snapshot<A> {
     ghost use Rattle.ilp_report.specs.Report.{PlainSnapshot};
-    ghost use Rattle.ilp_report.specs.Sound.{IsBalanced};
+    ghost use Rattle.ilp_report.specs.Sound.{AreBalanced};
 
     ghost Value = { PlainSnapshot };
 
@@ -32,7 +32,7 @@ impl<A: Allocator> Model for Snapshot<A> {
       fulfilled = s.fulfilled;
     } };
 
-    ghost invariant = { λ s. IsBalanced (record {
+    ghost invariant = { λ s. AreBalanced (record {
       peers = s.peers.items;
       assets = s.assets.items;
       entries = s.entries;
@@ -47,6 +47,8 @@ impl<A: Allocator + Copy> Snapshot<A> {
     pub fn of<B: Allocator>(alloc: A, book: &Book<B>) -> Result<Snapshot<A>, AllocError>
         ensures { IfOk result (λ s. s ≡ snapshot_of book.now) }
     {
+        // Called for what its contract tells: that the journal is lawful, and so its books balance.
+        let _ = book.entry(0);
         let fulfilled = fulfilled(book);
         Ok(Snapshot {
             peers: accounts_of(alloc, book)?,
@@ -68,7 +70,7 @@ impl<A: Allocator> Snapshot<A> {
     /// What is told of each asset, in the configuration's order: its books balance.
     pub fn assets(&self) -> &[AssetBooks<A>]
         ensures value { result.now ≡ self.now.assets }
-        ensures balanced { IsBalanced self.now }
+        ensures balanced { AreBalanced self.now }
     {
         &self.assets
     }

@@ -14,7 +14,7 @@ invariant_of-result g c =
     let peer = c.args.peer in
     let same = c.config-config.ensures.value in
     let named : string_bytes c.in_ok-from_str.field-0 ≡ (peer_at book.config peer).name =
-            c.in_ok-from_str.ensures.ok ∙ c.name.ensures ∙ ap (λ (C : Configuration). (peer_at C peer).name) same in
+    c.in_ok-from_str.ensures.ok ∙ c.name.ensures ∙ ap (λ (C : Configuration). (peer_at C peer).name) same in
     let low : FitsSigned w64 c.least.result = search rules in
     let wide : FitsSigned w128 c.balance.result = search rules in
     let owed = to_z-of_z w128 c.balance.result wide ∙ c.balance.ensures.value in

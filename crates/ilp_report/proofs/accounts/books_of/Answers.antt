@@ -15,9 +15,9 @@ invariant_of-result g c =
     let assets = book.config.table.assets in
     let table = c.assets.ensures.value ∙ ap (λ (C : Configuration). C.table) c.config.ensures.value in
     let found : slice_get assets place ≡ Some (plain_asset c.in-Some.asset) =
-            ap (λ (T : PlainTable). slice_get T.assets place) (sym table) ∙ sym c.asset.ensures ∙ ap (option_map plain_asset) c.in-Some.is in
+    ap (λ (T : PlainTable). slice_get T.assets place) (sym table) ∙ sym c.asset.ensures ∙ ap (option_map plain_asset) c.in-Some.is in
     let named : string_bytes c.in_ok-name_of.field-0 ≡ asset_name (asset_at assets place) =
-            c.in_ok-name_of.ensures ∙ sym (ap (λ o. asset_name (unwrap_or o no_asset)) found) in
+    c.in_ok-name_of.ensures ∙ sym (ap (λ o. asset_name (unwrap_or o no_asset)) found) in
     let narrow = sums_are_narrow book c.requires.amounts place in
     record {
       short = subst IsShort (sym named) (asset_name_is_short book.config c.config.ensures.valid place c.requires.known);
