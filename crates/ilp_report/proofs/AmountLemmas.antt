@@ -1,7 +1,7 @@
 -- What amounts of 64 bits come to, in fewer than 2^32 entries, fits its column.
-use Rattle.std.proofs.Common.{◌≡◌, ℕ, zero, suc, ◌+◌, ◌-◌, ◌*◌, ◌^◌, ◌<◌, ◌≤◌, ℤ, pos, negsuc, ◌+ℤ◌, ◌-ℤ◌, ◌≤ℤ◌, Bool, true, false, cond, List, [], ◌∷◌, length, Option, Some, None, refl, sym, subst, arith, lit<, lit≤}
-use Rattle.std.specs.Prelude.{slice_get, option_map, option_and_then, unwrap_or, sum_by, ◌==◌, if◌then◌else◌}
-use Rattle.std.specs.Fmt.{decimal, signed_decimal}
+use Rattle.std.proofs.Common.{◌≡◌, ℕ, suc, ◌+◌, ◌*◌, ◌^◌, ◌<◌, ◌≤◌, ℤ, pos, negsuc, ◌+ℤ◌, ◌-ℤ◌, ◌≤ℤ◌, Bool, true, false, cond, List, [], ◌∷◌, length, Option, Some, None, refl, sym, subst, arith, lit<}
+use Rattle.std.specs.Prelude.{slice_get, option_map, option_and_then, unwrap_or, sum_by, ◌==◌}
+use Rattle.std.specs.Fmt.{decimal}
 use Rattle.std.proofs.lemmas.Fmt.{length-decimal-le_wide}
 use Rattle.std.proofs.lemmas.Int.{ints}
 use Rattle.std.proofs.lemmas.List.Sums.{sum_by-cons}
@@ -14,7 +14,7 @@ use Rattle.ilp_journal.specs.Places.{sum_from}
 use Rattle.ilp_journal.specs.Journal.{Entries, as_hold, as_ask, of_hold, is_unanswered, is_fulfilled, sum_of_holds}
 use Rattle.ilp_journal.specs.Balance.{of_hold_at, of_ask_at, rise, fall, balance}
 use Rattle.ilp_journal.specs.Booked.{most_sum}
-use Rattle.ilp_journal.specs.TrialBalance.{has_asset, amount_in, fee_in, amount_out, held, fees, taken, bought, sold, settled_in, settled_out, settled}
+use Rattle.ilp_journal.specs.TrialBalance.{has_asset, amount_in, fee_in, amount_out, held, fees, taken, sold, settled_in, settled_out, settled}
 use Rattle.ilp_book.specs.Book.{PlainBook}
 use Rattle.ilp_book.specs.Configured.{peer_assets}
 use Rattle.ilp_report.specs.Report.{sums_of}

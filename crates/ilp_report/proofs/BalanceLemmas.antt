@@ -1,5 +1,5 @@
 -- What is told of a book, and the trial balance of it.
-use Rattle.std.proofs.Common.{◌≡◌, ℕ, suc, ◌+◌, ◌<◌, ℤ, pos, ◌+ℤ◌, ◌-ℤ◌, cond, List, [], ◌∷◌, length, map, Some, refl, sym, ap, ◌∙◌, subst, arith}
+use Rattle.std.proofs.Common.{◌≡◌, ℕ, suc, ◌+◌, ◌<◌, pos, ◌+ℤ◌, ◌-ℤ◌, cond, List, [], ◌∷◌, length, map, Some, refl, sym, ap, ◌∙◌, subst, arith}
 use Rattle.std.specs.Prelude.{slice_get, unwrap_or, ◌==◌}
 use Rattle.std.specs.List.{range_with_len}
 use Rattle.std.proofs.lemmas.List.FromFn.{get_or-map-range_with_len, length-map-range_with_len}
@@ -13,7 +13,7 @@ use Rattle.ilp_book.specs.Book.{PlainBook}
 use Rattle.ilp_book.specs.Configured.{peer_assets}
 use Rattle.ilp_book.specs.Lawful.{IsLawful}
 use Rattle.ilp_book.proofs.Runs.{lawful_balanced}
-use Rattle.ilp_report.specs.Report.{PlainAccount, PlainBooks, PlainSnapshot, account_of, books_of, snapshot_of}
+use Rattle.ilp_report.specs.Report.{PlainAccount, PlainBooks, account_of, books_of, snapshot_of}
 use Rattle.ilp_report.specs.Sound.{balances_in, AreBalanced}
 
 -- the parts of what is told of a book

@@ -4,3 +4,4 @@ mod WalkLemmas
 mod NameLemmas
 mod WrittenLemmas
 mod BalanceLemmas
+mod RowProofs

@@ -1,9 +1,11 @@
 -- How a line is made of its columns.
-use Rattle.std.proofs.Common.{◌≡◌, ℕ, ◌+◌, ◌-◌, ◌≤◌, List, [], ◌∷◌, ◌++◌, length, take, drop, replicate, refl, ap, ◌∙◌, sym, arith, append_assoc, length-append, length-drop}
+use Rattle.std.proofs.Common.{◌≡◌, ℕ, ℤ, ◌≤◌, List, [], ◌∷◌, ◌++◌, length, take, drop, ap, ◌∙◌, arith, append_assoc, length-append, length-drop}
 use Rattle.std.proofs.lemmas.List.{length-take, length-replicate, drop-drop}
 use Rattle.std.proofs.lemmas.Slice.{take-put_mid, drop-put_mid, drop-append-drop}
 use Rattle.std.proofs.Math.Seq.{take-append_seam}
-use Rattle.ilp_report.specs.Report.{left, right}
+use Rattle.std.specs.Fmt.{signed_decimal}
+use Rattle.ilp_report.specs.Report.{left, right, line}
+use Rattle.ilp_report.specs.Columns.{IsShort, IsNarrow}
 use borrow.Rule.Slice.PartMut.{put_mid}
 
 -- columns of these widths, in place of what stood in a line, leave room for a third
@@ -36,3 +38,14 @@ length-left width text short = simp (length-append, length-replicate) (omega ari
 
 pub length-right : (width : ℕ) (text : List ℕ) → length text ≤ width → length (right width text) ≡ width
 length-right width text short = simp (length-append, length-replicate) (omega arith)
+
+-- a line whose parts fit their columns
+pub length-line : (label name : List ℕ) (number : ℤ) → length label ≤ 10 → IsShort name → IsNarrow number → length (line label name number) ≡ 61
+unfolding line
+length-line label name number short_label short_name narrow =
+    let a = length-left 10 label short_label in
+    let b = length-left 20 name short_name in
+    let digits = signed_decimal number in
+    let c = length-right 30 digits narrow in
+    let rest = right 30 digits ++ 10 ∷ [] in
+    omega (arith, a, b, c, length-append (left 10 label) (left 20 name ++ rest), length-append (left 20 name) rest, length-append (right 30 digits) (10 ∷ []))

@@ -1,12 +1,12 @@
 -- The names of a valid configuration fit their column.
-use Rattle.std.proofs.Common.{◌≡◌, ℕ, ◌+◌, ◌<◌, ◌≤◌, ◌^◌, List, [], ◌∷◌, ◌++◌, length, refl, sym, ap, subst, arith, lit<, length-append, get_or}
-use Rattle.std.specs.Prelude.{slice_get, unwrap_or, Bool, ◌&&◌, IsTrue, codes}
+use Rattle.std.proofs.Common.{ℕ, ◌<◌, ◌≤◌, ◌++◌, length, sym, subst, arith, lit<, length-append, get_or}
+use Rattle.std.specs.Prelude.{Bool, ◌&&◌, IsTrue, codes}
 use Rattle.std.specs.Fmt.{decimal}
 use Rattle.std.proofs.lemmas.Fmt.{length-decimal-le}
 use Rattle.std.proofs.lemmas.Option.{unwrap_or-slice_get}
 use Rattle.std.proofs.lemmas.List.Elements.{All-get_or}
 use Rattle.std.proofs.lemmas.Bool.Decides.{nat_tests}
-use Rattle.ilp_assets.specs.Assets.{PlainAsset, no_asset, asset_at}
+use Rattle.ilp_assets.specs.Assets.{no_asset, asset_at}
 use Rattle.ilp_accounts.specs.Forms.{is_within}
 use Rattle.ilp_accounts.specs.Configuration.{Configuration, PlainPeer, nobody, peer_at}
 use Rattle.ilp_accounts.specs.Valid.{IsValid, IsPeer, IsAsset}

@@ -1,15 +1,13 @@
 -- A walk over the entries of a journal.
-use Rattle.std.proofs.Common.{◌≡◌, ℕ, zero, suc, ◌+◌, ◌<◌, ◌≤◌, ◌^◌, Bool, true, cond, List, [], ◌∷◌, ◌++◌, length, take, Option, Some, None, is_some, refl, sym, ap, ◌∙◌, subst, arith, below_more, get_or, lit<}
+use Rattle.std.proofs.Common.{◌≡◌, ℕ, zero, suc, ◌+◌, ◌<◌, ◌≤◌, ◌^◌, Bool, true, cond, List, [], ◌∷◌, ◌++◌, length, take, Some, None, is_some, sym, ap, ◌∙◌, subst, arith, below_more}
 use Rattle.std.specs.Prelude.{slice_get, ◌&&◌, nat_le}
 use Rattle.std.proofs.lemmas.Bool.Decides.{nat_tests}
 use Rattle.std.proofs.lemmas.List.{take_more}
-use Rattle.std.proofs.lemmas.Option.{get_or_from_slice_get, slice_get_within, slice_get_past}
+use Rattle.std.proofs.lemmas.Option.{get_or_from_slice_get, slice_get_within}
 use Rattle.ilp_journal.specs.declared.entry.Entry.{Entry}
-use Rattle.ilp_journal.specs.declared.entry.What.{What}
-use Rattle.ilp_journal.specs.declared.entry.What.TheVariants as what
 use Rattle.ilp_journal.specs.Journal.{Entries, fulfilled, fulfilled_since}
 use Rattle.ilp_journal.proofs.Bases.{fulfilled_since-push}
-use Rattle.ilp_report.specs.Amounts.{AreUpTo, AreAmounts, HaveAmounts, HaveAmountsBelow}
+use Rattle.ilp_report.specs.Amounts.{AreAmounts, HaveAmounts, HaveAmountsBelow}
 
 -- a list as far as a place and the element there
 pub take_next : {X : Type 0} (xs : List X) (n : ℕ) (x : X) → slice_get xs n ≡ Some x → take (n + 1) xs ≡ take n xs ++ x ∷ []

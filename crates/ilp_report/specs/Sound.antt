@@ -1,5 +1,5 @@
 -- What every snapshot has.
-use Rattle.std.specs.Prelude.{◌≡◌, ℕ, ◌≤◌, ℤ, pos, ◌≤ℤ◌, ◌+ℤ◌, ◌-ℤ◌, List, length, Some, slice_get, if◌then◌else◌, ◌==◌}
+use Rattle.std.specs.Prelude.{◌≡◌, ℕ, ℤ, pos, ◌≤ℤ◌, ◌+ℤ◌, ◌-ℤ◌, List, Some, slice_get, if◌then◌else◌, ◌==◌}
 use Rattle.ilp_journal.specs.Places.{int_sum_from}
 use Rattle.ilp_book.specs.declared.calls.Sums.{Sums}
 use Rattle.ilp_report.specs.Columns.{IsShort, IsNarrow}

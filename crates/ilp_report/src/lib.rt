@@ -7,6 +7,7 @@
 
 mod accounts;
 mod amounts;
+pub mod laws;
 mod line;
 mod printing;
 mod snapshot;

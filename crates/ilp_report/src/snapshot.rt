@@ -1,6 +1,6 @@
 //! What the report of a book tells, apart from the book.
 ghost use Rattle.std.specs.Prelude.{◌≡◌, IfOk};
-ghost use Rattle.ilp_report.specs.Report.{snapshot_of};
+ghost use Rattle.ilp_report.specs.Report.{snapshot_of, text_of, report_text};
 ghost use Rattle.ilp_report.specs.Sound.{AreBalanced};
 
 use crate::accounts::{AssetBooks, PeerAccount, accounts_of, all_books_of};
@@ -45,7 +45,8 @@ impl<A: Allocator + Copy> Snapshot<A> {
     /// `AllocError` tells that memory is short. The book stays as it is.
     #[tactic(auto, unfolding(crate::specs::Report::snapshot_of))]
     pub fn of<B: Allocator>(alloc: A, book: &Book<B>) -> Result<Snapshot<A>, AllocError>
-        ensures { IfOk result (λ s. s ≡ snapshot_of book.now) }
+        ensures value { IfOk result (λ s. s ≡ snapshot_of book.now) }
+        ensures report { IfOk result (λ s. text_of s ≡ report_text book.now) }
     {
         // Called for what its contract tells: that the journal is lawful, and so its books balance.
         let _ = book.entry(0);

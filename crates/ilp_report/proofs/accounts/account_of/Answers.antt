@@ -1,9 +1,8 @@
-use Rattle.std.proofs.Common.{◌≡◌, rules, subst, sym, ◌∙◌, ap, ◌≤ℤ◌, FitsSigned}
+use Rattle.std.proofs.Common.{◌≡◌, rules, ◌∙◌, ap, FitsSigned}
 use Rattle.std.specs.Prelude.{string_bytes}
 use Rattle.std.specs.Int.{w64, w128}
 use Rattle.std.proofs.lemmas.Int.{to_z-of_z}
 use Rattle.ilp_accounts.specs.Configuration.{Configuration, peer_at}
-use Rattle.ilp_report.specs.Columns.{IsShort, IsNarrow}
 use Rattle.ilp_report.proofs.AmountLemmas.{balance_is_narrow}
 use Rattle.ilp_report.proofs.NameLemmas.{peer_name_is_short}
 use Rattle.ilp_report.proofs.accounts.account_of.Goals as goal
@@ -20,7 +19,7 @@ invariant_of-result g c =
     let owed = to_z-of_z w128 c.balance.result wide ∙ c.balance.ensures.value in
     let least = to_z-of_z w64 c.least.result low ∙ c.least.ensures ∙ ap (λ (C : Configuration). (peer_at C peer).least) same in
     record {
-      short = subst IsShort (sym named) (peer_name_is_short book.config c.config-config.ensures.valid peer c.requires.known);
-      narrow = subst IsNarrow (sym owed) (balance_is_narrow book.entries c.requires.amounts peer);
+      short = rw named (peer_name_is_short book.config c.config-config.ensures.valid peer c.requires.known);
+      narrow = rw owed (balance_is_narrow book.entries c.requires.amounts peer);
       least = rw (owed, least) (c.balance.ensures.least peer c.requires.known);
     }

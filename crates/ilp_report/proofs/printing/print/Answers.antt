@@ -1,5 +1,5 @@
-use Rattle.std.proofs.Common.{◌≡◌, codes, pos, ap, subst}
-use Rattle.std.specs.Prelude.{OnOk, OnErr, [], List, ℕ}
+use Rattle.std.proofs.Common.{codes, pos, ap, subst}
+use Rattle.std.specs.Prelude.{OnOk, OnErr, [], ℕ}
 use Rattle.std.specs.List.{flat_map}
 use Rattle.std.specs.Io.KnownBytes.{Appends}
 use Rattle.ilp_io.specs.Writing.{AppendsProperPrefix}

@@ -1,4 +1,4 @@
-use Rattle.std.proofs.Common.{◌≡◌, ◌∙◌, sym, subst, FitsSigned, rules}
+use Rattle.std.proofs.Common.{◌∙◌, sym, subst, FitsSigned, rules}
 use Rattle.std.specs.Int.{w128}
 use Rattle.std.proofs.lemmas.Int.{to_z-of_z}
 use Rattle.ilp_report.specs.Columns.{IsNarrow}
