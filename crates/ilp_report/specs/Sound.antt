@@ -1,0 +1,40 @@
+-- What every snapshot has.
+use Rattle.std.specs.Prelude.{◌≡◌, ℕ, ℤ, pos, ◌≤ℤ◌, ◌+ℤ◌, ◌-ℤ◌, List, Some, slice_get, if◌then◌else◌, ◌==◌}
+use Rattle.ilp_journal.specs.Places.{int_sum_from}
+use Rattle.ilp_book.specs.declared.calls.Sums.{Sums}
+use Rattle.ilp_report.specs.Columns.{IsShort, IsNarrow}
+use Rattle.ilp_report.specs.Report.{PlainAccount, PlainBooks, PlainSnapshot}
+
+-- ---- peers and assets
+
+-- no balance lies below its peer's least
+pub record IsAccount (peer : PlainAccount) : Type 0 where
+  pub short : IsShort peer.name
+  pub narrow : IsNarrow peer.balance
+  pub least : peer.least ≤ℤ peer.balance
+
+pub record AreNarrow (sums : Sums) : Type 0 where
+  pub settled : IsNarrow sums.settled
+  pub held : IsNarrow sums.held
+  pub fees : IsNarrow sums.fees
+  pub bought : IsNarrow sums.bought
+  pub sold : IsNarrow sums.sold
+
+pub record AreBooks (asset : PlainBooks) : Type 0 where
+  pub short : IsShort asset.name
+  pub narrow : AreNarrow asset.sums
+
+-- ---- all of them
+
+-- the sum of the balances in the asset x
+abbrev pub balances_in : List PlainAccount → ℕ → ℤ
+balances_in peers x = int_sum_from (λ _ (peer : PlainAccount). if x == peer.asset then peer.balance else pos 0) 0 peers
+
+-- the books of x, if it is told of them, sum to what was settled in it
+abbrev pub Balances : PlainSnapshot → ℕ → Type 0
+Balances s x = (asset : PlainBooks) → slice_get s.assets x ≡ Some asset
+    → balances_in s.peers x +ℤ asset.sums.held +ℤ asset.sums.fees +ℤ asset.sums.bought -ℤ asset.sums.sold ≡ asset.sums.settled
+
+-- the trial balance of each asset
+abbrev pub AreBalanced : PlainSnapshot → Type 0
+AreBalanced s = (x : ℕ) → Balances s x
