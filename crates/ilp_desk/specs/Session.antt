@@ -2,6 +2,7 @@
 use Rattle.std.specs.Prelude.{◌≡◌, ℕ, ◌+◌, ◌≤◌, length}
 use Rattle.ilp_book.specs.Book.{PlainBook, Made, Does}
 use Rattle.ilp_accounts.specs.Limits.{most_workers}
+use Rattle.ilp_report.specs.Report.{PlainSnapshot, snapshot_of}
 use Rattle.ilp_desk.specs.Desk.{PlainDesk, IsBookOf, actors_of, booked}
 use Rattle.ilp_desk.specs.Portion.{Portion}
 
@@ -26,3 +27,7 @@ pub record IsSession (desk : PlainDesk) (old new : PlainBook) (before after : Po
 abbrev pub IsReplyAt : {R : Type 0} → PlainDesk → (PlainBook → Made R) → Portion → Portion → R → Type 0
 IsReplyAt desk step before after reply =
     (old new : PlainBook) × IsSession desk old new before after × Does old new reply (step old)
+
+-- What is known of a copy once the lock is let go: it tells all that some book of the desk came to.
+abbrev pub IsCopyOf : PlainDesk → PlainSnapshot → Type 0
+IsCopyOf desk snapshot = (book : PlainBook) × IsBookOf desk book × snapshot ≡ snapshot_of book

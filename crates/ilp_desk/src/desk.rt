@@ -8,7 +8,7 @@ ghost use Rattle.ilp_book.specs.AnswerStep.{answer_step, expire_step};
 ghost use Rattle.ilp_book.specs.SettleStep.{payment, verdict_of, credit_growth, credit_step, ask_growth, ask_step, close_step};
 ghost use Rattle.ilp_desk.specs.Desk.{actors_of, base_of};
 ghost use Rattle.ilp_desk.specs.Opening.{IsWhyNot, IsWorkerCount, first_shares};
-ghost use Rattle.ilp_desk.specs.Session.{IsReplyAt};
+ghost use Rattle.ilp_desk.specs.Session.{IsReplyAt, IsCopyOf};
 
 use crate::locked::LockedBook;
 use crate::naming::Naming;
@@ -19,6 +19,7 @@ use ilp_book::{
 };
 use ilp_journal::Key;
 use ilp_packet::Prepare;
+use ilp_report::Snapshot;
 use ilp_settlement::Quantity;
 use std::alloc::{AllocError, Allocator};
 use std::sync::ledger::Blank;
@@ -219,6 +220,19 @@ impl<J: Naming> Desk<J> {
             (verdict_of accepted)) share.old share.new result }
     {
         self.lock(rt).settle_close(share, number, accepted, now)
+    }
+
+    /// What the report of the book tells, in units of each asset. The copy is made with the lock
+    /// taken, so it is of one moment; `ilp_report::print` writes it when the lock is free again.
+    /// `AllocError` tells that memory is short. Nothing is booked, and no share is raised.
+    pub fn snapshot<A: Allocator + Copy>(
+        &self,
+        rt: &impl Wait,
+        alloc: A,
+    ) -> Result<Snapshot<A>, AllocError>
+        ensures { IfOk result (λ snapshot. IsCopyOf J.desk snapshot) }
+    {
+        self.lock(rt).snapshot(alloc)
     }
 }
 

@@ -7,6 +7,7 @@ ghost use Rattle.ilp_book.specs.Configured.{IsKnown};
 ghost use Rattle.ilp_book.specs.HoldStep.{incoming, hold_step, growth_of};
 ghost use Rattle.ilp_book.specs.AnswerStep.{answer_step, expire_step};
 ghost use Rattle.ilp_book.specs.SettleStep.{payment, verdict_of, credit_growth, credit_step, ask_growth, ask_step, close_step};
+ghost use Rattle.ilp_report.specs.Report.{snapshot_of};
 ghost use Rattle.ilp_desk.specs.Desk.{IsBookOf, actors_of, base_of};
 ghost use Rattle.ilp_desk.specs.Session.{IsSession};
 ghost use Rattle.ilp_desk.specs.Portion.{Holding};
@@ -21,7 +22,9 @@ use ilp_book::{
 };
 use ilp_journal::Key;
 use ilp_packet::Prepare;
+use ilp_report::Snapshot;
 use ilp_settlement::Quantity;
+use std::alloc::{AllocError, Allocator};
 use std::marker::Model;
 use std::sync::ledger;
 
@@ -192,6 +195,15 @@ impl<J: Naming> LockedBook<J> {
         let result = self.book.settle_close(share.actor(), number, accepted, now);
         share.count(&mut self.total, self.book.len() - before);
         result
+    }
+
+    /// What the report of the book tells now, in units of each asset: see `Snapshot::of`. `AllocError`
+    /// tells that memory is short. No share is lent for it, and the book stays as it is.
+    pub fn snapshot<A: Allocator + Copy>(&self, alloc: A) -> Result<Snapshot<A>, AllocError>
+        ensures value { IfOk result (λ snapshot. snapshot ≡ snapshot_of self.now) }
+        ensures of_desk { IsBookOf J.desk self.now }
+    {
+        Snapshot::of(alloc, self.book())
     }
 
     // Closes the book, where each actor hands in one end, with its records of the book. A refusal
