@@ -32,12 +32,7 @@ impl<A: Allocator> Model for Snapshot<A> {
       fulfilled = s.fulfilled;
     } };
 
-    ghost invariant = { λ s. AreBalanced (record {
-      peers = s.peers.items;
-      assets = s.assets.items;
-      entries = s.entries;
-      fulfilled = s.fulfilled;
-    }) };
+    ghost invariant = { λ s. AreBalanced s.peers.items s.assets.items };
 }
 
 impl<A: Allocator + Copy> Snapshot<A> {
@@ -71,7 +66,7 @@ impl<A: Allocator> Snapshot<A> {
     /// What is told of each asset, in the configuration's order: its books balance.
     pub fn assets(&self) -> &[AssetBooks<A>]
         ensures value { result.now ≡ self.now.assets }
-        ensures balanced { AreBalanced self.now }
+        ensures balanced { AreBalanced self.now.peers self.now.assets }
     {
         &self.assets
     }
