@@ -4,7 +4,7 @@ ghost use Rattle.ilp_report.specs.Report.{snapshot_of, text_of, report_text};
 ghost use Rattle.ilp_report.specs.Sound.{AreBalanced};
 
 use crate::accounts::{AssetBooks, PeerAccount, accounts_of, all_books_of};
-use crate::amounts::fulfilled;
+use crate::entries::fulfilled;
 use ilp_book::Book;
 use std::alloc::{AllocError, Allocator, Global};
 use std::marker::Model;
@@ -36,8 +36,8 @@ impl<A: Allocator> Model for Snapshot<A> {
 }
 
 impl<A: Allocator + Copy> Snapshot<A> {
-    /// What the report of a book tells now. It goes over all entries, once for each line.
-    /// `AllocError` tells that memory is short. The book stays as it is.
+    /// What the report of a book tells now. Each line but the last two takes a walk over all entries at
+    /// least. `AllocError` tells that memory is short.
     #[tactic(auto, unfolding(crate::specs::Report::snapshot_of))]
     pub fn of<B: Allocator>(alloc: A, book: &Book<B>) -> Result<Snapshot<A>, AllocError>
         ensures value { IfOk result (λ s. s ≡ snapshot_of book.now) }
