@@ -7,7 +7,7 @@
 Each case has a configuration, ports and tokens of its own, runs `connector serve` over real sockets
 on 127.0.0.1, and is told as `ok` or by what differed from the rules (docs/PROTOCOL.md,
 docs/OPERATING.md). The exit status is 1 where one differs, and 2 where the arguments are not
-understood. Without names all cases are played, which takes some two minutes. It needs Linux and
+understood. Without names all cases are played, which takes some four minutes. It needs Linux and
 Python 3.11, and shares nothing with the crates.
 """
 import signal

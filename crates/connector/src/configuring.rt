@@ -1,6 +1,7 @@
 //! Where a command's configuration comes from.
 
 use crate::Ending;
+use ilp_accounts::{Config, explain};
 use ilp_connector::{BUILT_IN, CONFIG_LIMIT, Refusal, read_config};
 use std::alloc::AllocError;
 use std::io::Read;
@@ -15,6 +16,18 @@ pub(crate) fn octets_of<R: Runtime + AllocGlobal>(rt: &R, path: &str) -> Result<
             Err(AllocError) => Err(Ending::Refused(Refusal::Memory)),
         },
         _ => octets_of_file(rt, path),
+    }
+}
+
+/// The configuration that a path names, or what is told where it is refused.
+pub(crate) fn configured<R: Runtime + AllocGlobal>(rt: &R, path: &str) -> Result<Config, Ending> {
+    let octets = octets_of(rt, path)?;
+    match Config::read(rt.alloc(), &octets) {
+        Ok(config) => Ok(config),
+        Err(fault) => {
+            let why = explain(rt.alloc(), &octets, fault);
+            Err(refused(Refusal::from(fault), why))
+        }
     }
 }
 

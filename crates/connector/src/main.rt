@@ -4,19 +4,20 @@
 
 mod checking;
 mod configuring;
-mod host;
 mod replaying;
 mod serving;
 
 use checking::run_check;
-use host::Host;
 use ilp_connector::{Refusal, describe_packet};
 use replaying::run_replay;
 use serving::run_serve;
 use std::env;
 use std::io::ErrorKind;
+use std::net::{Net, TcpListener, TcpStream};
 use std::process::ExitCode;
 use std::rt::Runtime;
+use std::sync::Wait;
+use std::thread::Threads;
 
 const USAGE: &str = "usage: connector packet HEX, check CONFIG, replay CONFIG, serve CONFIG";
 
@@ -32,27 +33,40 @@ enum Ending {
 }
 
 fn main(rt: HostRuntime) -> ExitCode {
-    ExitCode::from(status(&rt, run(&rt)))
+    let ending = match words(&rt) {
+        Ok((command, argument)) => run(&rt, command.as_str(), argument.as_str()),
+        Err(ending) => ending,
+    };
+    ExitCode::from(status(&rt, ending))
 }
 
-// Runs what the arguments ask for.
-fn run<R: Host>(rt: &R) -> Ending {
+// The command and its argument.
+fn words<R: Runtime + AllocGlobal>(rt: &R) -> Result<(String, String), Ending> {
     let mut words = match env::args(rt) {
         Ok(args) => args.skip(1),
         Err(error) if error.kind() == ErrorKind::OutOfMemory => {
-            return Ending::Refused(Refusal::Memory);
+            return Err(Ending::Refused(Refusal::Memory));
         }
-        Err(_) => return Ending::Misused,
+        Err(_) => return Err(Ending::Misused),
     };
     match (words.next(), words.next(), words.next()) {
-        (Some(command), Some(argument), None) => {
-            run_command(rt, command.as_str(), argument.as_str())
-        }
-        _ => Ending::Misused,
+        (Some(command), Some(argument), None) => Ok((command, argument)),
+        _ => Err(Ending::Misused),
     }
 }
 
-fn run_command<R: Host>(rt: &R, command: &str, argument: &str) -> Ending {
+// Runs what the words ask for.
+fn run<R>(rt: &R, command: &str, argument: &str) -> Ending
+where
+    R: Runtime
+        + AllocGlobal
+        + Net<Listener = TcpListener, Stream = TcpStream>
+        + Threads
+        + Wait
+        + Copy
+        + Send
+        + Sync,
+{
     match (command, argument) {
         ("packet", text) => run_packet(rt, text),
         ("check", path) => run_check(rt, path),

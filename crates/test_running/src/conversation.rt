@@ -4,11 +4,10 @@ use crate::messages::{
     ACCOUNT, ANSWERED, CLOSE, CLOSED, CREATED, CREDIT, CREDITED, FROM_ALICE, FULFILL, PASSED_ON,
     PREPARE, SETTLEMENT, TO_BOB, message,
 };
-use crate::sockets::{answer, ask, hear};
+use crate::sockets::{answer, hear, receive, send};
 use std::alloc::Global;
 use std::io;
 use std::net::{Net, TcpListener, TcpStream};
-use std::thread::{Threads, join};
 use std::time::Clock;
 
 const PEERS: &str = "127.0.0.1:7768";
@@ -26,36 +25,27 @@ pub(crate) struct Others<'a> {
 /// whether all was as it should be.
 pub(crate) fn converse<R>(rt: &R, alloc: Global, others: &Others<'_>) -> io::Result<bool>
 where
-    R: Net<Stream = TcpStream> + Threads + Clock + Sync,
+    R: Net<Stream = TcpStream> + Clock,
 {
     let forwarded = forward_two(rt, alloc, others.bob);
     let settled = settle(rt, alloc, others.engine);
-    let closed = ask(rt, alloc, ENGINES, CLOSE)?;
+    let closed = ask(rt, alloc, CLOSE)?;
     Ok(forwarded? && settled? && closed.as_slice() == CLOSED)
 }
 
 // Alice sends two packets at once, and bob's server answers neither until it has both.
 fn forward_two<R>(rt: &R, alloc: Global, bob: &TcpListener) -> io::Result<bool>
 where
-    R: Net<Stream = TcpStream> + Threads + Clock + Sync,
+    R: Net<Stream = TcpStream> + Clock,
 {
     let request = message(alloc, FROM_ALICE, PREPARE)?;
     let response = message(alloc, ANSWERED, FULFILL)?;
-    let request = request.as_slice();
-    let (heard, (first, second)) = join(
-        rt,
-        || hear_two(rt, alloc, bob),
-        || {
-            join(
-                rt,
-                || ask(rt, alloc, PEERS, request),
-                || ask(rt, alloc, PEERS, request),
-            )
-        },
-    );
-    let first = first?.as_slice() == response.as_slice();
-    let second = second?.as_slice() == response.as_slice();
-    Ok(heard? && first && second)
+    let mut first = send(rt, PEERS, request.as_slice())?;
+    let mut second = send(rt, PEERS, request.as_slice())?;
+    let is_heard = hear_two(rt, alloc, bob)?;
+    let first = receive(alloc, &mut first)?.as_slice() == response.as_slice();
+    let second = receive(alloc, &mut second)?.as_slice() == response.as_slice();
+    Ok(is_heard && first && second)
 }
 
 // Bob's server, for two packets.
@@ -72,10 +62,10 @@ fn hear_two(rt: &impl Clock, alloc: Global, bob: &TcpListener) -> io::Result<boo
 // Bob's engine is told of the account and tells of a settlement, after which it is asked for one.
 fn settle<R>(rt: &R, alloc: Global, engine: &TcpListener) -> io::Result<bool>
 where
-    R: Net<Stream = TcpStream> + Threads + Clock + Sync,
+    R: Net<Stream = TcpStream> + Clock,
 {
     let is_told = hear_and_take(rt, alloc, engine, ACCOUNT)?;
-    let credited = ask(rt, alloc, ENGINES, CREDIT)?;
+    let credited = ask(rt, alloc, CREDIT)?;
     let is_asked = hear_and_take(rt, alloc, engine, SETTLEMENT)?;
     Ok(is_told && is_asked && credited.as_slice() == CREDITED)
 }
@@ -90,4 +80,13 @@ fn hear_and_take(
     let (mut stream, is_heard) = hear(rt, alloc, engine, request)?;
     answer(&mut stream, CREATED)?;
     Ok(is_heard)
+}
+
+// Asks for something at the side of the engines, and gives what is answered.
+fn ask<R>(rt: &R, alloc: Global, request: &[u8]) -> io::Result<Vec<u8>>
+where
+    R: Net<Stream = TcpStream> + Clock,
+{
+    let mut stream = send(rt, ENGINES, request)?;
+    receive(alloc, &mut stream)
 }

@@ -9,16 +9,20 @@ use std::{io, thread};
 // How often is waited for a millisecond until somebody listens or connects.
 const TURNS: u32 = 10_000;
 
-/// Sends a request, and reads all that is answered.
-pub(crate) fn ask<R: Net<Stream = TcpStream> + Clock>(
+/// Sends a request over a connection of its own.
+pub(crate) fn send<R: Net<Stream = TcpStream> + Clock>(
     rt: &R,
-    alloc: Global,
     place: &str,
     request: &[u8],
-) -> io::Result<Vec<u8>> {
+) -> io::Result<TcpStream> {
     let mut stream = connect(rt, place)?;
     stream.set_read_timeout(Some(Duration::from_secs(30)))?;
     stream.write_all(request)?;
+    Ok(stream)
+}
+
+/// Reads all that is answered.
+pub(crate) fn receive(alloc: Global, stream: &mut TcpStream) -> io::Result<Vec<u8>> {
     let mut answer = Vec::new(alloc);
     stream.read_to_end(&mut answer)?;
     Ok(answer)

@@ -62,6 +62,9 @@ where
         + Send
         + Sync,
 {
+    if config.peers() < 2 {
+        return Ok(false);
+    }
     let bob = TcpListener::bind(rt, config.host(1))?;
     let engine = TcpListener::bind(rt, config.engine(1).unwrap_or(""))?;
     let notices = Notices::new(alloc, config)?;
