@@ -32,7 +32,7 @@ STATUSES = {
     431: ("Request Header Fields Too Large", "FieldsTooLarge"),
     502: ("Bad Gateway", "BadGateway"), 503: ("Service Unavailable", "Unavailable")}
 OWN = {401: ["WWW-Authenticate: Bearer"], 405: ["Allow: POST"]}
-OCTETS, JSON = "application/octet-stream", "application/json"
+OCTETS, JSON, TEXT = "application/octet-stream", "application/json", "text/plain"
 
 
 def head(code, kind, body):
@@ -52,15 +52,17 @@ def digits(octets):
 
 
 def shown(text):
-    """The lines of a head, in quotes and with their ends."""
-    lines = text.replace("\r\n", "\r\n\0").split("\0")
-    return ['"' + line.replace("\r\n", r"\r\n") + '"' for line in lines if line]
+    """The lines of a head or of a report, in quotes and with their ends."""
+    lines = text.replace("\n", "\n\0").split("\0")
+    return ['"' + line.replace("\r", r"\r").replace("\n", r"\n") + '"' for line in lines if line]
 
 
 def response(code, body=b"", kind=OCTETS, handled=None):
     """What became of a connection, and the response."""
-    told = body.decode() if kind == JSON else digits(body)
-    return [handled or f"Done({STATUSES[code][1]})", *shown(head(code, kind, body)), f"body: {told}"]
+    begin = [handled or f"Done({STATUSES[code][1]})", *shown(head(code, kind, body))]
+    if kind == TEXT:
+        return begin + shown(body.decode())
+    return begin + [f"body: {body.decode() if kind == JSON else digits(body)}"]
 
 
 def post(target, *fields, body=b"", length=None, line=None):
@@ -107,6 +109,21 @@ def settled(told, body, key="k", name="alice", credited=None, moment=START):
 
 def moments(moment):
     return [] if moment is None else [moment]
+
+
+def column(label, name, number):
+    """A line of the report."""
+    return f"{label:<10}{name:<20}{number:>30}\n"
+
+
+def report(alice, bob, paid, credited, entries, fulfilled, **request):
+    """The report, where alice paid bob so much in all, and no fee is taken, and no hold is open."""
+    sums = {"held": 0, "fees": 0, "bought": paid, "sold": paid, "settled": credited}
+    lines = [column("balance", "alice", alice), column("balance", "bob", bob),
+             column("open", "alice", 0), column("open", "bob", 0)]
+    lines += [column(label, "USD/2", number) for label, number in sums.items()]
+    lines += [column("entries", "", entries), column("fulfilled", "", fulfilled)]
+    return at_engines(response(200, "".join(lines).encode(), TEXT), "/report", **request)
 
 
 def message(told, body=MESSAGE, name="bob"):
@@ -286,7 +303,7 @@ KEYS = [
     settled([], quantity(5, 2), key=LONG_KEY, name="bob", credited=5),
     settled([], quantity(7, 2), key="a key", credited=7),
 ]
-FOUND_NOWHERE = ["/", "/ilp", "/report", "/Close", "/close/", "/close?x", "/accounts",
+FOUND_NOWHERE = ["/", "/ilp", "/report/", "/Report", "/Close", "/close/", "/close?x", "/accounts",
                  "/accounts/alice", "/accounts/alice/", "/accounts/carol/settlements",
                  "/accounts//settlements", "/accounts/alice/settlements/",
                  "/accounts/alice/settlements?x=1", "/accounts/carol/messages",
@@ -324,6 +341,13 @@ ENGINES = [
           + [at_engines(status(405), SETTLEMENTS, line="GET /close HTTP/1.1"),
              at_engines(status(411), SETTLEMENTS, "Idempotency-Key: k", body=ROW, length=[])],
           NOTHING),
+    scene("reports of the book",
+          [report(0, 0, 0, 0, 0, 0),
+           packet(HELD, P1, reply=FULFILL),
+           settled([], ROW, credited=199),
+           report(99, 100, 100, 199, 3, 1, body=MESSAGE)],
+          actor(0, 3, ended(1, 0), credit_record(2, 199)) + actor(2, 0) + held(0) + closed(1, 0)
+          + credited(2, 199) + balance(99, 100), bob=FULFILL),
     scene("the end that is asked for",
           [at_engines(response(200, handled="Close"), "/close"),
            at_engines(response(200, handled="Close"), "/close", body=MESSAGE)], NOTHING),

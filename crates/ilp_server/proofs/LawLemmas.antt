@@ -6,7 +6,7 @@ use Rattle.ilp_accounts.specs.Valid.{IsValid}
 use Rattle.ilp_server.specs.declared.target.Side.{Side}
 use Rattle.ilp_server.specs.declared.target.Side.TheVariants.{Ilp, Engine}
 use Rattle.ilp_server.specs.declared.target.Target.{Target}
-use Rattle.ilp_server.specs.declared.target.Target.TheVariants.{Packet, Settlement, Message, Close}
+use Rattle.ilp_server.specs.declared.target.Target.TheVariants.{Packet, Settlement, Message, Report, Close}
 use Rattle.ilp_server.specs.Targets.{account_target, IsOfPeer, AsksFor}
 use Rattle.ilp_server.specs.Fields.{ShowsToken, IsFrom}
 use Rattle.ilp_server.proofs.PeerLemmas.{one_peer}
@@ -31,6 +31,18 @@ no_close path call name is also =
     let c_is_a : 99 ≡ 97 = ap (λ l. get_or l 1 0) (sym also ∙ is) in
     absurd (omega (arith, c_is_a))
 
+-- or asks for the report
+no_report : (path call name : List ℕ) → path ≡ account_target call name → path ≡ codes "/report" → ⊥
+no_report path call name is also =
+    let r_is_a : 114 ≡ 97 = ap (λ l. get_or l 1 0) (sym also ∙ is) in
+    absurd (omega (arith, r_is_a))
+
+-- who asks for the report does not close the connector
+no_report_closes : (path : List ℕ) → path ≡ codes "/report" → path ≡ codes "/close" → ⊥
+no_report_closes path is also =
+    let r_is_c : 114 ≡ 99 = ap (λ l. get_or l 1 0) (sym is ∙ also) in
+    absurd (omega (arith, r_is_c))
+
 -- a path is that of one peer
 of_one_peer : (C : Configuration) → IsValid C → (call path : List ℕ) (p q : ℕ) → IsOfPeer C (account_target call) path p → IsOfPeer C (account_target call) path q → p ≡ q
 of_one_peer C valid call path p q is also =
@@ -42,22 +54,32 @@ pub one_target : (C : Configuration) (side : Side) (path : List ℕ) (target oth
 one_target C Ilp path Packet Packet valid is also = refl
 one_target C Ilp path Packet (Settlement q) valid is also = absurd also
 one_target C Ilp path Packet (Message q) valid is also = absurd also
+one_target C Ilp path Packet Report valid is also = absurd also
 one_target C Ilp path Packet Close valid is also = absurd also
 one_target C Ilp path (Settlement p) other valid is also = absurd is
 one_target C Ilp path (Message p) other valid is also = absurd is
+one_target C Ilp path Report other valid is also = absurd is
 one_target C Ilp path Close other valid is also = absurd is
 one_target C Engine path Packet other valid is also = absurd is
 one_target C Engine path (Settlement p) Packet valid is also = absurd also
 one_target C Engine path (Settlement p) (Settlement q) valid is also = ap Settlement (of_one_peer C valid (codes "/settlements") path p q is also)
 one_target C Engine path (Settlement p) (Message q) valid is also = absurd (no_message path (peer_at C p).name (peer_at C q).name is.named also.named)
+one_target C Engine path (Settlement p) Report valid is also = absurd (no_report path (codes "/settlements") (peer_at C p).name is.named also)
 one_target C Engine path (Settlement p) Close valid is also = absurd (no_close path (codes "/settlements") (peer_at C p).name is.named also)
 one_target C Engine path (Message p) Packet valid is also = absurd also
 one_target C Engine path (Message p) (Settlement q) valid is also = absurd (no_message path (peer_at C q).name (peer_at C p).name also.named is.named)
 one_target C Engine path (Message p) (Message q) valid is also = ap Message (of_one_peer C valid (codes "/messages") path p q is also)
+one_target C Engine path (Message p) Report valid is also = absurd (no_report path (codes "/messages") (peer_at C p).name is.named also)
 one_target C Engine path (Message p) Close valid is also = absurd (no_close path (codes "/messages") (peer_at C p).name is.named also)
+one_target C Engine path Report Packet valid is also = absurd also
+one_target C Engine path Report (Settlement q) valid is also = absurd (no_report path (codes "/settlements") (peer_at C q).name also.named is)
+one_target C Engine path Report (Message q) valid is also = absurd (no_report path (codes "/messages") (peer_at C q).name also.named is)
+one_target C Engine path Report Report valid is also = refl
+one_target C Engine path Report Close valid is also = absurd (no_report_closes path is also)
 one_target C Engine path Close Packet valid is also = absurd also
 one_target C Engine path Close (Settlement q) valid is also = absurd (no_close path (codes "/settlements") (peer_at C q).name also.named is)
 one_target C Engine path Close (Message q) valid is also = absurd (no_close path (codes "/messages") (peer_at C q).name also.named is)
+one_target C Engine path Close Report valid is also = absurd (no_report_closes path also is)
 one_target C Engine path Close Close valid is also = refl
 
 -- fields show the token of one peer

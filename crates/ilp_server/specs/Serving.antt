@@ -14,7 +14,9 @@ use Rattle.ilp_book.specs.declared.calls.Kept.{Kept}
 use Rattle.ilp_book.specs.declared.fault.CreditFault.{CreditFault}
 use Rattle.ilp_book.specs.Configured.{scale_at}
 use Rattle.ilp_book.specs.SettleStep.{payment}
-use Rattle.ilp_desk.specs.Desk.{PlainDesk}
+use Rattle.ilp_book.specs.Book.{PlainBook}
+use Rattle.ilp_report.specs.Report.{report_text}
+use Rattle.ilp_desk.specs.Desk.{PlainDesk, IsBookOf}
 use Rattle.ilp_workers.specs.declared.reply.BadPacket.{BadPacket}
 use Rattle.ilp_workers.specs.declared.reply.Receipt.{Receipt}
 use Rattle.ilp_workers.specs.declared.messaging.MessageFault.{MessageFault}
@@ -28,7 +30,7 @@ use Rattle.ilp_server.specs.declared.target.Target.TheVariants as target
 use Rattle.ilp_server.specs.declared.unserved.NotServed.{NotServed}
 use Rattle.ilp_server.specs.declared.unserved.NotServed.TheVariants as unserved
 use Rattle.ilp_server.specs.declared.served.Served.{Served}
-use Rattle.ilp_server.specs.declared.served.Served.TheVariants.{Packet, Settlement, Message, Closing}
+use Rattle.ilp_server.specs.declared.served.Served.TheVariants.{Packet, Settlement, Message, Report, Closing}
 use Rattle.ilp_server.specs.Targets.{AsksFor}
 use Rattle.ilp_server.specs.Fields.{values_in, IsFrom, IsKeyAmong}
 use Rattle.ilp_server.specs.Statuses.{status_of}
@@ -61,11 +63,12 @@ abbrev pub bare : Status → Reply
 bare s = reply s kind.Text []
 
 -- The response to what became of a request: the octets by which a worker answers the packet, the quantity that was credited, what
--- the peer's engine answered, or nothing but a status.
+-- the peer's engine answered, the report, or nothing but a status.
 abbrev pub reply_to : PlainWorker → Result Served NotServed → Reply
 reply_to worker (Ok Packet) = reply status.Ok kind.OctetStream worker.reply
 reply_to worker (Ok (Settlement text)) = reply status.Created kind.Json text.octets
 reply_to worker (Ok Message) = reply status.Created kind.OctetStream (unwrap_or (answer_of (Some worker.reply)) [])
+reply_to worker (Ok (Report text)) = reply status.Ok kind.Text text.items
 reply_to worker (Ok Closing) = bare status.Ok
 reply_to worker (Err why) = bare (status_of why)
 
@@ -120,11 +123,18 @@ abbrev pub ServesMessage : PlainDesk → ℕ → List ℕ → PlainWorker → Pl
 ServesMessage desk peer body before after outcome =
     (sent : Result (Unit {0}) MessageFault) × Messages desk.config peer body before after sent × (outcome ≡ message_outcome sent)
 
+-- A report: that of some book of the desk; or there is no memory for it.
+abbrev pub ServesReport : PlainDesk → Result Served NotServed → Type 0
+ServesReport desk (Ok (Report text)) = (book : PlainBook) × IsBookOf desk book × (text.items ≡ report_text book)
+ServesReport desk (Ok other) = ⊥
+ServesReport desk (Err why) = why ≡ unserved.Memory
+
 -- by what the request asks for
 abbrev pub ServesTarget : PlainDesk → Inquiry → Target → PlainWorker → PlainWorker → Result Served NotServed → Type 0
 ServesTarget desk i target.Packet before after outcome = ServesPacket desk i.headers i.body before after outcome
 ServesTarget desk i (target.Settlement peer) before after outcome = ServesSettlement desk peer i.headers i.body before after outcome
 ServesTarget desk i (target.Message peer) before after outcome = ServesMessage desk peer i.body before after outcome
+ServesTarget desk i target.Report before after outcome = ServesReport desk outcome × (after ≡ before)
 ServesTarget desk i target.Close before after outcome = (outcome ≡ Ok Closing) × (after ≡ before)
 
 -- What asks for nothing is turned away, whatever else it has.

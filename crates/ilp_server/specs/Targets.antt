@@ -4,7 +4,7 @@ use Rattle.ilp_accounts.specs.Configuration.{Configuration, peer_at}
 use Rattle.ilp_server.specs.declared.target.Side.{Side}
 use Rattle.ilp_server.specs.declared.target.Side.TheVariants.{Ilp, Engine}
 use Rattle.ilp_server.specs.declared.target.Target.{Target}
-use Rattle.ilp_server.specs.declared.target.Target.TheVariants.{Packet, Settlement, Message, Close}
+use Rattle.ilp_server.specs.declared.target.Target.TheVariants.{Packet, Settlement, Message, Report, Close}
 
 -- the target of a call for an account, by its name
 abbrev pub account_target : List ℕ → List ℕ → List ℕ
@@ -28,8 +28,10 @@ abbrev pub AsksFor : Configuration → Side → List ℕ → Target → Type 0
 AsksFor C Ilp path Packet = path ≡ C.settings.path
 AsksFor C Ilp path (Settlement peer) = ⊥
 AsksFor C Ilp path (Message peer) = ⊥
+AsksFor C Ilp path Report = ⊥
 AsksFor C Ilp path Close = ⊥
 AsksFor C Engine path Packet = ⊥
 AsksFor C Engine path (Settlement peer) = IsOfPeer C settlements_target path peer
 AsksFor C Engine path (Message peer) = IsOfPeer C messages_target path peer
+AsksFor C Engine path Report = path ≡ codes "/report"
 AsksFor C Engine path Close = path ≡ codes "/close"

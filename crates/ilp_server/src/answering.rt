@@ -76,6 +76,7 @@ fn respond<
         Ok(Served::Packet) => send(sink, Status::Ok, Kind::OctetStream, worker.reply()),
         Ok(Served::Settlement(text)) => { send(sink, Status::Created, Kind::Json, text.as_slice()) }
         Ok(Served::Message) => send(sink, Status::Created, Kind::OctetStream, worker.answer()),
+        Ok(Served::Report(text)) => send(sink, Status::Ok, Kind::Text, text.as_slice()),
         Ok(Served::Closing) => match send(sink, Status::Ok, Kind::Text, &[]) {
             Handled::Done(_) => Handled::Close,
             other => other,

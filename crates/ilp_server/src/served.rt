@@ -11,6 +11,8 @@ pub(crate) enum Served {
     Settlement(Octets),
     // What the peer's engine answered.
     Message,
+    // The report of the book.
+    Report(Vec<u8>),
     // Nothing: the connector is asked to close.
     Closing,
 }

@@ -1,6 +1,6 @@
 //! Serving a request that was read, by what its target asks for.
 ghost use Rattle.ilp_book.specs.Configured.{IsKnown};
-ghost use Rattle.ilp_server.specs.Serving.{inquiry, Serves, ServesPacket, ServesSettlement, ServesPayment, ServesMessage};
+ghost use Rattle.ilp_server.specs.Serving.{inquiry, Serves, ServesPacket, ServesSettlement, ServesPayment, ServesMessage, ServesReport};
 
 use crate::fields::{key_of, sender_of};
 use crate::quantity::{LONGEST_QUANTITY, put_quantity};
@@ -11,6 +11,7 @@ use ilp_desk::{Desk, Naming};
 use ilp_http::Request;
 use ilp_journal::Key;
 use ilp_oer::Octets;
+use ilp_report::print;
 use ilp_settlement::Quantity;
 use ilp_workers::{Clock, EngineLink, Uplink, Worker};
 use std::alloc::{Allocator, Global};
@@ -41,6 +42,7 @@ pub(crate) fn serve<
             serve_settlement(rt, alloc, worker, desk, peer, request)
         }
         Some(Target::Message { peer }) => serve_message(worker, desk, peer, request.body),
+        Some(Target::Report) => serve_report(rt, alloc, desk),
         Some(Target::Close) => Ok(Served::Closing),
     }
 }
@@ -131,5 +133,23 @@ fn serve_message<J: Naming, C: Clock + Drop, U: Uplink + Drop, E: EngineLink + D
     match worker.message(desk, peer, body) {
         Ok(()) => Ok(Served::Message),
         Err(fault) => Err(NotServed::Message(fault)),
+    }
+}
+
+// Tells the balances. The copy of the book is made under its lock, and written without it.
+fn serve_report<J: Naming>(
+    rt: &impl Wait,
+    alloc: Global,
+    desk: &Desk<J>,
+) -> Result<Served, NotServed>
+    ensures { ServesReport J.desk result }
+{
+    let Ok(snapshot) = desk.snapshot(rt, alloc) else {
+        return Err(NotServed::Memory);
+    };
+    let mut text = Vec::new(alloc);
+    match print(&snapshot, &mut text) {
+        Ok(()) => Ok(Served::Report(text)),
+        Err(_) => Err(NotServed::Memory),
     }
 }

@@ -23,6 +23,8 @@ pub enum Target {
     Settlement { peer: u32 },
     /// Hand a message to the peer's settlement engine.
     Message { peer: u32 },
+    /// Tell the balances.
+    Report,
     /// Close the connector.
     Close,
 }
@@ -48,6 +50,9 @@ fn engine_target(config: &Config, path: &[u8]) -> Option<Target>
 {
     if path == b"/close".as_slice() {
         return Some(Target::Close);
+    }
+    if path == b"/report".as_slice() {
+        return Some(Target::Report);
     }
     if let Some(peer) = peer_in(config, path, b"/settlements") {
         return Some(Target::Settlement { peer });

@@ -50,20 +50,28 @@ pub(crate) fn answer<
     print_response(rt, alloc, &sink.recording.octets)
 }
 
-// Prints the lines of the head with their ends, and then the body.
+// Prints the lines of the head with their ends, and then the body: a report as lines too.
 fn print_response(rt: &impl Print, alloc: Global, octets: &[u8]) -> io::Result<()> {
     let (head, body) = octets
         .split_at_checked(head_length(octets))
         .unwrap_or((octets, b""));
-    let head = str::from_utf8(head).unwrap_or("no text");
-    for line in head.split_inclusive('\n') {
-        println!(rt; "{line:?}")?;
-    }
-    if body.starts_with(b"{") {
+    print_lines(rt, head)?;
+    if body.starts_with(b"balance ") {
+        print_lines(rt, body)
+    } else if body.starts_with(b"{") {
         println!(rt; "body: {}", str::from_utf8(body).unwrap_or("no text"))
     } else {
         print_octets(rt, alloc, "body", body)
     }
+}
+
+// Prints lines with their ends.
+fn print_lines(rt: &impl Print, octets: &[u8]) -> io::Result<()> {
+    let text = str::from_utf8(octets).unwrap_or("no text");
+    for line in text.split_inclusive('\n') {
+        println!(rt; "{line:?}")?;
+    }
+    Ok(())
 }
 
 // How many octets there are up to the first empty line, and with it.
