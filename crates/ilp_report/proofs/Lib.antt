@@ -1,0 +1,7 @@
+mod LineLemmas
+mod AmountLemmas
+mod WalkLemmas
+mod NameLemmas
+mod WrittenLemmas
+mod BalanceLemmas
+mod RowProofs

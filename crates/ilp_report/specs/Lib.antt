@@ -1,0 +1,12 @@
+pub mod Report
+pub mod Columns
+pub mod Sound
+pub mod Amounts
+pub mod Rows
+pub use Rattle.ilp_assets.specs.Assets
+pub use Rattle.ilp_accounts.specs.Configuration
+pub use Rattle.ilp_journal.specs.Journal
+pub use Rattle.ilp_journal.specs.Balance
+pub use Rattle.ilp_journal.specs.TrialBalance
+pub use Rattle.ilp_book.specs.Book
+pub use Rattle.ilp_book.specs.Configured
