@@ -23,8 +23,8 @@ use std::sync::Wait;
 /// failed, or nothing was written, since a read failed or memory for the fields was denied. What is
 /// refused, as octets or later, is answered with a status and an empty body, and leaves the worker
 /// as it was unless a packet, a credit or a message was tried. What was booked stays, whatever
-/// becomes of the response. `alloc` is for the fields, for a report, and for the JSON of a quantity and its answer;
-/// room for that is made before anything is booked.
+/// becomes of the response. `alloc` is for the fields, for a report, and for the JSON of a quantity
+/// and its answer; room for that answer is made before anything is booked.
 pub fn answer_connection<
     J: Naming,
     C: Clock + Drop,
