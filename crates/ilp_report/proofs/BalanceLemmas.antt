@@ -1,4 +1,4 @@
--- What is told of a book, and the trial balance of it.
+-- The trial balance of what is told of a book.
 use Rattle.std.proofs.Common.{◌≡◌, ℕ, suc, ◌+◌, ◌<◌, pos, ◌+ℤ◌, ◌-ℤ◌, cond, List, [], ◌∷◌, length, map, Some, refl, sym, ap, ◌∙◌, subst, arith}
 use Rattle.std.specs.Prelude.{slice_get, unwrap_or, ◌==◌}
 use Rattle.std.specs.List.{range_with_len}
@@ -6,24 +6,14 @@ use Rattle.std.proofs.lemmas.List.FromFn.{get_or-map-range_with_len, length-map-
 use Rattle.std.proofs.lemmas.Option.{get_or_from_slice_get, slice_get_within}
 use Rattle.ilp_accounts.specs.Configuration.{PlainPeer, nobody, peer_at}
 use Rattle.ilp_journal.specs.Places.{int_sum_from}
-use Rattle.ilp_journal.specs.Journal.{fulfilled_since}
 use Rattle.ilp_journal.specs.Balance.{balance}
 use Rattle.ilp_journal.specs.TrialBalance.{balances}
 use Rattle.ilp_book.specs.Book.{PlainBook}
 use Rattle.ilp_book.specs.Configured.{peer_assets}
 use Rattle.ilp_book.specs.Lawful.{IsLawful}
 use Rattle.ilp_book.proofs.Runs.{lawful_balanced}
-use Rattle.ilp_report.specs.Report.{PlainAccount, PlainBooks, account_of, books_of, snapshot_of}
+use Rattle.ilp_report.specs.Report.{PlainAccount, PlainBooks, account_of, books_of}
 use Rattle.ilp_report.specs.Sound.{balances_in, AreBalanced}
-
--- the parts of what is told of a book
-pub parts_are_told : (book : PlainBook) (peers : List PlainAccount) (assets : List PlainBooks) (entries fulfilled : ℕ)
-    → peers ≡ map (account_of book) (range_with_len 0 (length book.config.peers)) → assets ≡ map (books_of book) (range_with_len 0 (length book.config.table.assets))
-    → entries ≡ length book.entries → fulfilled ≡ fulfilled_since 0 book.entries
-    → record { peers = peers; assets = assets; entries = entries; fulfilled = fulfilled } ≡ snapshot_of book
-unfolding snapshot_of
-parts_are_told book peers assets entries fulfilled same_peers same_assets same_entries same_fulfilled =
-    rw (same_peers, same_assets, same_entries, same_fulfilled) refl
 
 -- the balances of the peers from a place on, by what is told of them and by the journal
 balances_from : (book : PlainBook) (x n : ℕ) (ps : List PlainPeer) → ((i : ℕ) (p : PlainPeer) → slice_get ps i ≡ Some p → peer_at book.config (n + i) ≡ p)
@@ -39,8 +29,8 @@ balances_from book x n (p ∷ ps) stand =
     ap (λ (q : PlainPeer). cond (x == q.asset) (balance book.entries n) (pos 0) +ℤ told) here ∙ ap (λ z. cond (x == p.asset) (balance book.entries n) (pos 0) +ℤ z) more
 
 -- all of them
-balances_are : (book : PlainBook) (x : ℕ) → balances_in (snapshot_of book).peers x ≡ balances (peer_assets book.config) book.entries x
-unfolding snapshot_of balances
+balances_are : (book : PlainBook) (x : ℕ) → balances_in (map (account_of book) (range_with_len 0 (length book.config.peers))) x ≡ balances (peer_assets book.config) book.entries x
+unfolding balances
 balances_are book x =
     balances_from book x 0 book.config.peers
     (λ i p stands. let place : 0 + i ≡ i = omega arith in ap (peer_at book.config) place ∙ ap (λ o. unwrap_or o nobody) stands)
@@ -52,11 +42,15 @@ told_at f n x y stands =
     let within : x < n = omega (arith, slice_get_within all x y stands, length-map-range_with_len f 0 n) in
     sym (get_or-map-range_with_len f 0 n x x y within (omega arith)) ∙ get_or_from_slice_get all x y y stands
 
--- the books of each asset balance
-pub snapshot_is_balanced : (book : PlainBook) → IsLawful book → AreBalanced (snapshot_of book)
-unfolding snapshot_of books_of
-snapshot_is_balanced book lawful x asset stands =
-    let told : books_of book x ≡ asset = told_at (books_of book) (length book.config.table.assets) x asset stands in
+-- what is told of the peers and the assets of a lawful book balances
+pub told_balance : (book : PlainBook) (peers : List PlainAccount) (assets : List PlainBooks) → IsLawful book
+    → peers ≡ map (account_of book) (range_with_len 0 (length book.config.peers)) → assets ≡ map (books_of book) (range_with_len 0 (length book.config.table.assets))
+    → AreBalanced peers assets
+unfolding books_of
+told_balance book peers assets lawful same_peers same_assets x asset stands =
+    let here = subst (λ (l : List PlainBooks). slice_get l x ≡ Some asset) same_assets stands in
+    let told : books_of book x ≡ asset = told_at (books_of book) (length book.config.table.assets) x asset here in
     let sums = (books_of book x).sums in
-    subst (λ (a : PlainBooks). balances_in (snapshot_of book).peers x +ℤ a.sums.held +ℤ a.sums.fees +ℤ a.sums.bought -ℤ a.sums.sold ≡ a.sums.settled) told
-    (ap (λ z. z +ℤ sums.held +ℤ sums.fees +ℤ sums.bought -ℤ sums.sold) (balances_are book x) ∙ lawful_balanced book x lawful)
+    subst (λ (a : PlainBooks). balances_in peers x +ℤ a.sums.held +ℤ a.sums.fees +ℤ a.sums.bought -ℤ a.sums.sold ≡ a.sums.settled) told
+    (ap (λ (l : List PlainAccount). balances_in l x +ℤ sums.held +ℤ sums.fees +ℤ sums.bought -ℤ sums.sold) same_peers
+    ∙ ap (λ z. z +ℤ sums.held +ℤ sums.fees +ℤ sums.bought -ℤ sums.sold) (balances_are book x) ∙ lawful_balanced book x lawful)

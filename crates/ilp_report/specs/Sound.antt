@@ -3,7 +3,7 @@ use Rattle.std.specs.Prelude.{◌≡◌, ℕ, ℤ, pos, ◌≤ℤ◌, ◌+ℤ◌
 use Rattle.ilp_journal.specs.Places.{int_sum_from}
 use Rattle.ilp_book.specs.declared.calls.Sums.{Sums}
 use Rattle.ilp_report.specs.Columns.{IsShort, IsNarrow}
-use Rattle.ilp_report.specs.Report.{PlainAccount, PlainBooks, PlainSnapshot}
+use Rattle.ilp_report.specs.Report.{PlainAccount, PlainBooks}
 
 -- ---- peers and assets
 
@@ -31,10 +31,10 @@ abbrev pub balances_in : List PlainAccount → ℕ → ℤ
 balances_in peers x = int_sum_from (λ _ (peer : PlainAccount). if x == peer.asset then peer.balance else pos 0) 0 peers
 
 -- the books of x, if it is told of them, sum to what was settled in it
-abbrev pub Balances : PlainSnapshot → ℕ → Type 0
-Balances s x = (asset : PlainBooks) → slice_get s.assets x ≡ Some asset
-    → balances_in s.peers x +ℤ asset.sums.held +ℤ asset.sums.fees +ℤ asset.sums.bought -ℤ asset.sums.sold ≡ asset.sums.settled
+abbrev pub Balances : List PlainAccount → List PlainBooks → ℕ → Type 0
+Balances peers assets x = (asset : PlainBooks) → slice_get assets x ≡ Some asset
+    → balances_in peers x +ℤ asset.sums.held +ℤ asset.sums.fees +ℤ asset.sums.bought -ℤ asset.sums.sold ≡ asset.sums.settled
 
 -- the trial balance of each asset
-abbrev pub AreBalanced : PlainSnapshot → Type 0
-AreBalanced s = (x : ℕ) → Balances s x
+abbrev pub AreBalanced : List PlainAccount → List PlainBooks → Type 0
+AreBalanced peers assets = (x : ℕ) → Balances peers assets x

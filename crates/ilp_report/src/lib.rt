@@ -6,7 +6,7 @@
 #![tactic(auto)]
 
 mod accounts;
-mod amounts;
+mod entries;
 pub mod laws;
 mod line;
 mod printing;

@@ -9,11 +9,13 @@ ghost use Rattle.ilp_report.specs.Columns.{IsShort, IsNarrow};
 use ilp_io::{Sink, WriteFault, put_all};
 use itoa::Buffer;
 
-// Where the columns end: a label, a name and a number. After them comes LF.
+// Where the column of the label ends.
 const LABEL_END: usize = 10;
 
+// Where that of the name ends.
 const NAME_END: usize = 30;
 
+// Where that of the number ends. There LF stands.
 const NUMBER_END: usize = 60;
 
 /// Writes a line: a label, a name and a number, each of which fits its column.

@@ -4,7 +4,7 @@ ghost use Rattle.ilp_report.specs.Report.{snapshot_of, text_of, report_text};
 ghost use Rattle.ilp_report.specs.Sound.{AreBalanced};
 
 use crate::accounts::{AssetBooks, PeerAccount, accounts_of, all_books_of};
-use crate::amounts::fulfilled;
+use crate::entries::fulfilled;
 use ilp_book::Book;
 use std::alloc::{AllocError, Allocator, Global};
 use std::marker::Model;
@@ -32,17 +32,12 @@ impl<A: Allocator> Model for Snapshot<A> {
       fulfilled = s.fulfilled;
     } };
 
-    ghost invariant = { λ s. AreBalanced (record {
-      peers = s.peers.items;
-      assets = s.assets.items;
-      entries = s.entries;
-      fulfilled = s.fulfilled;
-    }) };
+    ghost invariant = { λ s. AreBalanced s.peers.items s.assets.items };
 }
 
 impl<A: Allocator + Copy> Snapshot<A> {
-    /// What the report of a book tells now. It goes over all entries, once for each line.
-    /// `AllocError` tells that memory is short. The book stays as it is.
+    /// What the report of a book tells now. Each line but the last two takes a walk over all entries at
+    /// least. `AllocError` tells that memory is short.
     #[tactic(auto, unfolding(crate::specs::Report::snapshot_of))]
     pub fn of<B: Allocator>(alloc: A, book: &Book<B>) -> Result<Snapshot<A>, AllocError>
         ensures value { IfOk result (λ s. s ≡ snapshot_of book.now) }
@@ -71,7 +66,7 @@ impl<A: Allocator> Snapshot<A> {
     /// What is told of each asset, in the configuration's order: its books balance.
     pub fn assets(&self) -> &[AssetBooks<A>]
         ensures value { result.now ≡ self.now.assets }
-        ensures balanced { AreBalanced self.now }
+        ensures balanced { AreBalanced self.now.peers self.now.assets }
     {
         &self.assets
     }

@@ -1,7 +1,7 @@
 use Rattle.std.proofs.Common.{◌≡◌, ◌≤◌, take}
 use Rattle.ilp_journal.specs.Journal.{fulfilled_since}
 use Rattle.ilp_report.specs.Amounts.{HaveAmountsBelow}
-use Rattle.ilp_report.proofs.amounts.fulfilled.Given as goal
+use Rattle.ilp_report.proofs.entries.fulfilled.Given as goal
 
 -- the entries so far
 abbrev pub invariant-loop-number : goal.invariant-loop-number

@@ -3,8 +3,8 @@ use Rattle.std.specs.Prelude.{slice_get}
 use Rattle.std.specs.Option.{option_copied}
 use Rattle.ilp_report.specs.Amounts.{HaveAmountsBelow}
 use Rattle.ilp_report.proofs.WalkLemmas.{fulfilled_next, amounts_next, amounts_of_all, none_stands}
-use Rattle.ilp_report.proofs.amounts.fulfilled.Goals as goal
-use Rattle.ilp_report.proofs.amounts.fulfilled.Goals.{in-Some+then-fulfills, in-Some+else-fulfills, in_default}
+use Rattle.ilp_report.proofs.entries.fulfilled.Goals as goal
+use Rattle.ilp_report.proofs.entries.fulfilled.Goals.{in-Some+then-fulfills, in-Some+else-fulfills, in_default}
 
 pub loop-number-preserved : goal.loop-number-preserved
 loop-number-preserved g c =
