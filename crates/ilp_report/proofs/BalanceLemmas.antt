@@ -12,24 +12,24 @@ use Rattle.ilp_book.specs.Book.{PlainBook}
 use Rattle.ilp_book.specs.Configured.{peer_assets}
 use Rattle.ilp_book.specs.Lawful.{IsLawful}
 use Rattle.ilp_book.proofs.Runs.{lawful_balanced}
-use Rattle.ilp_report.specs.Report.{PlainAccount, PlainBooks, account_of, books_of}
+use Rattle.ilp_report.specs.Report.{PlainPeerAccount, PlainAssetBooks, peer_account, asset_books}
 use Rattle.ilp_report.specs.Sound.{balances_in, AreBalanced}
 
 -- the balances of the peers from a place on, by what is told of them and by the journal
 balances_from : (book : PlainBook) (x n : ℕ) (ps : List PlainPeer) → ((i : ℕ) (p : PlainPeer) → slice_get ps i ≡ Some p → peer_at book.config (n + i) ≡ p)
-    → int_sum_from (λ _ (peer : PlainAccount). cond (x == peer.asset) peer.balance (pos 0)) n (map (account_of book) (range_with_len n (length ps)))
+    → int_sum_from (λ _ (peer : PlainPeerAccount). cond (x == peer.asset) peer.balance (pos 0)) n (map (peer_account book) (range_with_len n (length ps)))
     ≡ int_sum_from (λ p asset. cond (x == asset) (balance book.entries p) (pos 0)) n (map (λ (p : PlainPeer). p.asset) ps)
-unfolding account_of
+unfolding peer_account
 balances_from book x n [] stand = refl
 balances_from book x n (p ∷ ps) stand =
     let place : n ≡ n + 0 = omega arith in
     let here : peer_at book.config n ≡ p = ap (peer_at book.config) place ∙ stand 0 p refl in
-    let told = int_sum_from (λ _ (peer : PlainAccount). cond (x == peer.asset) peer.balance (pos 0)) (n + 1) (map (account_of book) (range_with_len (n + 1) (length ps))) in
+    let told = int_sum_from (λ _ (peer : PlainPeerAccount). cond (x == peer.asset) peer.balance (pos 0)) (n + 1) (map (peer_account book) (range_with_len (n + 1) (length ps))) in
     let more = balances_from book x (n + 1) ps (λ i q stands. let next : n + 1 + i ≡ n + suc i = omega arith in ap (peer_at book.config) next ∙ stand (suc i) q stands) in
     ap (λ (q : PlainPeer). cond (x == q.asset) (balance book.entries n) (pos 0) +ℤ told) here ∙ ap (λ z. cond (x == p.asset) (balance book.entries n) (pos 0) +ℤ z) more
 
 -- all of them
-balances_are : (book : PlainBook) (x : ℕ) → balances_in (map (account_of book) (range_with_len 0 (length book.config.peers))) x ≡ balances (peer_assets book.config) book.entries x
+balances_are : (book : PlainBook) (x : ℕ) → balances_in (map (peer_account book) (range_with_len 0 (length book.config.peers))) x ≡ balances (peer_assets book.config) book.entries x
 unfolding balances
 balances_are book x =
     balances_from book x 0 book.config.peers
@@ -43,14 +43,14 @@ told_at f n x y stands =
     sym (get_or-map-range_with_len f 0 n x x y within (omega arith)) ∙ get_or_from_slice_get all x y y stands
 
 -- what is told of the peers and the assets of a lawful book balances
-pub told_balance : (book : PlainBook) (peers : List PlainAccount) (assets : List PlainBooks) → IsLawful book
-    → peers ≡ map (account_of book) (range_with_len 0 (length book.config.peers)) → assets ≡ map (books_of book) (range_with_len 0 (length book.config.table.assets))
+pub told_balance : (book : PlainBook) (peers : List PlainPeerAccount) (assets : List PlainAssetBooks) → IsLawful book
+    → peers ≡ map (peer_account book) (range_with_len 0 (length book.config.peers)) → assets ≡ map (asset_books book) (range_with_len 0 (length book.config.table.assets))
     → AreBalanced peers assets
-unfolding books_of
+unfolding asset_books
 told_balance book peers assets lawful same_peers same_assets x asset stands =
-    let here = subst (λ (l : List PlainBooks). slice_get l x ≡ Some asset) same_assets stands in
-    let told : books_of book x ≡ asset = told_at (books_of book) (length book.config.table.assets) x asset here in
-    let sums = (books_of book x).sums in
-    subst (λ (a : PlainBooks). balances_in peers x +ℤ a.sums.held +ℤ a.sums.fees +ℤ a.sums.bought -ℤ a.sums.sold ≡ a.sums.settled) told
-    (ap (λ (l : List PlainAccount). balances_in l x +ℤ sums.held +ℤ sums.fees +ℤ sums.bought -ℤ sums.sold) same_peers
+    let here = subst (λ (l : List PlainAssetBooks). slice_get l x ≡ Some asset) same_assets stands in
+    let told : asset_books book x ≡ asset = told_at (asset_books book) (length book.config.table.assets) x asset here in
+    let sums = (asset_books book x).sums in
+    subst (λ (a : PlainAssetBooks). balances_in peers x +ℤ a.sums.held +ℤ a.sums.fees +ℤ a.sums.bought -ℤ a.sums.sold ≡ a.sums.settled) told
+    (ap (λ (l : List PlainPeerAccount). balances_in l x +ℤ sums.held +ℤ sums.fees +ℤ sums.bought -ℤ sums.sold) same_peers
     ∙ ap (λ z. z +ℤ sums.held +ℤ sums.fees +ℤ sums.bought -ℤ sums.sold) (balances_are book x) ∙ lawful_balanced book x lawful)

@@ -14,7 +14,7 @@ use Rattle.ilp_book.specs.Configured.{peer_assets}
 -- ---- what is told of a book
 
 -- a peer: the place of its asset, the least that its balance may be, its balance, and how many of the open holds it sent
-pub record PlainAccount : Type 0 where
+pub record PlainPeerAccount : Type 0 where
   pub name : List ℕ
   pub asset : ℕ
   pub least : ℤ
@@ -22,20 +22,20 @@ pub record PlainAccount : Type 0 where
   pub open_holds : ℕ
 
 -- an asset, and what its books come to
-pub record PlainBooks : Type 0 where
+pub record PlainAssetBooks : Type 0 where
   pub name : List ℕ
   pub sums : Sums
 
 -- how many entries there are, and how many of them fulfill a hold
 pub record PlainSnapshot : Type 0 where
-  pub peers : List PlainAccount
-  pub assets : List PlainBooks
+  pub peers : List PlainPeerAccount
+  pub assets : List PlainAssetBooks
   pub entries : ℕ
   pub fulfilled : ℕ
 
--- the peer at a place
-unfoldable pub account_of : PlainBook → ℕ → PlainAccount
-account_of book p =
+-- what is told of the peer at a place
+unfoldable pub peer_account : PlainBook → ℕ → PlainPeerAccount
+peer_account book p =
     let peer = peer_at book.config p in
     record { name = peer.name; asset = peer.asset; least = peer.least; balance = balance book.entries p; open_holds = open_holds book.entries p }
 
@@ -55,15 +55,15 @@ sums_of book x =
       sold = pos (sold assets book.entries x);
     }
 
--- the asset at a place
-unfoldable pub books_of : PlainBook → ℕ → PlainBooks
-books_of book x = record { name = asset_name (asset_at book.config.table.assets x); sums = sums_of book x }
+-- what is told of the asset at a place
+unfoldable pub asset_books : PlainBook → ℕ → PlainAssetBooks
+asset_books book x = record { name = asset_name (asset_at book.config.table.assets x); sums = sums_of book x }
 
--- all of them
+-- what is told of a book
 unfoldable pub snapshot_of : PlainBook → PlainSnapshot
 snapshot_of book = record {
-  peers = map (account_of book) (range_with_len 0 (length book.config.peers));
-  assets = map (books_of book) (range_with_len 0 (length book.config.table.assets));
+  peers = map (peer_account book) (range_with_len 0 (length book.config.peers));
+  assets = map (asset_books book) (range_with_len 0 (length book.config.table.assets));
   entries = length book.entries;
   fulfilled = fulfilled_since 0 book.entries;
 }
@@ -81,13 +81,13 @@ right width text = replicate (width - length text) 32 ++ text
 unfoldable pub line : List ℕ → List ℕ → ℤ → List ℕ
 line label name number = left 10 label ++ (left 20 name ++ (right 30 (signed_decimal number) ++ 10 ∷ []))
 
-abbrev pub balance_line : PlainAccount → List ℕ
+abbrev pub balance_line : PlainPeerAccount → List ℕ
 balance_line peer = line (codes "balance") peer.name peer.balance
 
-abbrev pub open_line : PlainAccount → List ℕ
+abbrev pub open_line : PlainPeerAccount → List ℕ
 open_line peer = line (codes "open") peer.name (pos peer.open_holds)
 
-abbrev pub asset_lines : PlainBooks → List ℕ
+abbrev pub asset_lines : PlainAssetBooks → List ℕ
 asset_lines asset =
     line (codes "held") asset.name asset.sums.held
     ++ (line (codes "fees") asset.name asset.sums.fees
@@ -95,7 +95,7 @@ asset_lines asset =
     ++ (line (codes "sold") asset.name asset.sums.sold
     ++ line (codes "settled") asset.name asset.sums.settled)))
 
--- the lines of what is told
+-- the lines of a snapshot
 abbrev pub text_of : PlainSnapshot → List ℕ
 text_of s =
     flat_map balance_line s.peers

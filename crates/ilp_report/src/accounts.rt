@@ -2,7 +2,7 @@
 ghost use Rattle.std.specs.Prelude.{◌≡◌, ◌<◌, length, map, ◌≤ℤ◌, IfOk, string_bytes};
 ghost use Rattle.std.specs.List.{range_with_len};
 ghost use Rattle.ilp_assets.specs.Assets.{plain_asset};
-ghost use Rattle.ilp_report.specs.Report.{account_of, books_of, asset_name};
+ghost use Rattle.ilp_report.specs.Report.{peer_account, asset_books, asset_name};
 ghost use Rattle.ilp_report.specs.Columns.{IsShort, IsNarrow};
 ghost use Rattle.ilp_report.specs.Sound.{AreNarrow};
 ghost use Rattle.ilp_report.specs.Amounts.{HaveAmounts};
@@ -24,10 +24,10 @@ pub struct PeerAccount<A: Allocator = Global> {
 
 impl<A: Allocator> Model for PeerAccount<A> {
     ghost use Rattle.std.specs.Prelude.{string_bytes};
-    ghost use Rattle.ilp_report.specs.Report.{PlainAccount};
-    ghost use Rattle.ilp_report.specs.Sound.{IsAccount};
+    ghost use Rattle.ilp_report.specs.Report.{PlainPeerAccount};
+    ghost use Rattle.ilp_report.specs.Sound.{IsPeerAccount};
 
-    ghost Value = { PlainAccount };
+    ghost Value = { PlainPeerAccount };
 
     ghost view = { λ p. record {
       name = string_bytes p.name;
@@ -37,7 +37,7 @@ impl<A: Allocator> Model for PeerAccount<A> {
       open_holds = p.open_holds;
     } };
 
-    ghost invariant = { λ p. IsAccount (record {
+    ghost invariant = { λ p. IsPeerAccount (record {
       name = string_bytes p.name;
       asset = p.asset;
       least = p.least;
@@ -95,17 +95,17 @@ pub struct AssetBooks<A: Allocator = Global> {
 
 impl<A: Allocator> Model for AssetBooks<A> {
     ghost use Rattle.std.specs.Prelude.{string_bytes};
-    ghost use Rattle.ilp_report.specs.Report.{PlainBooks};
-    ghost use Rattle.ilp_report.specs.Sound.{AreBooks};
+    ghost use Rattle.ilp_report.specs.Report.{PlainAssetBooks};
+    ghost use Rattle.ilp_report.specs.Sound.{AreAssetBooks};
 
-    ghost Value = { PlainBooks };
+    ghost Value = { PlainAssetBooks };
 
     ghost view = { λ a. record {
       name = string_bytes a.name;
       sums = a.sums;
     } };
 
-    ghost invariant = { λ a. AreBooks (record {
+    ghost invariant = { λ a. AreAssetBooks (record {
       name = string_bytes a.name;
       sums = a.sums;
     }) };
@@ -130,47 +130,47 @@ impl<A: Allocator> AssetBooks<A> {
 }
 
 /// What is told of each peer of a book, in the configuration's order.
-pub(crate) fn accounts_of<A: Allocator + Copy, B: Allocator>(
+pub(crate) fn peer_accounts<A: Allocator + Copy, B: Allocator>(
     alloc: A,
     book: &Book<B>,
 ) -> Result<Vec<PeerAccount<A>, A>, AllocError>
     requires { HaveAmounts book.now.entries }
     ensures { IfOk result (λ peers. peers.items
-        ≡ map (account_of book.now) (range_with_len 0 (length book.now.config.peers))) }
+        ≡ map (peer_account book.now) (range_with_len 0 (length book.now.config.peers))) }
 {
     let mut peers = Vec::new(alloc);
     for peer in 0..book.config().peers() {
-        peers.push(account_of(alloc, book, peer)?)?;
+        peers.push(peer_account(alloc, book, peer)?)?;
     }
     Ok(peers)
 }
 
 /// What is told of each asset of a book, in the configuration's order.
-pub(crate) fn all_books_of<A: Allocator + Copy, B: Allocator>(
+pub(crate) fn all_asset_books<A: Allocator + Copy, B: Allocator>(
     alloc: A,
     book: &Book<B>,
 ) -> Result<Vec<AssetBooks<A>, A>, AllocError>
     requires { HaveAmounts book.now.entries }
     ensures { IfOk result (λ assets. assets.items
-        ≡ map (books_of book.now) (range_with_len 0 (length book.now.config.table.assets))) }
+        ≡ map (asset_books book.now) (range_with_len 0 (length book.now.config.table.assets))) }
 {
     let mut assets = Vec::new(alloc);
     for asset in 0..book.config().assets().asset_count() {
-        assets.push(books_of(alloc, book, asset)?)?;
+        assets.push(asset_books(alloc, book, asset)?)?;
     }
     Ok(assets)
 }
 
 // What is told of the peer at a place.
-#[tactic(auto, unfolding(crate::specs::Report::account_of))]
-fn account_of<A: Allocator, B: Allocator>(
+#[tactic(auto, unfolding(crate::specs::Report::peer_account))]
+fn peer_account<A: Allocator, B: Allocator>(
     alloc: A,
     book: &Book<B>,
     peer: u32,
 ) -> Result<PeerAccount<A>, AllocError>
     requires known { peer < length book.now.config.peers }
     requires amounts { HaveAmounts book.now.entries }
-    ensures { IfOk result (λ account. account ≡ account_of book.now peer) }
+    ensures { IfOk result (λ account. account ≡ peer_account book.now peer) }
 {
     let config = book.config();
     Ok(PeerAccount {
@@ -183,15 +183,15 @@ fn account_of<A: Allocator, B: Allocator>(
 }
 
 // What is told of the asset at a place.
-#[tactic(auto, unfolding(crate::specs::Report::books_of))]
-fn books_of<A: Allocator, B: Allocator>(
+#[tactic(auto, unfolding(crate::specs::Report::asset_books))]
+fn asset_books<A: Allocator, B: Allocator>(
     alloc: A,
     book: &Book<B>,
     place: u32,
 ) -> Result<AssetBooks<A>, AllocError>
     requires known { place < length book.now.config.table.assets }
     requires amounts { HaveAmounts book.now.entries }
-    ensures { IfOk result (λ books. books ≡ books_of book.now place) }
+    ensures { IfOk result (λ books. books ≡ asset_books book.now place) }
 {
     let Some(asset) = book.config().assets().asset(place) else {
         unreachable!();

@@ -3,7 +3,7 @@ ghost use Rattle.std.specs.Prelude.{◌≡◌, IfOk};
 ghost use Rattle.ilp_report.specs.Report.{snapshot_of, text_of, report_text};
 ghost use Rattle.ilp_report.specs.Sound.{AreBalanced};
 
-use crate::accounts::{AssetBooks, PeerAccount, accounts_of, all_books_of};
+use crate::accounts::{AssetBooks, PeerAccount, all_asset_books, peer_accounts};
 use crate::entries::fulfilled;
 use ilp_book::Book;
 use std::alloc::{AllocError, Allocator, Global};
@@ -47,8 +47,8 @@ impl<A: Allocator + Copy> Snapshot<A> {
         let _ = book.entry(0);
         let fulfilled = fulfilled(book);
         Ok(Snapshot {
-            peers: accounts_of(alloc, book)?,
-            assets: all_books_of(alloc, book)?,
+            peers: peer_accounts(alloc, book)?,
+            assets: all_asset_books(alloc, book)?,
             entries: book.len(),
             fulfilled,
         })

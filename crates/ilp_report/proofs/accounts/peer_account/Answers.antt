@@ -5,7 +5,7 @@ use Rattle.std.proofs.lemmas.Int.{to_z-of_z}
 use Rattle.ilp_accounts.specs.Configuration.{Configuration, peer_at}
 use Rattle.ilp_report.proofs.AmountLemmas.{balance_is_narrow}
 use Rattle.ilp_report.proofs.NameLemmas.{peer_name_is_short}
-use Rattle.ilp_report.proofs.accounts.account_of.Goals as goal
+use Rattle.ilp_report.proofs.accounts.peer_account.Goals as goal
 
 pub invariant_of-result : goal.invariant_of-result
 invariant_of-result g c =

@@ -6,7 +6,7 @@ use Rattle.ilp_report.specs.Report.{asset_name}
 use Rattle.ilp_report.specs.Columns.{IsShort, IsNarrow}
 use Rattle.ilp_report.proofs.AmountLemmas.{sums_are_narrow}
 use Rattle.ilp_report.proofs.NameLemmas.{asset_name_is_short}
-use Rattle.ilp_report.proofs.accounts.books_of.Goals as goal
+use Rattle.ilp_report.proofs.accounts.asset_books.Goals as goal
 
 pub invariant_of-result : goal.invariant_of-result
 invariant_of-result g c =

@@ -1,8 +1,0 @@
-use Rattle.std.proofs.Common.{◌≡◌, map}
-use Rattle.std.specs.List.{range_with_len}
-use Rattle.ilp_report.specs.Report.{books_of}
-use Rattle.ilp_report.proofs.accounts.all_books_of.Given as goal
-
--- those so far
-abbrev pub invariant-loop-asset : goal.invariant-loop-asset
-invariant-loop-asset g l = l.assets.items ≡ map (books_of l.book) (range_with_len 0 l.asset)
