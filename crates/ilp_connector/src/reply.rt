@@ -71,7 +71,9 @@ pub(crate) fn reply_text<A: Allocator + Copy>(
         LineReply::Confirmed { number, entry } => {
             format!(in alloc; "entry {entry} confirmed {number}\n")?
         }
-        LineReply::Undone { number, entry } => format!(in alloc; "entry {entry} undone {number}\n")?,
+        LineReply::Undone { number, entry } => {
+            format!(in alloc; "entry {entry} undone {number}\n")?
+        }
         LineReply::Refused(refusal) => format!(in alloc; "refused {refusal}\n")?,
         LineReply::Report => return report_text(alloc, book),
     };
