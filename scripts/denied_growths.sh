@@ -13,10 +13,10 @@ step=${3:-1}
 denied=0
 while true; do
     last=$(rt try --fail-alloc "$growth" -- "$command" - <stdin 2>/dev/null |
-        grep -E '^(ok|refused|balance) ' | tail -n 1 || true)
+        grep -E '^(ok|refused|fulfilled) ' | tail -n 1 || true)
     case "$last" in
         "refused 44 Memory") denied=$((denied + 1)) ;;
-        "ok 2 peers 1 assets 2 routes" | "balance   bob  "*) break ;;
+        "ok 2 peers 1 assets 2 routes" | "fulfilled  "*) break ;;
         *)
             echo "growth $growth: printed '$last'"
             exit 1

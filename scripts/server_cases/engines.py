@@ -5,7 +5,7 @@ from server_cases.case import case, expect, expect_that
 from server_cases.laboratory import (Laboratory, close, credit, expect_served,
                                      post_close)
 from server_cases.messages import created, seconds_since, sent
-from server_cases.program import Program
+from server_cases.program import Program, numbers_in
 from server_cases.stand_ins import (ACCEPTS, FULFILLS, Behaviour, answers, closes, engine_of,
                                     in_turn, never_answers)
 from server_vectors import JSON, quantity
@@ -88,7 +88,7 @@ def engine_that_is_not_there(laboratory: Laboratory) -> None:
     # The settlement stays open, asked for before the packet or after it; or no turn came to it.
     expect("the exit status", program.end(2.5), 0)
     expect_that(f"the report: {program.output()!r}",
-                program.output().split()[-1] in ("200", "210", "1010"))
+                numbers_in(program.output())[1] in (200, 210, 1010))
 
 
 def await_line(program: Program, word: str, within: float = 5.0) -> None:

@@ -9,7 +9,7 @@ from typing import Self
 from scene_vectors import FULFILL
 from server_cases.case import expect, expect_that
 from server_cases.messages import bearer, connect, post, request, response, seconds_since, soon
-from server_cases.program import DESCRIPTORS, Program, Setup, report
+from server_cases.program import DESCRIPTORS, Program, Setup, numbers_in
 from server_cases.stand_ins import Behaviour, FullHouse, StandIn
 from server_vectors import quantity
 
@@ -144,12 +144,16 @@ def post_close(program: Program) -> None:
 
 
 def expect_end(program: Program, alice: int, bob: int, within: float = END) -> None:
-    """It ends with status 0, and prints these balances."""
+    """It ends with status 0, and prints a report of these balances, which balances."""
     expect("the exit status", program.end(within), 0)
-    expect("standard output", program.output(), report(alice, bob))
+    numbers = numbers_in(program.output())
+    expect("the balances", numbers[:2], [alice, bob])
+    expect("what is open and held, and the fees", numbers[2:6], [0, 0, 0, 0])
+    bought, sold, settled, _, _ = numbers[6:]
+    expect("what was settled", settled, alice + bob + bought - sold)
 
 
 def close(program: Program, alice: int = 0, bob: int = 0, within: float = END) -> None:
-    """The close is answered, and the program ends with these balances."""
+    """The close is answered, and the program ends with a report of these balances."""
     post_close(program)
     expect_end(program, alice, bob, within)

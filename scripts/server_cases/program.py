@@ -1,5 +1,6 @@
 """The connector's program as a child: its configuration, what it prints, and how it ends."""
 import os
+import re
 import resource
 import secrets
 import signal
@@ -78,10 +79,20 @@ class Setup:
         return "\n".join(lines) + "\n"
 
 
-def report(alice: int, bob: int) -> str:
-    """The balance lines."""
-    return "".join(f"{'balance':<10}{name:<20}{number:>30}\n"
-                   for name, number in (("alice", alice), ("bob", bob)))
+# The labels and names of a report of alice and bob, line by line.
+REPORT = (("balance", "alice"), ("balance", "bob"), ("open", "alice"), ("open", "bob"),
+          ("held", "USD/2"), ("fees", "USD/2"), ("bought", "USD/2"), ("sold", "USD/2"),
+          ("settled", "USD/2"), ("entries", ""), ("fulfilled", ""))
+
+
+def numbers_in(text: str) -> list[int]:
+    """The numbers of a report of alice and bob."""
+    numbers = [int(number) for number in re.findall(r"-?\d+$", text, re.MULTILINE)]
+    lines = [f"{label:<10}{name:<20}{number:>30}\n"
+             for (label, name), number in zip(REPORT, numbers)]
+    expect("the report", text.splitlines(keepends=True), lines)
+    expect("the lines of the report", len(lines), len(REPORT))
+    return numbers
 
 
 class Program:

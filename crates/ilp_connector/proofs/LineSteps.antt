@@ -5,7 +5,7 @@ use Rattle.ilp_packet.specs.Packet.{PlainPrepare, prepare}
 use Rattle.ilp_book.specs.declared.calls.Held.{Held}
 use Rattle.ilp_book.specs.declared.fault.HoldFault.{HoldFault}
 use Rattle.ilp_book.specs.Book.{PlainBook, by, Growth, granted, Does}
-use Rattle.ilp_book.specs.HoldStep.{incoming, hold_step, growth_of}
+use Rattle.ilp_book.specs.HoldStep.{incoming, hold_step}
 use Rattle.ilp_connector.specs.declared.reply.LineReply.{LineReply}
 use Rattle.ilp_connector.specs.Replay.{hold_packet, hold_reply}
 

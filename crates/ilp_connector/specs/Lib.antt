@@ -4,7 +4,6 @@ pub mod ConfigReading
 pub mod PacketText
 pub mod Refusals
 pub mod Replay
-pub mod Report
 pub mod Script
 pub mod Seen
 pub mod Text

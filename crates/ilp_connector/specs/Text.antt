@@ -1,22 +1,20 @@
 -- What each reply prints.
-use Rattle.std.specs.Prelude.{ℕ, ◌+◌, List, [], ◌∷◌, ◌++◌, if◌then◌else◌, Option, Some, None, codes}
+use Rattle.std.specs.Prelude.{ℕ, List, [], ◌++◌, if◌then◌else◌, Option, Some, None, codes}
 use Rattle.std.specs.Fmt.{decimal}
 use Rattle.hex.specs.Hex.{encode_lower}
 use Rattle.ilp_journal.specs.declared.entry.Cause.{Cause}
 use Rattle.ilp_journal.specs.declared.entry.Cause.TheVariants.{Late, WrongPreimage, NoReply, Peer}
-use Rattle.ilp_journal.specs.Journal.{Entries}
-use Rattle.ilp_journal.specs.Balance.{balance}
-use Rattle.ilp_accounts.specs.Configuration.{peer_at, peer_names}
+use Rattle.ilp_accounts.specs.Configuration.{peer_at}
 use Rattle.ilp_book.specs.declared.fault.HoldFault.{HoldFault}
 use Rattle.ilp_book.specs.declared.calls.Kept.{Kept}
 use Rattle.ilp_book.specs.declared.calls.Outcome.{Outcome}
 use Rattle.ilp_book.specs.declared.calls.Outcome.TheVariants as outcome
 use Rattle.ilp_book.specs.Book.{PlainBook}
 use Rattle.ilp_book.specs.RejectCode.{reject_code}
+use Rattle.ilp_report.specs.Report.{report_text}
 use Rattle.ilp_connector.specs.declared.reply.LineReply.{LineReply}
 use Rattle.ilp_connector.specs.declared.reply.LineReply.TheVariants.{Silent, BadLine, BadPacket, Held, Rejected, Answered, NotOpen, NoneDue, Credited, Asked, Confirmed, Undone, Refused, Report}
 use Rattle.ilp_connector.specs.Refusals.{refusal_text, named_text, hold_refusal}
-use Rattle.ilp_connector.specs.Report.{report_line}
 
 -- the Reject that the sender of a refused Prepare gets
 abbrev pub rejected_text : HoldFault → List ℕ
@@ -43,11 +41,6 @@ abbrev pub not_open_text : ℕ → Option ℕ → List ℕ
 not_open_text n None = codes "not open " ++ (decimal n ++ codes "\n")
 not_open_text n (Some entry) = codes "not open " ++ (decimal n ++ (codes " by " ++ (decimal entry ++ codes "\n")))
 
--- the balance of each peer, the first of them in the place `first`
-abbrev pub balance_lines : Entries → ℕ → List (List ℕ) → List ℕ
-balance_lines j first [] = []
-balance_lines j first (name ∷ names) = report_line (codes "balance") name (balance j first) ++ balance_lines j (first + 1) names
-
 -- the name of a peer, empty where there is no such peer
 abbrev pub name_of : PlainBook → ℕ → List ℕ
 name_of book peer = (peer_at book.config peer).name
@@ -67,4 +60,4 @@ reply_text book (Asked asked) = codes "entry " ++ (decimal asked.number ++ (code
 reply_text book (Confirmed number entry) = codes "entry " ++ (decimal entry ++ (codes " confirmed " ++ (decimal number ++ codes "\n")))
 reply_text book (Undone number entry) = codes "entry " ++ (decimal entry ++ (codes " undone " ++ (decimal number ++ codes "\n")))
 reply_text book (Refused refusal) = codes "refused " ++ (refusal_text refusal ++ codes "\n")
-reply_text book Report = balance_lines book.entries 0 (peer_names book.config.peers)
+reply_text book Report = report_text book

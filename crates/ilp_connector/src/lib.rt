@@ -3,7 +3,6 @@
 
 mod built_in;
 mod checking;
-mod columns;
 mod config_file;
 mod describe;
 mod form;
@@ -19,5 +18,4 @@ pub use checking::check;
 pub use config_file::{CONFIG_LIMIT, read_config};
 pub use describe::describe_packet;
 pub use refusal::Refusal;
-pub use reply::report_text;
 pub use runner::{ReplayFault, replay};

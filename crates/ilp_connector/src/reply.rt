@@ -1,14 +1,16 @@
 //! What a line of a script prints.
 ghost use Rattle.std.specs.Prelude.{◌≡◌, IfOk, IsAscii, string_bytes};
-ghost use Rattle.ilp_accounts.specs.Configuration.{peer_at, peer_names};
+ghost use Rattle.ilp_accounts.specs.Configuration.{peer_at};
+ghost use Rattle.ilp_report.specs.Report.{report_text};
 ghost use Rattle.ilp_connector.specs.Text as texts;
-ghost use Rattle.ilp_connector.specs.Text.{reply_text, balance_lines};
+ghost use Rattle.ilp_connector.specs.Text.{reply_text};
 
-use crate::columns::report_line;
 use crate::refusal::{Named, Refusal};
 use ilp_accounts::Config;
 use ilp_book::{Asked, Book, Held, HoldFault, Kept, Outcome};
+use ilp_io::WriteFault;
 use ilp_journal::Cause;
+use ilp_report::{Snapshot, print};
 use std::alloc::{AllocError, Allocator};
 use std::str;
 
@@ -41,7 +43,7 @@ pub(crate) enum LineReply {
     Undone { number: u32, entry: u32 },
     /// A settlement is refused.
     Refused(Refusal),
-    /// The balances are asked for.
+    /// The report is asked for.
     Report,
 }
 
@@ -50,30 +52,32 @@ pub(crate) fn reply_text<A: Allocator + Copy>(
     alloc: A,
     book: &Book<A>,
     reply: LineReply,
-) -> Result<String<A>, AllocError>
-    ensures { IfOk result (λ text. string_bytes text
-        ≡ texts.reply_text book.now reply) }
+) -> Result<Vec<u8, A>, AllocError>
+    ensures { IfOk result (λ text. text.items ≡ texts.reply_text book.now reply) }
 {
-    match reply {
-        LineReply::Silent => Ok(String::new(alloc)),
-        LineReply::BadLine => String::from_str(alloc, "bad line\n"),
-        LineReply::BadPacket(refusal) => format!(in alloc; "bad packet {refusal}\n"),
-        LineReply::Held(held) => held_text(alloc, book, held),
-        LineReply::Rejected(fault) => rejected_text(alloc, fault),
-        LineReply::Answered { hold, outcome } => outcome_text(alloc, hold, outcome),
-        LineReply::NotOpen { number, closer } => not_open_text(alloc, number, closer),
-        LineReply::NoneDue => String::from_str(alloc, "none due\n"),
-        LineReply::Credited(kept) => credited_text(alloc, kept),
+    let text = match reply {
+        LineReply::Silent => String::new(alloc),
+        LineReply::BadLine => String::from_str(alloc, "bad line\n")?,
+        LineReply::BadPacket(refusal) => format!(in alloc; "bad packet {refusal}\n")?,
+        LineReply::Held(held) => held_text(alloc, book, held)?,
+        LineReply::Rejected(fault) => rejected_text(alloc, fault)?,
+        LineReply::Answered { hold, outcome } => outcome_text(alloc, hold, outcome)?,
+        LineReply::NotOpen { number, closer } => not_open_text(alloc, number, closer)?,
+        LineReply::NoneDue => String::from_str(alloc, "none due\n")?,
+        LineReply::Credited(kept) => credited_text(alloc, kept)?,
         LineReply::Asked(Asked { number, amount }) => {
-            format!(in alloc; "entry {number} asked {amount}\n")
+            format!(in alloc; "entry {number} asked {amount}\n")?
         }
         LineReply::Confirmed { number, entry } => {
-            format!(in alloc; "entry {entry} confirmed {number}\n")
+            format!(in alloc; "entry {entry} confirmed {number}\n")?
         }
-        LineReply::Undone { number, entry } => format!(in alloc; "entry {entry} undone {number}\n"),
-        LineReply::Refused(refusal) => format!(in alloc; "refused {refusal}\n"),
-        LineReply::Report => report_text(alloc, book),
-    }
+        LineReply::Undone { number, entry } => {
+            format!(in alloc; "entry {entry} undone {number}\n")?
+        }
+        LineReply::Refused(refusal) => format!(in alloc; "refused {refusal}\n")?,
+        LineReply::Report => return report_text(alloc, book),
+    };
+    Ok(text.into_bytes())
 }
 
 // A Prepare is held.
@@ -182,16 +186,14 @@ fn name_of(config: &Config, peer: u32) -> &str
     }
 }
 
-/// What a script's line `report` prints, and the running connector in its end: a line with the balance
-/// of each peer, in the order of the configuration. It is refused where memory is denied.
-pub fn report_text<A: Allocator + Copy>(alloc: A, book: &Book<A>) -> Result<String<A>, AllocError>
-    ensures { IfOk result (λ text. string_bytes text
-        ≡ balance_lines book.now.entries 0 (peer_names book.now.config.peers)) }
+// The report of a book. A `Vec` refuses octets only where memory is denied.
+fn report_text<A: Allocator + Copy>(alloc: A, book: &Book<A>) -> Result<Vec<u8, A>, AllocError>
+    ensures { IfOk result (λ text. text.items ≡ report_text book.now) }
 {
-    let mut text = String::new(alloc);
-    for peer in 0..book.config().peers() {
-        let name = name_of(book.config(), peer);
-        report_line(alloc, &mut text, "balance", name, book.balance(peer))?;
+    let snapshot = Snapshot::of(alloc, book)?;
+    let mut text = Vec::new(alloc);
+    match print(&snapshot, &mut text) {
+        Ok(()) => Ok(text),
+        Err(WriteFault) => Err(AllocError),
     }
-    Ok(text)
 }

@@ -136,7 +136,7 @@ fn run<W: Sink, A: Allocator + Copy>(
         let Ok(text) = reply_text(alloc, &book, reply) else {
             return Err(ReplayFault::Memory);
         };
-        let Ok(()) = put_all(writer, text.as_bytes()) else {
+        let Ok(()) = put_all(writer, &text) else {
             return Err(ReplayFault::WriteFault);
         };
         rest = more;

@@ -1,4 +1,4 @@
--- A closed desk whose book's balances were printed was served.
+-- A closed desk was served where its book's report was printed.
 use Rattle.std.specs.Prelude.{ℕ, List, Option, Result, Ok, Err}
 use Rattle.ilp_book.specs.Book.{PlainBook}
 use Rattle.ilp_desk.specs.Desk.{PlainDesk}

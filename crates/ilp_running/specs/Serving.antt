@@ -2,8 +2,9 @@
 use Rattle.std.specs.Prelude.{◌≡◌, ℕ, List, [], Option, Result, Ok, Err}
 use Rattle.std.specs.Io.KnownBytes.{Appends}
 use Rattle.ilp_io.specs.Writing.{AppendsProperPrefix}
-use Rattle.ilp_accounts.specs.Configuration.{Configuration, peer_names}
+use Rattle.ilp_accounts.specs.Configuration.{Configuration}
 use Rattle.ilp_book.specs.Book.{PlainBook}
+use Rattle.ilp_report.specs.Report.{report_text}
 use Rattle.ilp_desk.specs.Desk.{PlainDesk, IsBookOf}
 use Rattle.ilp_desk.specs.Portion.{Holding}
 use Rattle.ilp_desk.specs.Gathering.{IsGathered}
@@ -11,7 +12,6 @@ use Rattle.ilp_desk.specs.declared.gathering.WhyNotGathered.{WhyNotGathered}
 use Rattle.ilp_desk.specs.declared.gathering.WhyNotGathered.TheVariants as why
 use Rattle.ilp_connector.specs.declared.refusal.Refusal.{Refusal}
 use Rattle.ilp_connector.specs.declared.refusal.Refusal.TheVariants as refusals
-use Rattle.ilp_connector.specs.Text.{balance_lines}
 use Rattle.ilp_running.specs.declared.fault.ServeFault.{ServeFault}
 use Rattle.ilp_running.specs.declared.fault.ServeFault.TheVariants.{Unprinted, Write}
 use Rattle.ilp_running.specs.declared.fault.Unprinted.TheVariants.{Memory, Missing, Double, Disagrees, Listen, Spawn}
@@ -41,23 +41,19 @@ fault_refusal (Unprinted Spawn) = refusals.SpawnFault
 abbrev pub desk_of : Configuration → PlainDesk
 desk_of config = record { config = config; workers = config.settings.workers; opening = [] }
 
--- the balances of a book, a line for each peer
-abbrev pub report_of : PlainBook → List ℕ
-report_of book = balance_lines book.entries 0 (peer_names book.config.peers)
-
 -- A book of the desk in the end, which is lawful and began empty, and the ends of the desk's actors, which add up to all that it booked.
 pub record IsClosed (desk : PlainDesk) (book : PlainBook) : Type 0 where
   pub ends : List Holding
   pub lawful : IsBookOf desk book
   pub gathered : IsGathered desk book ends
 
--- The balances of the book were printed; or a write of them failed; or nothing was printed.
+-- The report of the book was printed; or a write of it failed; or nothing was printed.
 abbrev pub Prints : PlainBook → Option (List ℕ) → Option (List ℕ) → Result (Unit {0}) ServeFault → Type 0
-Prints book old new (Ok done) = Appends old new (report_of book)
-Prints book old new (Err Write) = AppendsProperPrefix old new (report_of book)
+Prints book old new (Ok done) = Appends old new (report_text book)
+Prints book old new (Err Write) = AppendsProperPrefix old new (report_text book)
 Prints book old new (Err (Unprinted why)) = new ≡ old
 
--- The connector ran to its end, and printed the balances of its book; or a write of them failed; or nothing was printed.
+-- The connector ran to its end, and printed the report of its book; or a write of it failed; or nothing was printed.
 abbrev pub Serves : PlainDesk → Option (List ℕ) → Option (List ℕ) → Result (Unit {0}) ServeFault → Type 0
 Serves desk old new (Ok done) = (book : PlainBook) × IsClosed desk book × Prints book old new (Ok done)
 Serves desk old new (Err Write) = (book : PlainBook) × IsClosed desk book × Prints book old new (Err Write)

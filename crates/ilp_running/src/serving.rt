@@ -11,11 +11,11 @@ use crate::telling::{tell_listening, tell_no_thread, tell_not_listening};
 use crate::threads::{House, Intakes, run};
 use ilp_accounts::Config;
 use ilp_book::Book;
-use ilp_connector::report_text;
 use ilp_desk::{Closed, Desk, End, Naming, Share, gather};
 use ilp_intake::{Closer, Intake, open_door};
-use ilp_io::{Sink, put_all};
+use ilp_io::Sink;
 use ilp_links::{Links, Notices};
+use ilp_report::{Snapshot, print};
 use ilp_server::Side;
 use std::io::{Eprint, ErrorKind};
 use std::marker::Brand;
@@ -25,7 +25,7 @@ use std::sync::ledger::Blank;
 use std::thread::Threads;
 use std::time::Clock;
 
-/// Runs a connector of this configuration until it is asked to close, and prints the balances of its
+/// Runs a connector of this configuration until it is asked to close, and prints the report of its
 /// book then.
 #[tactic(auto, using(crate::proofs::Printed::serves))]
 pub fn serve<R, L, W>(rt: &R, config: &Config, links: &L, writer: &mut W) -> Result<(), ServeFault>
@@ -167,14 +167,14 @@ fn close_desk<J: Naming>(
     }
 }
 
-// Prints the balances of a book.
+// Prints the report of a book. Nothing is printed where memory is denied.
 fn print_report<W: Sink>(book: &Book, writer: &mut W) -> Result<(), ServeFault>
     ensures { Prints book.now (W.contents writer.old) (W.contents writer.new) result }
 {
-    let Ok(text) = report_text(book.config().allocator(), book) else {
+    let Ok(snapshot) = Snapshot::of(book.config().allocator(), book) else {
         return Err(ServeFault::Unprinted(Unprinted::Memory));
     };
-    match put_all(writer, text.as_bytes()) {
+    match print(&snapshot, writer) {
         Ok(()) => Ok(()),
         Err(_) => Err(ServeFault::Write),
     }

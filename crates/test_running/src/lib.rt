@@ -1,5 +1,5 @@
 //! The running connector over real sockets: a conversation of its peers and a settlement engine, from
-//! its start to the balances that it prints.
+//! its start to the report that it prints.
 #![tactic(auto)]
 
 #[cfg(test)]

@@ -60,7 +60,16 @@ pub(crate) const CLOSED: &[u8] =
 
 /// What is printed in the end.
 pub(crate) const PRINTED: &[u8] = b"balance   alice                                         -100\n\
-balance   bob                                            200\n";
+balance   bob                                            200\n\
+open      alice                                            0\n\
+open      bob                                              0\n\
+held      USD/2                                            0\n\
+fees      USD/2                                            0\n\
+bought    USD/2                                          100\n\
+sold      USD/2                                          100\n\
+settled   USD/2                                          100\n\
+entries                                                    7\n\
+fulfilled                                                  2\n";
 
 /// A head with its body.
 pub(crate) fn message(alloc: Global, head: &[u8], body: &[u8]) -> Result<Vec<u8>, AllocError> {

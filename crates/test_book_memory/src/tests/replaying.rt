@@ -96,7 +96,29 @@ const EACH_TEXT: &str = "held 0 to bob out 100\n\
     entry 13 asked 900\n\
     entry 14 confirmed 13\n\
     balance   alice                                         -100\n\
-    balance   bob                                            200\n";
+    balance   bob                                            200\n\
+    open      alice                                            0\n\
+    open      bob                                              0\n\
+    held      USD/2                                            0\n\
+    fees      USD/2                                            0\n\
+    bought    USD/2                                          100\n\
+    sold      USD/2                                          100\n\
+    settled   USD/2                                          100\n\
+    entries                                                   15\n\
+    fulfilled                                                  1\n";
+
+// The report of twenty holds of 100 by alice, all of them fulfilled.
+const FULL_REPORT: &str = "balance   alice                                        -2000\n\
+    balance   bob                                           2000\n\
+    open      alice                                            0\n\
+    open      bob                                              0\n\
+    held      USD/2                                            0\n\
+    fees      USD/2                                            0\n\
+    bought    USD/2                                         2000\n\
+    sold      USD/2                                         2000\n\
+    settled   USD/2                                            0\n\
+    entries                                                   40\n\
+    fulfilled                                                 20\n";
 
 #[test]
 fn lines_of_each_form(rt: HostRuntime) -> Result<(), Fail> {
@@ -119,8 +141,7 @@ fn a_journal_that_fills(rt: HostRuntime) -> Result<(), Fail> {
         writeln!(text, "entry {entry} fulfilled {number}")?;
     }
     writeln!(script, "report")?;
-    text.push_str("balance   alice                                        -2000\n")?;
-    text.push_str("balance   bob                                           2000\n")?;
+    text.push_str(FULL_REPORT)?;
     replay_each(&rt, script.as_str(), text.as_str())
 }
 

@@ -19,6 +19,15 @@ const TEXT: &str = "held 0 to bob out 100
 entry 1 fulfilled 0
 balance   alice                                         -100
 balance   bob                                            100
+open      alice                                            0
+open      bob                                              0
+held      USD/2                                            0
+fees      USD/2                                            0
+bought    USD/2                                          100
+sold      USD/2                                          100
+settled   USD/2                                            0
+entries                                                    2
+fulfilled                                                  1
 ";
 
 fn built_in(alloc: Global) -> Result<Config, Fail> {

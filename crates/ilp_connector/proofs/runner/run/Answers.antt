@@ -13,9 +13,9 @@ returns-in_default-put_all-clause-part g c =
     let after = c.run_line.new.book in
     let line = c.split_line.result.0.now in
     let does = c.in-Ok-run_line.ensures.step in
-    let printed = line_printed before after line c.as_bytes.result.now c.in-Ok-run_line.reply does (c.as_bytes.ensures.value ∙ c.in-Ok-reply_text.ensures) in
-    prefix_after _ _ _ c.loop-rest.invariant.written c.as_bytes.result.now _ _ c.loop-rest.invariant.wrote c.in_default-put_all.ensures.err
-    (text_from-step before after c.loop-rest.rest.now line c.split_line.result.1.now c.loop-rest.invariant.written c.as_bytes.result.now _
+    let printed = line_printed before after line c.deref.result.now c.in-Ok-run_line.reply does (c.deref.ensures.value ∙ c.in-Ok-reply_text.ensures) in
+    prefix_after _ _ _ c.loop-rest.invariant.written c.deref.result.now _ _ c.loop-rest.invariant.wrote c.in_default-put_all.ensures.err
+    (text_from-step before after c.loop-rest.rest.now line c.split_line.result.1.now c.loop-rest.invariant.written c.deref.result.now _
     c.split_line.ensures.lines printed does.book c.loop-rest.invariant.whole)
 
 pub loop-rest-preserved : goal.loop-rest-preserved
@@ -24,12 +24,12 @@ loop-rest-preserved g c =
     let after = c.run_line.new.book in
     let line = c.split_line.result.0.now in
     let does = c.in-Ok-run_line.ensures.step in
-    let printed = line_printed before after line c.as_bytes.result.now c.in-Ok-run_line.reply does (c.as_bytes.ensures.value ∙ c.in-Ok-reply_text.ensures) in
+    let printed = line_printed before after line c.deref.result.now c.in-Ok-run_line.reply does (c.deref.ensures.value ∙ c.in-Ok-reply_text.ensures) in
     record {
-      written = c.loop-rest.invariant.written ++ c.as_bytes.result.now;
+      written = c.loop-rest.invariant.written ++ c.deref.result.now;
       wrote = Appends-trans _ _ _ _ _ c.loop-rest.invariant.wrote c.in-Ok-put_all.ensures.ok;
-      whole = append_assoc c.loop-rest.invariant.written c.as_bytes.result.now (text_from after (lines_of c.split_line.result.1.now))
-          ∙ text_from-step before after c.loop-rest.rest.now line c.split_line.result.1.now c.loop-rest.invariant.written c.as_bytes.result.now _
+      whole = append_assoc c.loop-rest.invariant.written c.deref.result.now (text_from after (lines_of c.split_line.result.1.now))
+          ∙ text_from-step before after c.loop-rest.rest.now line c.split_line.result.1.now c.loop-rest.invariant.written c.deref.result.now _
           c.split_line.ensures.lines printed does.book c.loop-rest.invariant.whole;
       writes = CountsUp-after _ _ _ 0 c.loop-rest.invariant.writes c.in-Ok-put_all.ensures.failed;
     }
