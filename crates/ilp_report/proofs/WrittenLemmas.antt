@@ -16,10 +16,14 @@ use Rattle.ilp_report.proofs.WalkLemmas.{take_next}
 
 -- ---- parts of a text
 
--- at an error
+-- what is, is at an error
 pub at_err : {T E : Type 0} (r : Result T E) (P : Type 0) → P → OnErr r P
 at_err (Ok x) P p = tt
 at_err (Err e) P p = p
+
+-- not all of a, and so not all of a and b
+pub stopped : {T E : Type 0} (r : Result T E) (u v : Option (List ℕ)) (a b : List ℕ) → AppendsProperPrefix u v a → OnErr r (AppendsProperPrefix u v (a ++ b))
+stopped r u v a b part = at_err r (AppendsProperPrefix u v (a ++ b)) (AppendsProperPrefix-more u v a b part)
 
 -- all of a, and then b
 pub then_all : {T E : Type 0} (r : Result T E) (u v w : Option (List ℕ)) (a b : List ℕ) → Appends u v a → OnOk r (Appends v w b) → OnOk r (Appends u w (a ++ b))
