@@ -8,10 +8,10 @@ from server_cases.laboratory import (Laboratory, close, credit, expect_packet, e
                                      packet_request, send_packet)
 from server_cases.messages import (bearer, created, moment_of, now, packet, post, request, response,
                                    sent, soon)
-from server_cases.program import Program, secret
+from server_cases.program import Program, numbers_in, secret
 from server_cases.stand_ins import (FULFILLS, answers, answers_packet, closes, engine_of,
                                     never_answers, together)
-from server_vectors import ANSWER, F02, F03, F05, JSON, MESSAGE, OCTETS, quantity
+from server_vectors import ANSWER, F02, F03, F05, JSON, MESSAGE, OCTETS, TEXT, quantity
 
 
 @case
@@ -39,6 +39,29 @@ def loopback(laboratory: Laboratory) -> None:
     close(program, alice=-100, bob=200)
     expect("settlements that were asked", len(laboratory.engine.of(settlements)), 1)
     expect("accounts that were asked for", len(laboratory.engine.of("/accounts")), 1)
+
+
+def report(program: Program) -> str:
+    """The report of a connector that runs."""
+    octets = post(program.setup.engines_port, request("/report"))
+    text = octets.partition(b"\r\n\r\n")[2]
+    expect("the response to /report", octets, response(200, text, TEXT))
+    return text.decode("ascii")
+
+
+@case
+def reports(laboratory: Laboratory) -> None:
+    """What is booked is in the report at once, and the last one is what the end prints."""
+    program = laboratory.serve(FULFILLS, engine_of(), levels=False)
+    expect("a report of nothing", numbers_in(report(program)), [0] * 11)
+    expect_served(program, amount=10)
+    paid = [-10, 10, 0, 0, 0, 0, 10, 10, 0, 2, 1]
+    expect("a report of a packet", numbers_in(report(program)), paid)
+    expect("a credit", credit(program, 5), created(quantity(5, 2)))
+    last = report(program)
+    expect("a report of a credit", numbers_in(last), [-10, 15, 0, 0, 0, 0, 10, 10, 5, 3, 1])
+    close(program, alice=-10, bob=15)
+    expect("the report in the end", program.output(), last)
 
 
 # ---- statuses
@@ -114,7 +137,7 @@ def statuses_for_engines(laboratory: Laboratory) -> None:
         ("too large", 400, request(target, key, body=quantity(2**64, 2))),
         ("an unknown name", 404, request("/accounts/carol/settlements", key, body=body)),
         ("a query", 404, request(target + "?x=1", key, body=body)),
-        ("/report", 404, request("/report")),
+        ("another report", 404, request("/report/")),
         ("/ilp", 404, request("/ilp", bearer(setup.token), body=soon())),
         ("/accounts", 404, request("/accounts", body=b'{"id":"bob"}')),
         ("16,384 octets and no head", 431, long_head(16_384)),

@@ -261,7 +261,7 @@ def requests_that_book_nothing(program: Program) -> None:
     expect_packet("no route", program, soon(destination=b"test.carol"), F02)
     expect("a token", post(setup.peers_port, request("/ilp", bearer("x"))), response(401))
     expect("a kept credit", credit(program, 1), created(quantity(1, 2)))
-    expect("/report", post(setup.engines_port, request("/report")), response(404))
+    expect("no target", post(setup.engines_port, request("/reports")), response(404))
 
 
 @case
