@@ -66,7 +66,10 @@ fn configuration(alloc: Global) -> Result<String, AllocError> {
     writeln!(text, "address = \"test.hub\"\nrun = \"r1\"")?;
     for asset in 0..ASSETS {
         let scale = scale_of(asset);
-        writeln!(text, "[[asset]]\ncode = \"CURRENCY{asset:04}\"\nscale = {scale}")?;
+        writeln!(
+            text,
+            "[[asset]]\ncode = \"CURRENCY{asset:04}\"\nscale = {scale}"
+        )?;
     }
     text.push_str(
         "[[price]]\nfrom = \"CURRENCY0012/243\"\nto = \"CURRENCY0003/252\"\np = 4294967295\nq = 1\n",
@@ -82,7 +85,10 @@ fn put_peers(alloc: Global, text: &mut String) -> Result<(), AllocError> {
         writeln!(text, "[[peer]]\nname = \"{name}\"\nasset = \"{asset}\"")?;
         writeln!(text, "token = \"token-{peer}\"\nout_token = \"to-{peer}\"")?;
         text.push_str(LEVELS)?;
-        writeln!(text, "[[route]]\nprefix = \"test.{name}\"\npeer = \"{name}\"")?;
+        writeln!(
+            text,
+            "[[route]]\nprefix = \"test.{name}\"\npeer = \"{name}\""
+        )?;
     }
     Ok(())
 }
@@ -211,12 +217,7 @@ fn report(alloc: Global) -> Result<String, AllocError> {
     Ok(text)
 }
 
-fn put_line(
-    text: &mut String,
-    label: &str,
-    name: &str,
-    number: &str,
-) -> Result<(), AllocError> {
+fn put_line(text: &mut String, label: &str, name: &str, number: &str) -> Result<(), AllocError> {
     writeln!(text, "{label:<10}{name:<20}{number:>30}")
 }
 
@@ -311,10 +312,7 @@ fn sums_of(asset: u32) -> Expected {
 }
 
 fn settled(settled: &'static str) -> Expected {
-    Expected {
-        settled,
-        ..NOTHING
-    }
+    Expected { settled, ..NOTHING }
 }
 
 fn put_asset(text: &mut String, name: &str, sums: Expected) -> Result<(), AllocError> {

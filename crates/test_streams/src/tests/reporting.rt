@@ -86,10 +86,7 @@ fn print_into_each(
         let outcome = print(snapshot, &mut sink);
         assert_eq!(rt; outcome, Err(WriteFault), "with room for {room}");
         assert_eq!(rt; sink.recording.failures, 1);
-        assert_eq!(rt;
-            sink.recording.octets.as_slice(),
-            &text.as_bytes()[..room]
-        );
+        assert_eq!(rt; sink.recording.octets.as_slice(), &text.as_bytes()[..room]);
     }
 }
 
