@@ -22,15 +22,23 @@ const MOST: u64 = u64::MAX;
 
 #[test]
 fn the_largest(rt: HostRuntime) -> Result<(), Fail> {
-    let alloc = rt.alloc();
-    let octets = configuration(alloc)?;
-    let config = Config::read(alloc, octets.as_bytes())?;
-    let mut book = Book::new(alloc, &config)?;
-    book_extremes(&rt, &mut book)?;
-    let text = report(alloc)?;
-    report_each(&rt, &book, text.as_str());
-    let snapshot = Snapshot::of(alloc, &book)?;
-    assert_accounts(&rt, snapshot.peers());
+    let octets = configuration(rt.alloc())?;
+    let config = Config::read(rt.alloc(), octets.as_bytes())?;
+    report_extremes(&rt, &config)?;
+    Ok(())
+}
+
+fn report_extremes(rt: &(impl Abort + AllocGlobal), config: &Config) -> Result<(), AllocError> {
+    let mut book = Book::new(rt.alloc(), config)?;
+    book_extremes(rt, &mut book)?;
+    assert_reports(rt, &book)
+}
+
+fn assert_reports(rt: &(impl Abort + AllocGlobal), book: &Book) -> Result<(), AllocError> {
+    let text = report(rt.alloc())?;
+    report_each(rt, book, text.as_str());
+    let snapshot = Snapshot::of(rt.alloc(), book)?;
+    assert_accounts(rt, snapshot.peers());
     Ok(())
 }
 
