@@ -85,6 +85,20 @@ def balances(amount):
     return [f"balances {-amount} {amount}"]
 
 
+def column(label, name, number):
+    """A line of the report, without its end."""
+    return f"{label:<10}{name:<20}{number:>30}"
+
+
+def report_lines(alice, bob, paid, credited, entries, fulfilled):
+    """The report, where alice paid bob so much in all, and no fee is taken, and no hold is open."""
+    sums = {"held": 0, "fees": 0, "bought": paid, "sold": paid, "settled": credited}
+    lines = [column("balance", "alice", alice), column("balance", "bob", bob),
+             column("open", "alice", 0), column("open", "bob", 0)]
+    lines += [column(label, "USD/2", number) for label, number in sums.items()]
+    return lines + [column("entries", "", entries), column("fulfilled", "", fulfilled)]
+
+
 def actor(number, entries, *records):
     return [f"actor {number}: {entries} entries", *records]
 
@@ -189,7 +203,7 @@ TWO = scene(
     "two at once",
     [f"first {forwarded(0, 3)}", f"second (true, (1, {forwarded(1, 2)}))"]
     + held(0, amount=50) + held(1, 1, amount=50) + closed(2, 1, actor=1) + closed(3, 0)
-    + balances(100),
+    + balances(100) + report_lines(-100, 100, 100, 0, entries=4, fulfilled=2),
     act="two", workers="2", alice=prepare(50), other=prepare(50, HANDED), bob=FULFILL)
 
 

@@ -12,7 +12,7 @@ from itertools import groupby
 
 from packet_vectors import CONDITION, string
 from scene_vectors import (ALICE, BOB, F99, FULFILL, HANDED, ONES, R00, START, T00, T01, actor, asked,
-                           balances, clock, closed, ended, fulfill, held, own_reject)
+                           balances, clock, closed, ended, fulfill, held, own_reject, report_lines)
 
 F02 = own_reject(b"F02", b"unreachable")
 F03 = own_reject(b"F03", b"invalid amount")
@@ -111,19 +111,11 @@ def moments(moment):
     return [] if moment is None else [moment]
 
 
-def column(label, name, number):
-    """A line of the report."""
-    return f"{label:<10}{name:<20}{number:>30}\n"
-
-
 def report(alice, bob, paid, credited, entries, fulfilled, **request):
-    """The report, where alice paid bob so much in all, and no fee is taken, and no hold is open."""
-    sums = {"held": 0, "fees": 0, "bought": paid, "sold": paid, "settled": credited}
-    lines = [column("balance", "alice", alice), column("balance", "bob", bob),
-             column("open", "alice", 0), column("open", "bob", 0)]
-    lines += [column(label, "USD/2", number) for label, number in sums.items()]
-    lines += [column("entries", "", entries), column("fulfilled", "", fulfilled)]
-    return at_engines(response(200, "".join(lines).encode(), TEXT), "/report", **request)
+    """The report of the book, at the side of the engines."""
+    lines = report_lines(alice, bob, paid, credited, entries, fulfilled)
+    body = "".join(line + "\n" for line in lines)
+    return at_engines(response(200, body.encode(), TEXT), "/report", **request)
 
 
 def message(told, body=MESSAGE, name="bob"):

@@ -1,4 +1,4 @@
-//! Each growth denied in turn: books, settlements, replays.
+//! Each growth denied in turn: books, settlements, replays, reports.
 
 use ilp_accounts::Config;
 use std::alloc::Global;
@@ -7,7 +7,9 @@ use std::test::Fail;
 mod books;
 mod configurations;
 mod describing;
+mod largest;
 mod replaying;
+mod reports;
 mod settlements;
 
 // More growths than any of these calls makes.

@@ -1,4 +1,4 @@
-//! Tests of the desk: threads that book at once, and desks that aren't opened.
+//! Tests of the desk: threads that book at once, the report then, and desks that aren't opened.
 #![tactic(auto)]
 
 #[cfg(test)]

@@ -6,7 +6,9 @@ ghost use Rattle.ilp_desk.specs.Desk.{actors_of, base_of};
 use ilp_accounts::Config;
 use ilp_book::{Book, Outcome, PeerReply};
 use ilp_desk::{Desk, Naming, Share, WhyNoDesk};
+use ilp_io::Recording;
 use ilp_packet::Prepare;
+use ilp_report::{Snapshot, print};
 use std::alloc::{AllocError, Allocator, Global};
 use std::marker::Brand;
 use std::process::Abort;
@@ -71,6 +73,24 @@ peer = "bob"
 
 // How many packets each actor passes on.
 const PACKETS: u32 = 20;
+
+// The report once eight actors have passed their packets on: half of the packets are of each peer, so
+// that both paid 8,000 and got as much.
+const REPORT: &str = "balance   alice                                            0
+balance   bob                                              0
+open      alice                                            0
+open      bob                                              0
+held      USD/2                                            0
+fees      USD/2                                            0
+bought    USD/2                                        16000
+sold      USD/2                                        16000
+settled   USD/2                                            0
+entries                                                  320
+fulfilled                                                160
+";
+
+// More growths than a snapshot makes.
+const GROWTHS: u64 = 1_000;
 
 fn lending(alloc: Global) -> Result<Config, Fail> {
     let config = Config::read(alloc, LENDING.as_bytes())?;
@@ -137,7 +157,31 @@ fn compare<J: Naming>(rt: &impl Abort, book: &Book, passed: &Vec<Passed<J>>) {
     assert_eq!(rt; sum, u64::from(book.len()));
 }
 
-// All actors book at once; then the shares are compared with the book.
+// Takes snapshots with each growth denied in turn, and prints the one of ample memory.
+fn report_each<J: Naming>(rt: &(impl Abort + Wait), desk: &Desk<J>) {
+    let alloc = desk.config().allocator();
+    for granted in 0..GROWTHS {
+        let heap = DenyingAllocator::after(alloc, granted);
+        match desk.snapshot(rt, &heap) {
+            Ok(snapshot) => {
+                assert!(rt; !heap.has_denied());
+                assert!(rt; granted > 1);
+                assert_prints(rt, alloc, &snapshot);
+                return;
+            }
+            Err(AllocError) => assert!(rt; heap.has_denied(), "after {granted} growths"),
+        }
+    }
+    assert!(rt; false, "some growth was always denied");
+}
+
+fn assert_prints<A: Allocator>(rt: &impl Abort, alloc: Global, snapshot: &Snapshot<A>) {
+    let mut printed = Recording::new(alloc);
+    assert_eq!(rt; print(snapshot, &mut printed), Ok(()));
+    assert_eq!(rt; printed.octets.as_slice(), REPORT.as_bytes());
+}
+
+// All actors book at once; then the shares are compared with the book, which is reported.
 fn book_all<J: Naming + Send + Sync, R: Threads + Wait + Abort + Sync>(
     rt: &R,
     desk: &Desk<J>,
@@ -145,6 +189,7 @@ fn book_all<J: Naming + Send + Sync, R: Threads + Wait + Abort + Sync>(
 ) -> Result<usize, AllocError> {
     let passed = map_vec(rt, shares, &|share| pass_on(rt, desk, share))?;
     compare(rt, desk.lock(rt).book(), &passed);
+    report_each(rt, desk);
     Ok(passed.len())
 }
 

@@ -3,6 +3,7 @@
 mod configurations;
 mod reading;
 mod replaying;
+mod reporting;
 mod writing;
 
 // More growths than any of these calls makes.

@@ -2,6 +2,7 @@
 
 use crate::forwards::forward;
 use crate::quiet::Quiet;
+use crate::reporting::print_report;
 use crate::scenes::Given;
 use ilp_desk::{Desk, Naming, Record, Share};
 use ilp_oer::Octets;
@@ -64,7 +65,8 @@ struct Forwarded {
 }
 
 /// Has two workers forward: once the first one's peer is asked, the second one forwards, and once
-/// that has answered, the first one's peer replies. So no lock is held while a peer is asked.
+/// that has answered, the first one's peer replies. So no lock is held while a peer is asked. Then the
+/// desk is reported, which is still open.
 pub(crate) fn forward_two<J: Naming + Send + Sync, R: Print + Threads + Wait + Sync>(
     rt: &R,
     desk: &Desk<J>,
@@ -99,7 +101,8 @@ fn join_two<J: Naming + Send + Sync, R: Print + Threads + Wait + Sync>(
     );
     println!(rt; "first {first:?}")?;
     println!(rt; "second {second:?}")?;
-    print_book(rt, desk.lock(rt).book())
+    print_book(rt, desk.lock(rt).book())?;
+    print_report(rt, desk)
 }
 
 fn forward_patiently<J: Naming, R: Wait>(

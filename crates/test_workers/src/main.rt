@@ -10,6 +10,7 @@ mod gathering;
 mod many;
 mod memory;
 mod quiet;
+mod reporting;
 mod scenes;
 mod sweeping;
 mod texts;
