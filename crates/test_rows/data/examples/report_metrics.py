@@ -35,7 +35,7 @@ MOST_ASSETS = 64
 OF_PEERS = ("balance", "open")
 OF_ASSETS = ("held", "fees", "bought", "sold", "settled")
 OF_ALL = ("entries", "fulfilled")
-MAY_BE_NEGATIVE = ("balance", "bought", "settled")
+MAY_BE_NEGATIVE = ("balance", "settled")
 
 MOST_LINES = len(OF_PEERS) * MOST_PEERS + len(OF_ASSETS) * MOST_ASSETS + len(OF_ALL)
 MOST_OCTETS = MOST_LINES * (WIDTH + 1)
