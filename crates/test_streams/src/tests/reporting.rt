@@ -6,6 +6,7 @@ use ilp_connector::BUILT_IN;
 use ilp_io::{Narrow, WhenFull, WriteFault};
 use ilp_packet::Prepare;
 use ilp_report::{Snapshot, print};
+use std::alloc::AllocError;
 use std::process::Abort;
 use std::test::Fail;
 
@@ -50,17 +51,25 @@ fulfilled                                                  1
 
 #[test]
 fn takes_a_front_of_the_report(rt: HostRuntime) -> Result<(), Fail> {
-    let alloc = rt.alloc();
-    let config = Config::read(alloc, BUILT_IN.as_bytes())?;
-    let mut book = Book::new(alloc, &config)?;
-    pay_and_hold(&rt, &mut book);
-    let snapshot = Snapshot::of(alloc, &book)?;
-    for piece in [1, 7, 100] {
-        print_into_each(&rt, &snapshot, TEXT, piece, WhenFull::TakesNone);
-        print_into_each(&rt, &snapshot, TEXT, piece, WhenFull::Fails);
-        print_whole(&rt, &snapshot, TEXT, piece);
-    }
+    let config = Config::read(rt.alloc(), BUILT_IN.as_bytes())?;
+    print_book(&rt, &config)?;
     Ok(())
+}
+
+fn print_book(rt: &(impl Abort + AllocGlobal), config: &Config) -> Result<(), AllocError> {
+    let mut book = Book::new(rt.alloc(), config)?;
+    pay_and_hold(rt, &mut book);
+    let snapshot = Snapshot::of(rt.alloc(), &book)?;
+    print_in_pieces(rt, &snapshot);
+    Ok(())
+}
+
+fn print_in_pieces(rt: &(impl Abort + AllocGlobal), snapshot: &Snapshot) {
+    for piece in [1, 7, 100] {
+        print_into_each(rt, snapshot, TEXT, piece, WhenFull::TakesNone);
+        print_into_each(rt, snapshot, TEXT, piece, WhenFull::Fails);
+        print_whole(rt, snapshot, TEXT, piece);
+    }
 }
 
 fn pay_and_hold(rt: &impl Abort, book: &mut Book) {
