@@ -11,6 +11,7 @@
 #     scripts/bench.sh book
 #     scripts/bench.sh desk
 #     scripts/bench.sh answer
+#     scripts/bench.sh report
 #
 # It works on a copy of the repository in a temporary folder (TMPDIR says where). It needs rt, rustc
 # and python3, and valgrind for the instructions. The Rattle program is proved before it is built
