@@ -120,16 +120,16 @@ def scene(name, told, act="forward", over="two_peers.toml", **given):
     return name, lines, told
 
 
-def forward(name, reply, packet=None, condition=CONDITION, came=FULFILL, row=None, later=START,
-            why=None):
-    """A packet of 100 that is held, handed to bob, and ends as `why` says."""
-    packet = packet or prepare(condition=condition)
-    told = clock(START) + asked(prepare(expires=HANDED, condition=condition)) + clock(later)
-    kept = [] if why == "Late" else [ended(1, 0, why, condition=condition)]
+def forward(name, reply, amount=100, condition=CONDITION, came=FULFILL, row=None, later=START,
+            why=None, over="two_peers.toml"):
+    """A packet that is held, handed to bob, and ends as `why` says."""
+    packet = prepare(amount, condition=condition)
+    told = clock(START) + asked(prepare(amount, HANDED, condition)) + clock(later)
+    kept = [] if why == "Late" else [ended(1, 0, why, amount, condition)]
     told += [receipt(0, 1), answer(reply)] + actor(0, 2, *kept)
-    told += held(0, condition=condition) + closed(1, 0, why, at=later)
-    told += balances(100 if why is None else 0)
-    return scene(name, told, clock=f"{START} {later}", alice=packet,
+    told += held(0, amount=amount, condition=condition) + closed(1, 0, why, at=later)
+    told += balances(amount if why is None else 0)
+    return scene(name, told, over=over, clock=f"{START} {later}", alice=packet,
                  bob=row if row is not None else came)
 
 
@@ -159,6 +159,8 @@ FORWARDS = [
     forward("no reply", T01, came=None, why="NoReply"),
     forward("the longest Fulfill", LONGEST,
             row=LONGEST[:4].hex() + "<32 00>" + LONGEST[36:39].hex() + "<32767 5a>"),
+    forward("the greatest amount that a balance has room for", FULFILL, amount=2**63 - 1,
+            over="deep_credit.toml"),
     refused("to an address of the scheme peer", own_reject(b"F02", b"unreachable"),
             prepare(destination=b"peer.config")),
     refused("too large an amount",

@@ -1,6 +1,6 @@
 -- What a Prepare's hold says of its line.
 use Rattle.std.proofs.Common.{◌≡◌, ℕ, ℤ, Ok, Err, Result, ap, ◌∙◌, subst}
-use Rattle.std.specs.Prelude.{IfOk, OnErr, IsErr}
+use Rattle.std.specs.Prelude.{IfOk, OnErr}
 use Rattle.ilp_packet.specs.Packet.{PlainPrepare, prepare}
 use Rattle.ilp_book.specs.declared.calls.Held.{Held}
 use Rattle.ilp_book.specs.declared.fault.HoldFault.{HoldFault}
@@ -25,8 +25,7 @@ pub hold_lines : {E : Type 0} (book new : PlainBook) (now same : ℤ) (peer : �
 hold_lines book new now same peer p outcome growth (Err e) is reply ample does = tt
 hold_lines book new now same peer p outcome growth (Ok x) is reply ample does = hold_line book new now same peer p outcome growth x is ample reply does
 
--- what a refusal leaves is left where want of memory stands for it
-pub on_denied : {X Y E F : Type 0} (P : Type 0) (told : Result X E) (outcome : Result Y F) → OnErr told (IsErr outcome) → OnErr outcome P → OnErr told P
-on_denied P (Ok x) outcome denied left = tt
-on_denied P (Err e) (Ok y) denied left = absurd cc
-on_denied P (Err e) (Err f) denied left = left
+-- what want of memory leaves is left where it takes the reply away
+pub on_denied : {X Y E F : Type 0} (P : Type 0) (told : Result X E) (outcome : Result Y F) (why : F) → OnErr told (outcome ≡ Err why) → OnErr outcome P → OnErr told P
+on_denied P (Ok x) outcome why denied left = tt
+on_denied P (Err e) outcome why denied left = subst (λ o. OnErr o P) denied left

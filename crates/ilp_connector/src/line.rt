@@ -1,8 +1,11 @@
 //! Running one line of a script.
-ghost use Rattle.std.specs.Prelude.{◌≡◌, IfOk, OnErr, MatchOption, IsErr, Ok};
+ghost use Rattle.std.specs.Prelude.{◌≡◌, IfOk, OnErr, MatchOption, IsErr, Ok, Err};
 ghost use Rattle.hex.specs.Hex.{decode_of};
 ghost use Rattle.ilp_packet.specs.Reading.{reading};
 ghost use Rattle.ilp_settlement.specs.Quantity.{quantity_in};
+ghost use Rattle.ilp_book.specs.declared.fault.HoldFault.TheVariants as hold_fault;
+ghost use Rattle.ilp_book.specs.declared.fault.CreditFault.TheVariants as credit_fault;
+ghost use Rattle.ilp_book.specs.declared.fault.AskFault.TheVariants as ask_fault;
 ghost use Rattle.ilp_book.specs.Book.{granted, Does};
 ghost use Rattle.ilp_book.specs.Configured.{IsKnown};
 ghost use Rattle.ilp_book.specs.HoldStep.{growth_of};
@@ -95,7 +98,7 @@ fn run_hold<A: Allocator + Copy>(
 fn hold_reply(outcome: Result<Held, HoldFault>) -> Result<LineReply, AllocError>
     ensures reply { IfOk result (λ reply. reply ≡ replays.hold_reply outcome) }
     ensures granted { IfOk result (λ _. growth_of outcome ≡ granted) }
-    ensures denied { OnErr result (IsErr outcome) }
+    ensures denied { OnErr result (outcome ≡ Err hold_fault.Memory) }
 {
     match outcome {
         Ok(held) => Ok(LineReply::Held(held)),
@@ -177,7 +180,7 @@ fn run_credit<A: Allocator>(
 fn credit_reply(outcome: Result<Kept, CreditFault>) -> Result<LineReply, AllocError>
     ensures reply { IfOk result (λ reply. reply ≡ replays.credit_reply outcome) }
     ensures granted { IfOk result (λ _. credit_growth outcome ≡ granted) }
-    ensures denied { OnErr result (IsErr outcome) }
+    ensures denied { OnErr result (outcome ≡ Err credit_fault.Memory) }
 {
     match outcome {
         Ok(kept) => Ok(LineReply::Credited(kept)),
@@ -200,7 +203,7 @@ fn run_ask<A: Allocator>(book: &mut Book<A>, now: i64, peer: u32) -> Result<Line
 fn ask_reply(outcome: Result<Asked, AskFault>) -> Result<LineReply, AllocError>
     ensures reply { IfOk result (λ reply. reply ≡ replays.ask_reply outcome) }
     ensures granted { IfOk result (λ _. ask_growth outcome ≡ granted) }
-    ensures denied { OnErr result (IsErr outcome) }
+    ensures denied { OnErr result (outcome ≡ Err ask_fault.Memory) }
 {
     match outcome {
         Ok(asked) => Ok(LineReply::Asked(asked)),

@@ -1,5 +1,5 @@
 //! What the actors of a desk are given: a clock, and ways to peers and to settlement engines.
-ghost use Rattle.std.specs.Prelude.{◌≡◌};
+ghost use Rattle.std.specs.Prelude.{◌≡◌, []};
 ghost use Rattle.ilp_workers.specs.Links.{Tells, came_of, sending, asking, settling, messaging, asked, settled, messaged};
 
 use ilp_oer::Octets;
@@ -50,6 +50,7 @@ pub trait Uplink {
         deadline: i64,
         reply: &mut Octets<A>,
     ) -> Result<(), LinkFault>
+        requires { reply.old.octets ≡ [] }
         ensures { Tells (told self.old)
             (sending to packet.now deadline (came_of result reply.new.octets)) (told self.new) };
 }
@@ -80,6 +81,7 @@ pub trait EngineLink {
         octets: &[u8],
         reply: &mut Octets<A>,
     ) -> Result<(), LinkFault>
+        requires { reply.old.octets ≡ [] }
         ensures { Tells (told self.old)
             (messaged (messaging peer octets.now (came_of result reply.new.octets))) (told self.new) };
 }

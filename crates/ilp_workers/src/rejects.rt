@@ -1,5 +1,5 @@
 //! The Rejects that the connector gives itself (RFC 0027, "Error Codes").
-ghost use Rattle.std.specs.Prelude.{◌≡◌, ◌+◌, ◌≤◌, ◌++◌, length};
+ghost use Rattle.std.specs.Prelude.{◌≡◌, ◌+◌, ◌≤◌, ◌++◌, length, Some};
 ghost use Rattle.std.specs.Int.{w64, to_be_bytes};
 ghost use Rattle.ilp_packet.specs.Packet.{reject, Spells};
 ghost use Rattle.ilp_book.specs.RejectCode.{reject_code};
@@ -112,6 +112,8 @@ impl LocalReject {
 }
 
 impl fmt::Display for LocalReject {
+    ghost output = { λ why. Some (message_of why) };
+
     fn fmt<W: fmt::Write>(&self, f: &mut fmt::Formatter<W>) -> fmt::Result {
         f.write_str(self.message())
     }

@@ -38,15 +38,14 @@ pub(crate) struct Scene<'a, R> {
 }
 
 impl<R: Threads + std::time::Clock + Abort + Sync> Scene<'_, R> {
-    /// Alice is sent a packet of these octets while the stand-in does its part. Gives what it heard,
-    /// and what she replied.
+    /// Alice is sent a packet while the stand-in does its part. Gives what it heard, and what she
+    /// replied, if anything.
     fn sent<U: Uplink>(
         &self,
         link: &mut U,
         wait: i64,
         does: Does<'_>,
-        reply: &mut Octets,
-    ) -> (io::Result<Vec<u8>>, Result<(), LinkFault>) {
+    ) -> (io::Result<Vec<u8>>, Option<Octets>) {
         let Scene {
             rt,
             alloc,
@@ -56,7 +55,7 @@ impl<R: Threads + std::time::Clock + Abort + Sync> Scene<'_, R> {
         join(
             rt,
             move || stand_in(rt, alloc, listener, does),
-            || link.send(0, b"packet", START.saturating_add(wait), reply),
+            || reply_of(link, alloc, 0, START.saturating_add(wait)),
         )
     }
 
@@ -68,31 +67,27 @@ impl<R: Threads + std::time::Clock + Abort + Sync> Scene<'_, R> {
         response: &[u8],
         want: &[u8],
     ) -> io::Result<()> {
-        let mut reply = Octets::new(self.alloc);
         let does = Does::Answers(request.len(), response);
-        let (heard, came) = self.sent(link, 10_000, does, &mut reply);
+        let (heard, reply) = self.sent(link, 10_000, does);
         let heard = heard?;
         assert!(self.rt; heard.as_slice() == request);
-        assert!(self.rt; came.is_ok());
-        assert!(self.rt; reply.as_slice() == want);
+        assert!(self.rt; has_come(reply, want));
         Ok(())
     }
 
     /// A packet to alice is a fault where the stand-in does so.
     pub(crate) fn fails<U: Uplink>(&self, link: &mut U, does: Does<'_>) -> io::Result<()> {
-        let mut reply = Octets::new(self.alloc);
-        let (_, came) = self.sent(link, 10_000, does, &mut reply);
-        assert!(self.rt; came.is_err());
+        let (_, reply) = self.sent(link, 10_000, does);
+        assert!(self.rt; reply.is_none());
         Ok(())
     }
 
     /// A packet to alice with 300 milliseconds left is a fault after about that time.
     pub(crate) fn runs_out<U: Uplink>(&self, link: &mut U, does: Does<'_>) -> io::Result<()> {
-        let mut reply = Octets::new(self.alloc);
         let begun = Instant::now(self.rt)?;
-        let (_, came) = self.sent(link, 300, does, &mut reply);
+        let (_, reply) = self.sent(link, 300, does);
         let took = begun.elapsed(self.rt)?;
-        assert!(self.rt; came.is_err());
+        assert!(self.rt; reply.is_none());
         assert!(self.rt; took >= Duration::from_millis(290));
         assert!(self.rt; took < Duration::from_secs(5));
         Ok(())
@@ -180,17 +175,46 @@ impl<R: Threads + std::time::Clock + Abort + Sync> Scene<'_, R> {
             listener,
             ..
         } = *self;
-        let mut reply = Octets::new(alloc);
         let does = Does::Answers(request.len(), response);
-        let (heard, came) = join(
+        let (heard, answer) = join(
             rt,
             move || stand_in(rt, alloc, listener, does),
-            || link.message(1, b"message", &mut reply),
+            || answer_of(link, alloc, 1),
         );
         let heard = heard?;
         assert!(rt; heard.as_slice() == request);
-        assert!(rt; came.is_ok());
-        assert!(rt; reply.as_slice() == want);
+        assert!(rt; has_come(answer, want));
         Ok(())
+    }
+}
+
+/// What a peer replies to a packet by this moment, if anything.
+pub(crate) fn reply_of<U: Uplink>(
+    link: &mut U,
+    alloc: Global,
+    to: u32,
+    deadline: i64,
+) -> Option<Octets> {
+    let mut reply = Octets::new(alloc);
+    match link.send(to, b"packet", deadline, &mut reply) {
+        Ok(()) => Some(reply),
+        Err(LinkFault) => None,
+    }
+}
+
+/// What a peer's engine answers to a message, if anything.
+pub(crate) fn answer_of<E: EngineLink>(link: &mut E, alloc: Global, peer: u32) -> Option<Octets> {
+    let mut answer = Octets::new(alloc);
+    match link.message(peer, b"message", &mut answer) {
+        Ok(()) => Some(answer),
+        Err(LinkFault) => None,
+    }
+}
+
+// Whether these octets came.
+fn has_come(came: Option<Octets>, want: &[u8]) -> bool {
+    match came {
+        Some(octets) => octets.as_slice() == want,
+        None => false,
     }
 }

@@ -1,13 +1,12 @@
 //! What comes of calls of links, by what stand-ins do. The requests' octets are those of
 //! `docs/PROTOCOL.md`, written out by hand.
 
-use crate::calls::{START, Scene, Still};
+use crate::calls::{START, Scene, Still, answer_of, reply_of};
 use crate::hearing::{At, Hearing};
 use crate::stage::{Play, stage};
 use crate::stand_in::Does;
 use ilp_accounts::Config;
 use ilp_links::{Links, Notices, SystemClock, TcpLinks, TimedReader, TimedWriter};
-use ilp_oer::Octets;
 use ilp_workers::{Clock, EngineLink, EngineReply, Uplink};
 use std::alloc::Global;
 use std::io;
@@ -130,15 +129,13 @@ fn packets_to_alice(rt: HostRuntime) -> Result<(), Fail> {
 
 // Packets for which no connection is made.
 fn send_to_nobody<U: Uplink>(rt: &impl Abort, alloc: Global, link: &mut U) {
-    let mut reply = Octets::new(alloc);
     // Nothing is left, or less than nothing.
-    assert!(rt; link.send(0, b"packet", START, &mut reply).is_err());
-    assert!(rt; link.send(0, b"packet", i64::MIN, &mut reply).is_err());
+    assert!(rt; reply_of(link, alloc, 0, START).is_none());
+    assert!(rt; reply_of(link, alloc, 0, i64::MIN).is_none());
     // Bob listens nowhere, carol's host is no place, and there is no other peer.
-    assert!(rt; link.send(1, b"packet", i64::MAX, &mut reply).is_err());
-    assert!(rt; link.send(2, b"packet", i64::MAX, &mut reply).is_err());
-    assert!(rt; link.send(3, b"packet", i64::MAX, &mut reply).is_err());
-    assert!(rt; reply.as_slice().is_empty());
+    assert!(rt; reply_of(link, alloc, 1, i64::MAX).is_none());
+    assert!(rt; reply_of(link, alloc, 2, i64::MAX).is_none());
+    assert!(rt; reply_of(link, alloc, 3, i64::MAX).is_none());
 }
 
 pub(crate) fn play_nobody<R>(scene: Scene<'_, R>) -> io::Result<()>
@@ -236,13 +233,11 @@ fn send_messages<R: Threads + std::time::Clock + Abort + Sync, E: EngineLink>(
 
 // Alice has no engine, and there is no fourth peer: nobody is asked.
 fn ask_no_engine<E: EngineLink>(rt: &impl Abort, alloc: Global, link: &mut E) {
-    let mut reply = Octets::new(alloc);
     for peer in [0, 3] {
         assert!(rt; !link.account(peer));
         assert_eq!(rt; link.settle(peer, "r1-7", 250, 2), EngineReply::Unknown);
-        assert!(rt; link.message(peer, b"message", &mut reply).is_err());
+        assert!(rt; answer_of(link, alloc, peer).is_none());
     }
-    assert!(rt; reply.as_slice().is_empty());
 }
 
 pub(crate) fn play_engines<R>(scene: Scene<'_, R>) -> io::Result<()>

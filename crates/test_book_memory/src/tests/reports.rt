@@ -23,6 +23,19 @@ const PAID_AND_HELD: &str = "balance   alice                                    
     entries                                                    3\n\
     fulfilled                                                  1\n";
 
+// What is left of holds that were all released.
+const RELEASED: &str = "balance   alice                                            0\n\
+    balance   bob                                              0\n\
+    open      alice                                            0\n\
+    open      bob                                              0\n\
+    held      USD/2                                            0\n\
+    fees      USD/2                                            0\n\
+    bought    USD/2                                            0\n\
+    sold      USD/2                                            0\n\
+    settled   USD/2                                            0\n\
+    entries                                                10000\n\
+    fulfilled                                                  0\n";
+
 #[test]
 fn a_payment_and_a_hold(rt: HostRuntime) -> Result<(), Fail> {
     let config = lending(rt.alloc())?;
@@ -30,6 +43,25 @@ fn a_payment_and_a_hold(rt: HostRuntime) -> Result<(), Fail> {
     pay_and_hold(&rt, &mut book);
     report_each(&rt, &book, PAID_AND_HELD);
     Ok(())
+}
+
+#[test]
+fn ten_thousand_entries(rt: HostRuntime) -> Result<(), Fail> {
+    let config = lending(rt.alloc())?;
+    let mut book = Book::new(rt.alloc(), &config)?;
+    for _ in 0..5_000 {
+        hold_and_release(&rt, &mut book);
+    }
+    let snapshot = Snapshot::of(rt.alloc(), &book)?;
+    assert_prints(&rt, &snapshot, RELEASED);
+    Ok(())
+}
+
+fn hold_and_release(rt: &impl Abort, book: &mut Book) {
+    let number = book.len();
+    hold(rt, book);
+    let outcome = book.answer(0, number, PeerReply::NoReply, START);
+    assert!(rt; matches!(outcome, Ok(Outcome::Released { .. })));
 }
 
 fn pay_and_hold(rt: &impl Abort, book: &mut Book) {

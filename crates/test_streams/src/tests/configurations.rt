@@ -1,8 +1,10 @@
 //! Configurations read to their end, up to their limit and where a read fails.
 
+use ilp_accounts::{Config, Levels};
 use ilp_connector::{BUILT_IN, Refusal, read_config};
 use ilp_io::Pieces;
 use std::alloc::{AllocError, Global};
+use std::process::Abort;
 use std::test::Fail;
 
 // How many octets are read of a source of so many, in pieces.
@@ -57,4 +59,29 @@ fn reads_no_configuration_where_a_read_fails(rt: HostRuntime) {
         assert!(rt; matches!(outcome, Err(Refusal::ConfigUnread)), "at {place}");
         assert_eq!(rt; reader.failures, 1);
     }
+}
+
+#[test]
+fn reads_the_terms_of_the_built_in_configuration(rt: HostRuntime) -> Result<(), Fail> {
+    let config = Config::read(rt.alloc(), BUILT_IN.as_bytes())?;
+    assert_terms(&rt, &config);
+    Ok(())
+}
+
+// What alice and bob may owe, when bob is settled with, and where packets for each go.
+fn assert_terms(rt: &impl Abort, config: &Config) {
+    assert!(rt; config.peers() == 2);
+    assert_eq!(rt; (config.name(0), config.name(1)), ("alice", "bob"));
+    assert_eq!(rt; (config.least(0), config.least(1)), (-100, -100));
+    assert_eq!(rt; (config.fee_ppm(0), config.fee_ppm(1)), (0, 0));
+    assert_eq!(rt; (config.scale(0), config.scale(1)), (2, 2));
+    assert_eq!(rt; config.levels(0), None);
+    let levels = Levels {
+        threshold: 1_000,
+        settle_to: 200,
+    };
+    assert_eq!(rt; config.levels(1), Some(levels));
+    assert_eq!(rt; config.routes(), 2);
+    assert_eq!(rt; config.route(b"test.alice"), Some(0));
+    assert_eq!(rt; config.route(b"test.bob"), Some(1));
 }

@@ -20,4 +20,4 @@ returns-in-Ok-Prepare-clause-step g c =
 
 -- where memory is denied the book is as before
 pub returns-in-Ok-Prepare-clause-err : goal.returns-in-Ok-Prepare-clause-err
-returns-in-Ok-Prepare-clause-err g c = on_denied _ c.hold_reply.result c.hold.result c.hold_reply.ensures.denied c.hold.ensures.err
+returns-in-Ok-Prepare-clause-err g c = on_denied _ c.hold_reply.result c.hold.result _ c.hold_reply.ensures.denied c.hold.ensures.err
