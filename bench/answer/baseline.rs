@@ -260,7 +260,7 @@ fn book_one(desk: &Desk, amount: u64) -> bool {
     let Ok(held) = desk.book.lock().unwrap().hold(0, ALICE, &prepare, NEW_YEAR) else {
         return false;
     };
-    let reply = PeerReply::Fulfil(black_box([0; 32]));
+    let reply = PeerReply::Fulfill(black_box([0; 32]));
     let outcome = desk.book.lock().unwrap().answer(0, held.number, reply, NEW_YEAR);
     matches!(outcome, Ok(Outcome::Fulfilled { .. }))
 }

@@ -245,8 +245,8 @@ enum HoldFault {
 }
 
 enum PeerReply {
-    Fulfil([u8; 32]),
-    BadFulfil,
+    Fulfill([u8; 32]),
+    BadFulfill,
     Reject([u8; 3]),
     NoReply,
 }
@@ -402,8 +402,8 @@ fn verdict(hold: &Hold, moment: i64, reply: PeerReply) -> Result<[u8; 32], Cause
         return Err(Cause::Late);
     }
     let preimage = match reply {
-        PeerReply::Fulfil(preimage) => preimage,
-        PeerReply::BadFulfil => return Err(Cause::WrongPreimage),
+        PeerReply::Fulfill(preimage) => preimage,
+        PeerReply::BadFulfill => return Err(Cause::WrongPreimage),
         PeerReply::Reject(code) => return Err(Cause::Peer(code)),
         PeerReply::NoReply => return Err(Cause::NoReply),
     };
@@ -449,7 +449,7 @@ impl Payments {
             destination,
         });
         match book.hold(0, from, &prepare, now) {
-            Ok(held) => held.out ^ fulfil(book, held.number, [secret as u8; 32], now),
+            Ok(held) => held.out ^ fulfill(book, held.number, [secret as u8; 32], now),
             Err(_) => 1,
         }
     }
@@ -459,8 +459,8 @@ impl Payments {
     }
 }
 
-fn fulfil(book: &mut Book, number: u32, preimage: [u8; 32], now: i64) -> u64 {
-    match book.answer(0, number, PeerReply::Fulfil(black_box(preimage)), now) {
+fn fulfill(book: &mut Book, number: u32, preimage: [u8; 32], now: i64) -> u64 {
+    match book.answer(0, number, PeerReply::Fulfill(black_box(preimage)), now) {
         Ok(Outcome::Fulfilled { entry }) => u64::from(entry),
         Ok(Outcome::Released { .. }) => 2,
         Err(_) => 3,

@@ -98,7 +98,7 @@ fn book_one(desk: &Mutex<Book>, actor: u32, amount: u64) -> bool {
     let Ok(held) = held else {
         return false;
     };
-    let reply = PeerReply::Fulfil(black_box([0; 32]));
+    let reply = PeerReply::Fulfill(black_box([0; 32]));
     let outcome = desk.lock().unwrap().answer(actor, held.number, reply, NEW_YEAR);
     matches!(outcome, Ok(Outcome::Fulfilled { .. }))
 }

@@ -234,8 +234,8 @@ pub enum HoldFault {
 }
 
 pub enum PeerReply {
-    Fulfil([u8; 32]),
-    BadFulfil,
+    Fulfill([u8; 32]),
+    BadFulfill,
     Reject([u8; 3]),
     NoReply,
 }
@@ -391,8 +391,8 @@ fn verdict(hold: &Hold, moment: i64, reply: PeerReply) -> Result<[u8; 32], Cause
         return Err(Cause::Late);
     }
     let preimage = match reply {
-        PeerReply::Fulfil(preimage) => preimage,
-        PeerReply::BadFulfil => return Err(Cause::WrongPreimage),
+        PeerReply::Fulfill(preimage) => preimage,
+        PeerReply::BadFulfill => return Err(Cause::WrongPreimage),
         PeerReply::Reject(code) => return Err(Cause::Peer(code)),
         PeerReply::NoReply => return Err(Cause::NoReply),
     };

@@ -246,13 +246,13 @@ fn closing_by(condition: &[u8; 32], came: Result<(), LinkFault>, reply: &[u8]) -
 fn closing_by_fulfill(condition: &[u8; 32], preimage: &[u8; 32]) -> Closing {
     if sha256(preimage) == *condition {
         Closing {
-            answer: PeerReply::Fulfil(*preimage),
+            answer: PeerReply::Fulfill(*preimage),
             ending: Ending::Fulfilled,
             told: Told::Passed,
         }
     } else {
         Closing {
-            answer: PeerReply::BadFulfil,
+            answer: PeerReply::BadFulfill,
             ending: Ending::Released(Cause::WrongPreimage),
             told: Told::Rejected,
         }

@@ -36,12 +36,12 @@ verdict_tests : (late : Bool) (reply : PeerReply) (good : List ℕ → Bool) (v 
     → (refuse_if late cause.Late >>= λ _. preimage_of reply >>= λ preimage. refuse_if (not (good preimage)) cause.WrongPreimage >>= λ _. Ok preimage) ≡ v
     → Tells late good v
 verdict_tests true reply good v e = subst (Tells true good) e refl
-verdict_tests false (peer_reply.Fulfil preimage) good v e = of_test (good preimage) refl e
+verdict_tests false (peer_reply.Fulfill preimage) good v e = of_test (good preimage) refl e
   where
     of_test : (b : Bool) → good preimage ≡ b → (refuse_if (not b) cause.WrongPreimage >>= λ _. Ok preimage) ≡ v → Tells false good v
     of_test true g e = subst (Tells false good) e (g, refl)
     of_test false g e = subst (Tells false good) e (λ e. cc)
-verdict_tests false peer_reply.BadFulfil good v e = subst (Tells false good) e (λ e. cc)
+verdict_tests false peer_reply.BadFulfill good v e = subst (Tells false good) e (λ e. cc)
 verdict_tests false (peer_reply.Reject code) good v e = subst (Tells false good) e (λ e. cc)
 verdict_tests false peer_reply.NoReply good v e = subst (Tells false good) e (λ e. cc)
 

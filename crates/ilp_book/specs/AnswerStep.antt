@@ -18,8 +18,8 @@ use Rattle.ilp_book.specs.Open.{earliest}
 
 -- the preimage that a reply has, or why there is none
 abbrev pub preimage_of : PeerReply → Result (List ℕ) Cause
-preimage_of (peer_reply.Fulfil preimage) = Ok preimage
-preimage_of peer_reply.BadFulfil = Err cause.WrongPreimage
+preimage_of (peer_reply.Fulfill preimage) = Ok preimage
+preimage_of peer_reply.BadFulfill = Err cause.WrongPreimage
 preimage_of (peer_reply.Reject code) = Err (cause.Peer code)
 preimage_of peer_reply.NoReply = Err cause.NoReply
 

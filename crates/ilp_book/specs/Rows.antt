@@ -57,7 +57,7 @@ pay condition amount = sends 0 (prepare condition amount) (Some 1)
 
 -- the preimage of 32 zeros
 abbrev pub zeros : PeerReply
-zeros = peer_reply.Fulfil (replicate 32 0)
+zeros = peer_reply.Fulfill (replicate 32 0)
 
 -- cents that a peer settles
 abbrev pub cents : ℕ → Quantity
@@ -115,7 +115,7 @@ pub record LateRow (c : List ℕ) : Type 0 where
 -- what releases a hold before its deadline
 pub record ReleasedRow (c : List ℕ) : Type 0 where
   pub wrong : meets c (replicate 32 0) ≡ false → answers_of (between alice bob) (at_ 0 (pay c 100) ∷ at_ 1 (answer 0 zeros) ∷ []) ≡ accepted_as 0 100 ∷ released_by 1 cause.WrongPreimage ∷ []
-  pub known_wrong : answers_of (between alice bob) (at_ 0 (pay c 100) ∷ at_ 1 (answer 0 peer_reply.BadFulfil) ∷ []) ≡ accepted_as 0 100 ∷ released_by 1 cause.WrongPreimage ∷ []
+  pub known_wrong : answers_of (between alice bob) (at_ 0 (pay c 100) ∷ at_ 1 (answer 0 peer_reply.BadFulfill) ∷ []) ≡ accepted_as 0 100 ∷ released_by 1 cause.WrongPreimage ∷ []
   pub rejected : answers_of (between alice bob) (at_ 0 (pay c 100) ∷ at_ 1 (answer 0 (peer_reply.Reject (codes "F99"))) ∷ []) ≡ accepted_as 0 100 ∷ released_by 1 (cause.Peer (codes "F99")) ∷ []
   pub unanswered : answers_of (between alice bob) (at_ 0 (pay c 100) ∷ at_ 1 (answer 0 peer_reply.NoReply) ∷ []) ≡ accepted_as 0 100 ∷ released_by 1 cause.NoReply ∷ []
   pub once : answers_of (between alice bob) (at_ 0 (pay c 100) ∷ at_ 1 (answer 0 peer_reply.NoReply) ∷ at_ 2 (answer 0 zeros) ∷ []) ≡ accepted_as 0 100 ∷ released_by 1 cause.NoReply ∷ not_open 1 ∷ []

@@ -100,8 +100,8 @@ pub(crate) fn verdict(hold: &Hold, moment: i64, reply: PeerReply) -> Result<[u8;
         return Err(Cause::Late);
     }
     let preimage = match reply {
-        PeerReply::Fulfil(preimage) => preimage,
-        PeerReply::BadFulfil => return Err(Cause::WrongPreimage),
+        PeerReply::Fulfill(preimage) => preimage,
+        PeerReply::BadFulfill => return Err(Cause::WrongPreimage),
         PeerReply::Reject(code) => return Err(Cause::Peer(code)),
         PeerReply::NoReply => return Err(Cause::NoReply),
     };

@@ -20,9 +20,9 @@ pub struct Held {
 #[derive(Clone, Copy, Debug, PartialEq, Eq)]
 pub enum PeerReply {
     /// A Fulfill with this preimage.
-    Fulfil([u8; 32]),
+    Fulfill([u8; 32]),
     /// A Fulfill whose preimage is known not to meet the condition.
-    BadFulfil,
+    BadFulfill,
     /// A Reject with this code.
     Reject([u8; 3]),
     /// No Fulfill and no Reject that could be read.

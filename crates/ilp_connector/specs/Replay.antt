@@ -79,7 +79,7 @@ hold_packet book now peer (Err fault) = says (replies.BadPacket (packet_refusal 
 -- what came back: octets that are no packet, and a Prepare, count as no reply
 abbrev pub came_back : Result PlainPacket PacketFault → PeerReply
 came_back (Ok (prepare p)) = peer_reply.NoReply
-came_back (Ok (fulfill f)) = peer_reply.Fulfil f.preimage
+came_back (Ok (fulfill f)) = peer_reply.Fulfill f.preimage
 came_back (Ok (reject r)) = peer_reply.Reject r.code
 came_back (Err fault) = peer_reply.NoReply
 

@@ -229,7 +229,7 @@ fn came_back(octets: &[u8]) -> PeerReply
     ensures { result ≡ replays.came_back (reading octets.now) }
 {
     match Packet::read(octets) {
-        Ok(Packet::Fulfill(fulfill)) => PeerReply::Fulfil(*fulfill.preimage),
+        Ok(Packet::Fulfill(fulfill)) => PeerReply::Fulfill(*fulfill.preimage),
         Ok(Packet::Reject(reject)) => PeerReply::Reject(*reject.code),
         Ok(Packet::Prepare(_)) => PeerReply::NoReply,
         Err(_) => PeerReply::NoReply,

@@ -18,13 +18,13 @@ use Rattle.ilp_book.specs.Book.{PlainBook}
 use Rattle.ilp_book.specs.Configured.{peer_assets}
 use Rattle.ilp_desk.specs.declared.record.Record.{Record}
 use Rattle.ilp_desk.specs.declared.record.Recorded.{Recorded}
-use Rattle.ilp_desk.specs.declared.record.EndedHold.{EndedHold}
-use Rattle.ilp_desk.specs.declared.record.Ending.TheVariants.{Fulfilled, Released}
+use Rattle.ilp_desk.specs.declared.record.AnsweredHold.{AnsweredHold}
+use Rattle.ilp_desk.specs.declared.record.Verdict.TheVariants.{Fulfilled, Released}
 use Rattle.ilp_desk.specs.declared.gathering.WhyNotGathered.{WhyNotGathered}
 use Rattle.ilp_desk.specs.declared.gathering.WhyNotGathered.TheVariants.{Double, Missing, Disagrees}
 use Rattle.ilp_desk.specs.Desk.{PlainDesk, IsActor, IsBookOf, actors_of}
 use Rattle.ilp_desk.specs.Portion.{Holding}
-use Rattle.ilp_desk.specs.Records.{ended, closed, record_of}
+use Rattle.ilp_desk.specs.Records.{answered_hold, closed, record_of}
 use Rattle.ilp_desk.specs.Totals.{of_packet, sum_of_packets, sum_of_fulfilled}
 use Rattle.ilp_desk.specs.Gathering.{IsGathered, IsWhole, IsWhyNotGathered, holders, records_of}
 use Rattle.ilp_desk.proofs.Splits.{All-first, All-rest, listed, split, sum_by_same}
@@ -32,7 +32,7 @@ use Rattle.ilp_desk.proofs.Splits.{All-first, All-rest, listed, split, sum_by_sa
 -- ---- what records tell of what was fulfilled
 
 -- f of a hold is what g is of the record of its fulfillment
-module _ (f : Hold → ℕ) (g : EndedHold → ℕ) (tells : (n : ℕ) (h : Hold) → of_packet g (ended n Fulfilled h) ≡ f h) (j : Entries) where
+module _ (f : Hold → ℕ) (g : AnsweredHold → ℕ) (tells : (n : ℕ) (h : Hold) → of_packet g (answered_hold n Fulfilled h) ≡ f h) (j : Entries) where
   -- what a record weighs
   abbrev weight : Record → ℕ
   weight r = of_packet g r.what
@@ -52,12 +52,12 @@ module _ (f : Hold → ℕ) (g : EndedHold → ℕ) (tells : (n : ℕ) (h : Hold
   of_entry : (n : ℕ) (e : Entry) → sum_by weight (option_to_list (record_of j n e)) ≡ of_named j f (fulfilled e.what)
   of_entry n e = of e.what
     where
-      released_as : (hold : ℕ) (c : Cause) → sum_by weight (option_to_list (option_map (λ (r : Recorded). record { number = n; what = r }) (option_map (ended hold (Released c)) (hold_at j hold)))) ≡ 0
-      released_as hold c = kept n (ended hold (Released c)) (λ _. 0) (hold_at j hold) (λ h. refl) ∙ nothing (hold_at j hold)
+      released_as : (hold : ℕ) (c : Cause) → sum_by weight (option_to_list (option_map (λ (r : Recorded). record { number = n; what = r }) (option_map (answered_hold hold (Released c)) (hold_at j hold)))) ≡ 0
+      released_as hold c = kept n (answered_hold hold (Released c)) (λ _. 0) (hold_at j hold) (λ h. refl) ∙ nothing (hold_at j hold)
 
       of : (w : What) → sum_by weight (option_to_list (record_of j n (record e { what = w }))) ≡ of_named j f (fulfilled w)
       of (what.Hold h) = refl
-      of (what.Fulfilled hold preimage) = kept n (ended hold Fulfilled) f (hold_at j hold) (tells hold)
+      of (what.Fulfilled hold preimage) = kept n (answered_hold hold Fulfilled) f (hold_at j hold) (tells hold)
       of (what.Released hold cause.Late) = refl
       of (what.Released hold cause.WrongPreimage) = released_as hold cause.WrongPreimage
       of (what.Released hold cause.NoReply) = released_as hold cause.NoReply
@@ -151,11 +151,11 @@ module _ (desk : PlainDesk) (book : PlainBook) (ends : List Holding) (of_desk : 
   acted = subst (λ b. All (λ (e : Entry). IsActor desk e.actor) (drop b book.entries)) (sym of_desk.base) of_desk.acted
 
   -- the ends tell what was fulfilled
-  adds : (f : Hold → ℕ) (g : EndedHold → ℕ) → ((n : ℕ) (h : Hold) → of_packet g (ended n Fulfilled h) ≡ f h)
-      → sum_by (λ (h : Holding). sum_of_packets g h.kept) ends ≡ sum_of_fulfilled f book.base book.entries
+  adds : (f : Hold → ℕ) (g : AnsweredHold → ℕ) → ((n : ℕ) (h : Hold) → of_packet g (answered_hold n Fulfilled h) ≡ f h)
+      → sum_by (λ (h : Holding). sum_of_packets g h.records) ends ≡ sum_of_fulfilled f book.base book.entries
   adds f g tells =
       let w : Record → ℕ = λ r. of_packet g r.what in
-      sum_by_same (λ (h : Holding). sum_by w h.kept) (λ (h : Holding). sum_by w (records_of book h.share.actor)) ends (λ k d less. ap (sum_by w) (whole.kept k d less))
+      sum_by_same (λ (h : Holding). sum_by w h.records) (λ (h : Holding). sum_by w (records_of book h.share.actor)) ends (λ k d less. ap (sum_by w) (whole.records k d less))
       ∙ split w book.entries (actors_of desk) ends whole.once book.base (drop book.base book.entries) acted
       ∙ of_entries f g tells book.entries book.base (drop book.base book.entries)
 
@@ -189,4 +189,4 @@ never_whole desk book ends (Double actor) whole is = absurd (omega (arith, is.se
 never_whole desk book ends (Missing actor) whole is = absurd (omega (arith, is.none, whole.once actor is.known))
 never_whole desk book ends (Disagrees actor) whole is =
     let other = is.differs in
-    other.other (at_place (λ (h : Holding). h.kept ≡ records_of book h.share.actor) ends other.place other.there other.stands whole.kept ∙ ap (records_of book) other.is_of)
+    other.other (at_place (λ (h : Holding). h.records ≡ records_of book h.share.actor) ends other.place other.there other.stands whole.records ∙ ap (records_of book) other.is_of)

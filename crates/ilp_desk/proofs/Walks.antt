@@ -3,7 +3,7 @@ use Rattle.std.proofs.Common.{◌≡◌, ◌≢◌, ℕ, zero, suc, ◌+◌, ◌
 use Rattle.ilp_journal.specs.declared.entry.Entry.{Entry}
 use Rattle.ilp_journal.specs.Journal.{Entries}
 use Rattle.ilp_desk.specs.declared.record.Record.{Record}
-use Rattle.ilp_desk.specs.Records.{listed_from, record_of, record_by, records}
+use Rattle.ilp_desk.specs.Records.{listed_from, record_of, record_by, actor_records}
 
 -- what stands at a place, and the list from there on
 drop_get : {X : Type 0} (xs : List X) (k : ℕ) → k < length xs → (x : X) × (slice_get xs k ≡ Some x) × (drop k xs ≡ x ∷ drop (k + 1) xs)
@@ -13,23 +13,23 @@ drop_get (x ∷ xs) (suc k) less =
     let r = drop_get xs k (omega arith) in (r.0, r.1, r.2 ∙ rw (add-one, add-one))
 
 -- an actor's records from a place on are that of the entry there, if there is one, and those after it
-records-step : (j : Entries) (actor k : ℕ) → k < length j → records j k actor ≡ option_to_list (record_by j k actor) ++ records j (k + 1) actor
+records-step : (j : Entries) (actor k : ℕ) → k < length j → actor_records j k actor ≡ option_to_list (record_by j k actor) ++ actor_records j (k + 1) actor
 records-step j actor k less =
     let at = drop_get j k less in
     ap (listed_from (λ n (e : Entry). cond (actor == e.actor) (record_of j n e) None) k) at.2
-    ∙ sym (ap (λ (o : Option Entry). option_to_list (option_and_then (λ (e : Entry). cond (actor == e.actor) (record_of j k e) None) o) ++ records j (k + 1) actor) at.1)
+    ∙ sym (ap (λ (o : Option Entry). option_to_list (option_and_then (λ (e : Entry). cond (actor == e.actor) (record_of j k e) None) o) ++ actor_records j (k + 1) actor) at.1)
 
-pub records_none : (j : Entries) (actor k : ℕ) → k < length j → record_by j k actor ≡ None → records j k actor ≡ records j (k + 1) actor
+pub records_none : (j : Entries) (actor k : ℕ) → k < length j → record_by j k actor ≡ None → actor_records j k actor ≡ actor_records j (k + 1) actor
 records_none j actor k less none =
-    records-step j actor k less ∙ ap (λ (o : Option Record). option_to_list o ++ records j (k + 1) actor) none
+    records-step j actor k less ∙ ap (λ (o : Option Record). option_to_list o ++ actor_records j (k + 1) actor) none
 
-records_some : (j : Entries) (actor k : ℕ) (r : Record) → k < length j → record_by j k actor ≡ Some r → records j k actor ≡ r ∷ records j (k + 1) actor
+records_some : (j : Entries) (actor k : ℕ) (r : Record) → k < length j → record_by j k actor ≡ Some r → actor_records j k actor ≡ r ∷ actor_records j (k + 1) actor
 records_some j actor k r less some =
-    records-step j actor k less ∙ ap (λ (o : Option Record). option_to_list o ++ records j (k + 1) actor) some
+    records-step j actor k less ∙ ap (λ (o : Option Record). option_to_list o ++ actor_records j (k + 1) actor) some
 
 -- what the walk meets next
-pub walks : (j : Entries) (kept all : List Record) (actor next k : ℕ) (r : Record) → all ≡ take next kept ++ records j k actor → k < length j → record_by j k actor ≡ Some r
-    → all ≡ take next kept ++ r ∷ records j (k + 1) actor
+pub walks : (j : Entries) (kept all : List Record) (actor next k : ℕ) (r : Record) → all ≡ take next kept ++ actor_records j k actor → k < length j → record_by j k actor ≡ Some r
+    → all ≡ take next kept ++ r ∷ actor_records j (k + 1) actor
 walks j kept all actor next k r so_far less some =
     so_far ∙ ap (λ (rs : List Record). take next kept ++ rs) (records_some j actor k r less some)
 

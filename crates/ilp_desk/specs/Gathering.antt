@@ -8,7 +8,7 @@ use Rattle.ilp_desk.specs.declared.gathering.WhyNotGathered.TheVariants.{Double,
 use Rattle.ilp_desk.specs.declared.record.Record.{Record}
 use Rattle.ilp_desk.specs.Desk.{PlainDesk, IsActor, IsBookOf}
 use Rattle.ilp_desk.specs.Portion.{Holding}
-use Rattle.ilp_desk.specs.Records.{records}
+use Rattle.ilp_desk.specs.Records.{actor_records}
 use Rattle.ilp_desk.specs.Totals.{taken_since, sold_since, packets, packets_in, packets_out}
 
 -- ---- ends
@@ -19,11 +19,11 @@ holders actor ends = count_by (λ (h : Holding). h.share.actor == actor) ends
 
 -- the actor's records of the book
 abbrev pub records_of : PlainBook → ℕ → List Record
-records_of book actor = records book.entries book.base actor
+records_of book actor = actor_records book.entries book.base actor
 
 -- each end of this actor has kept its records
 abbrev pub Agrees : PlainBook → List Holding → ℕ → Type 0
-Agrees book ends actor = All (λ (h : Holding). h.share.actor ≡ actor → h.kept ≡ records_of book actor) ends
+Agrees book ends actor = All (λ (h : Holding). h.share.actor ≡ actor → h.records ≡ records_of book actor) ends
 
 -- an end of this actor has kept another list
 pub record Differs (book : PlainBook) (ends : List Holding) (actor : ℕ) : Type 0 where
@@ -31,13 +31,13 @@ pub record Differs (book : PlainBook) (ends : List Holding) (actor : ℕ) : Type
   pub there : Holding
   pub stands : slice_get ends place ≡ Some there
   pub is_of : there.share.actor ≡ actor
-  pub other : there.kept ≢ records_of book actor
+  pub other : there.records ≢ records_of book actor
 
 -- each actor has one end, each end is an actor's, and it has kept the actor's records
 pub record IsWhole (desk : PlainDesk) (book : PlainBook) (ends : List Holding) : Type 0 where
   pub once : (actor : ℕ) → IsActor desk actor → holders actor ends ≡ 1
   pub known : All (λ (h : Holding). IsActor desk h.share.actor) ends
-  pub kept : All (λ (h : Holding). h.kept ≡ records_of book h.share.actor) ends
+  pub records : All (λ (h : Holding). h.records ≡ records_of book h.share.actor) ends
 
 -- ---- gathered
 
@@ -46,10 +46,10 @@ pub record IsWhole (desk : PlainDesk) (book : PlainBook) (ends : List Holding) :
 pub record IsGathered (desk : PlainDesk) (book : PlainBook) (ends : List Holding) : Type 0 where
   pub whole : IsWhole desk book ends
   pub entries_add : sum_by (λ (h : Holding). h.share.entries) ends + book.base ≡ length book.entries
-  pub packets_add : sum_by (λ (h : Holding). packets h.kept) ends ≡ fulfilled_since book.base book.entries
-  pub in_adds : (asset : ℕ) → sum_by (λ (h : Holding). packets_in (peer_assets book.config) h.kept asset) ends
+  pub packets_add : sum_by (λ (h : Holding). packets h.records) ends ≡ fulfilled_since book.base book.entries
+  pub in_adds : (asset : ℕ) → sum_by (λ (h : Holding). packets_in (peer_assets book.config) h.records asset) ends
       ≡ taken_since (peer_assets book.config) book.base book.entries asset
-  pub out_adds : (asset : ℕ) → sum_by (λ (h : Holding). packets_out (peer_assets book.config) h.kept asset) ends
+  pub out_adds : (asset : ℕ) → sum_by (λ (h : Holding). packets_out (peer_assets book.config) h.records asset) ends
       ≡ sold_since (peer_assets book.config) book.base book.entries asset
 
 -- ---- not gathered

@@ -13,7 +13,7 @@ portion actor entries = record { actor = actor; entries = entries }
 -- a share, and the records of what was booked with it
 pub record Holding : Type 0 where
   pub share : Portion
-  pub kept : List Record
+  pub records : List Record
 
 abbrev pub holding : Portion → List Record → Holding
-holding share kept = record { share = share; kept = kept }
+holding share records = record { share = share; records = records }

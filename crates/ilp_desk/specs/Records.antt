@@ -11,14 +11,14 @@ use Rattle.ilp_journal.specs.Journal.{Entries, hold_at, ask_at}
 use Rattle.ilp_desk.specs.declared.record.Record.{Record}
 use Rattle.ilp_desk.specs.declared.record.Recorded.{Recorded}
 use Rattle.ilp_desk.specs.declared.record.Recorded.TheVariants as recorded
-use Rattle.ilp_desk.specs.declared.record.Ending.{Ending}
-use Rattle.ilp_desk.specs.declared.record.Ending.TheVariants.{Fulfilled, Released}
+use Rattle.ilp_desk.specs.declared.record.Verdict.{Verdict}
+use Rattle.ilp_desk.specs.declared.record.Verdict.TheVariants.{Fulfilled, Released}
 
 -- ---- what an entry's record says
 
 -- the hold n, and how it ended
-abbrev pub ended : ℕ → Ending → Hold → Recorded
-ended n ending h = recorded.Ended (record { hold = n; from = h.from; to = h.to; amount = h.amount; out = h.out; condition = h.condition; ending = ending })
+abbrev pub answered_hold : ℕ → Verdict → Hold → Recorded
+answered_hold n verdict h = recorded.Answered (record { hold = n; from = h.from; to = h.to; amount = h.amount; out = h.out; condition = h.condition; verdict = verdict })
 
 -- the settlement n, and whether its engine accepted it
 abbrev pub closed : ℕ → Bool → Ask → Recorded
@@ -27,14 +27,14 @@ closed n accepted a = recorded.Closed n a.peer a.amount accepted
 -- the release of the hold n: where it came too late, nothing is kept of it
 abbrev pub released : Entries → ℕ → Cause → Option Recorded
 released j n cause.Late = None
-released j n cause.WrongPreimage = option_map (ended n (Released cause.WrongPreimage)) (hold_at j n)
-released j n cause.NoReply = option_map (ended n (Released cause.NoReply)) (hold_at j n)
-released j n (cause.Peer code) = option_map (ended n (Released (cause.Peer code))) (hold_at j n)
+released j n cause.WrongPreimage = option_map (answered_hold n (Released cause.WrongPreimage)) (hold_at j n)
+released j n cause.NoReply = option_map (answered_hold n (Released cause.NoReply)) (hold_at j n)
+released j n (cause.Peer code) = option_map (answered_hold n (Released (cause.Peer code))) (hold_at j n)
 
 -- what is kept of an entry of j
 abbrev pub recorded_of : Entries → What → Option Recorded
 recorded_of j (what.Hold h) = None
-recorded_of j (what.Fulfilled n preimage) = option_map (ended n Fulfilled) (hold_at j n)
+recorded_of j (what.Fulfilled n preimage) = option_map (answered_hold n Fulfilled) (hold_at j n)
 recorded_of j (what.Released n c) = released j n c
 recorded_of j (what.Credited c) = Some (recorded.Credited c.peer c.credited)
 recorded_of j (what.Asked a) = None
@@ -65,8 +65,8 @@ abbrev pub records_by : (ℕ → Bool) → Entries → ℕ → List Record
 records_by test j base = listed_from (λ n (e : Entry). if test e.actor then record_of j n e else None) base (drop base j)
 
 -- those of one actor
-abbrev pub records : Entries → ℕ → ℕ → List Record
-records j base actor = records_by (λ a. actor == a) j base
+abbrev pub actor_records : Entries → ℕ → ℕ → List Record
+actor_records j base actor = records_by (λ a. actor == a) j base
 
 -- those of all actors
 abbrev pub all_records : Entries → ℕ → List Record

@@ -8,9 +8,9 @@ use Rattle.ilp_journal.specs.TrialBalance.{has_asset, amount_in, amount_out, of_
 use Rattle.ilp_desk.specs.declared.record.Record.{Record}
 use Rattle.ilp_desk.specs.declared.record.Recorded.{Recorded}
 use Rattle.ilp_desk.specs.declared.record.Recorded.TheVariants as recorded
-use Rattle.ilp_desk.specs.declared.record.EndedHold.{EndedHold}
-use Rattle.ilp_desk.specs.declared.record.Ending.{Ending}
-use Rattle.ilp_desk.specs.declared.record.Ending.TheVariants.{Fulfilled, Released}
+use Rattle.ilp_desk.specs.declared.record.AnsweredHold.{AnsweredHold}
+use Rattle.ilp_desk.specs.declared.record.Verdict.{Verdict}
+use Rattle.ilp_desk.specs.declared.record.Verdict.TheVariants.{Fulfilled, Released}
 
 -- ---- of a journal
 
@@ -29,18 +29,18 @@ sold_since assets base j x = sum_of_fulfilled (amount_out assets x) base j
 -- ---- of records
 
 -- the number, if the hold was fulfilled; else 0
-abbrev pub if_fulfilled : Ending → ℕ → ℕ
+abbrev pub if_fulfilled : Verdict → ℕ → ℕ
 if_fulfilled Fulfilled n = n
 if_fulfilled (Released cause) n = 0
 
 -- f of the hold that a record tells of, if it was fulfilled; else 0
-abbrev pub of_packet : (EndedHold → ℕ) → Recorded → ℕ
-of_packet f (recorded.Ended h) = if_fulfilled h.ending (f h)
+abbrev pub of_packet : (AnsweredHold → ℕ) → Recorded → ℕ
+of_packet f (recorded.Answered h) = if_fulfilled h.verdict (f h)
 of_packet f (recorded.Credited peer amount) = 0
 of_packet f (recorded.Closed ask peer amount accepted) = 0
 
 -- the sum of f over the fulfilled holds of these records
-abbrev pub sum_of_packets : (EndedHold → ℕ) → List Record → ℕ
+abbrev pub sum_of_packets : (AnsweredHold → ℕ) → List Record → ℕ
 sum_of_packets f rs = sum_by (λ (r : Record). of_packet f r.what) rs
 
 -- how many packets were fulfilled

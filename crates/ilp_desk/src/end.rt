@@ -56,7 +56,7 @@ impl<J: Naming> End<J> {
 
     /// The records, as the actor kept them.
     pub fn records(&self) -> &[Record]
-        ensures { result.now ≡ self.now.kept }
+        ensures { result.now ≡ self.now.records }
     {
         self.records.as_slice()
     }

@@ -17,5 +17,5 @@ pub use end::End;
 pub use gathering::{Closed, NotGathered, WhyNotGathered, gather};
 pub use locked::LockedBook;
 pub use naming::Naming;
-pub use record::{EndedHold, Ending, Record, Recorded};
+pub use record::{AnsweredHold, Record, Recorded, Verdict};
 pub use share::Share;

@@ -2,7 +2,7 @@
 
 use ilp_journal::Cause;
 
-/// What the books say of an entry, as the actor that booked it keeps it: of each that ended a hold
+/// What the books say of an entry, as the actor that booked it keeps it: of each that answered_hold a hold
 /// in time, credited a peer or closed a settlement.
 #[derive(Clone, Copy, Debug, PartialEq, Eq)]
 pub struct Record {
@@ -16,7 +16,7 @@ pub struct Record {
 #[derive(Clone, Copy, Debug, PartialEq, Eq)]
 pub enum Recorded {
     /// A hold ended, for another cause than its deadline.
-    Ended(EndedHold),
+    Answered(AnsweredHold),
     /// A settlement from a peer: what its balance rose by, in units of its asset.
     Credited {
         peer: u32,
@@ -33,7 +33,7 @@ pub enum Recorded {
 
 /// A hold, and how it ended.
 #[derive(Clone, Copy, Debug, PartialEq, Eq)]
-pub struct EndedHold {
+pub struct AnsweredHold {
     /// The number of the hold.
     pub hold: u32,
     /// The peer that sent the Prepare.
@@ -47,12 +47,12 @@ pub struct EndedHold {
     /// The condition of the Prepare.
     pub condition: [u8; 32],
     /// Whether it was fulfilled.
-    pub ending: Ending,
+    pub verdict: Verdict,
 }
 
 /// How a hold ended.
 #[derive(Clone, Copy, Debug, PartialEq, Eq)]
-pub enum Ending {
+pub enum Verdict {
     /// The sender's amount went on to the receiver.
     Fulfilled,
     /// The sender has its amount back, for this cause.

@@ -1,9 +1,9 @@
 //! What the entries of a book are kept as.
 ghost use Rattle.std.specs.Prelude.{◌≡◌, ◌==◌, None, option_map, if◌then◌else◌};
 ghost use Rattle.ilp_journal.specs.Journal.{hold_at, ask_at};
-ghost use Rattle.ilp_desk.specs.Records.{ended, closed, record_at, record_by};
+ghost use Rattle.ilp_desk.specs.Records.{answered_hold, closed, record_at, record_by};
 
-use crate::record::{EndedHold, Ending, Record, Recorded};
+use crate::record::{AnsweredHold, Record, Recorded, Verdict};
 use ilp_book::Book;
 use ilp_journal::{Cause, What};
 
@@ -26,12 +26,12 @@ fn record_of(book: &Book, number: u32) -> Option<Record>
     let entry = book.entry(number)?;
     let what = match &entry.what {
         What::Hold(_) | What::Asked(_) => return None,
-        What::Fulfilled { hold, .. } => ended(book, *hold, Ending::Fulfilled)?,
+        What::Fulfilled { hold, .. } => answered_hold(book, *hold, Verdict::Fulfilled)?,
         What::Released { hold, cause } => {
             if *cause == Cause::Late {
                 return None;
             }
-            ended(book, *hold, Ending::Released(*cause))?
+            answered_hold(book, *hold, Verdict::Released(*cause))?
         }
         What::Credited(credit) => Recorded::Credited {
             peer: credit.peer,
@@ -44,21 +44,21 @@ fn record_of(book: &Book, number: u32) -> Option<Record>
 }
 
 // The hold of this number, if there is one, and how it ended.
-fn ended(book: &Book, number: u32, ending: Ending) -> Option<Recorded>
-    ensures { result ≡ option_map (ended number ending) (hold_at book.now.entries number) }
+fn answered_hold(book: &Book, number: u32, verdict: Verdict) -> Option<Recorded>
+    ensures { result ≡ option_map (answered_hold number verdict) (hold_at book.now.entries number) }
 {
     let entry = book.entry(number)?;
     let What::Hold(hold) = &entry.what else {
         return None;
     };
-    Some(Recorded::Ended(EndedHold {
+    Some(Recorded::Answered(AnsweredHold {
         hold: number,
         from: hold.from,
         to: hold.to,
         amount: hold.amount,
         out: hold.out,
         condition: hold.condition,
-        ending,
+        verdict,
     }))
 }
 

@@ -9,7 +9,7 @@ use Rattle.httparse.specs.Spans.{header_bytes, name_and_value, IsResponseAt, IsR
 use Rattle.httparse.specs.declared.spans.HeaderSpan.{HeaderSpan}
 use Rattle.httparse.specs.declared.spans.ResponseSpans.{ResponseSpans}
 use Rattle.httparse.proofs.GrammarLemmas.{ReadsResponse-append}
-use Rattle.ilp_http.specs.Limits.{most_head, most_fields, most_body}
+use Rattle.ilp_http.specs.declared.limits.TheConstants.{HEAD_LIMIT, FIELD_LIMIT, BODY_LIMIT}
 use Rattle.ilp_http.specs.Framing.{framing, framing_by, length_of, is_number, values_named}
 use Rattle.ilp_http.specs.Response.{BeginsWithStatus, HasNoStatus, HasBody, IsResponse, IsBad, IsTooLong, EndsShort}
 use Rattle.ilp_http.specs.Placed.{IsHeadOf, IsHeadAt, IsPlacedAt, EndsAt}
@@ -23,21 +23,21 @@ use Rattle.ilp_http.proofs.FrontLemmas.{take_more_behind}
 -- ---- a head that was found
 
 -- the head that the parser found among the first octets begins all of them
-pub head-found : (octets front : List ℕ) (spans : List HeaderSpan) (r : ResponseSpans) (body : Framing) (head : ResponseHead) → front ≡ take most_head octets
-    → length spans ≡ most_fields → IsResponseAt front spans r head → IsResponseWithin front spans r
+pub head-found : (octets front : List ℕ) (spans : List HeaderSpan) (r : ResponseSpans) (body : Framing) (head : ResponseHead) → front ≡ take HEAD_LIMIT octets
+    → length spans ≡ FIELD_LIMIT → IsResponseAt front spans r head → IsResponseWithin front spans r
     → body ≡ framing (map (header_bytes front) (take r.headers spans)) → IsHeadAt octets r body head
 head-found octets front spans r body head cut room at within framed =
-    let size = length-take most_head octets in
+    let size = length-take HEAD_LIMIT octets in
     let counted = sym (length-map (take r.headers spans) (header_bytes front)) ∙ ap length at.fields ∙ length-map head.fields name_and_value in
     let short = ap length cut in
-    let whole : front ++ drop most_head octets ≡ octets = ap (λ xs. xs ++ drop most_head octets) cut ∙ take-append-drop most_head octets in
+    let whole : front ++ drop HEAD_LIMIT octets ≡ octets = ap (λ xs. xs ++ drop HEAD_LIMIT octets) cut ∙ take-append-drop HEAD_LIMIT octets in
     record {
       begins = record {
         reads = (
           at.reads.0,
-          sym whole ∙ ap (λ xs. xs ++ drop most_head octets) at.reads.1
-              ∙ append_assoc (print_response head) (drop r.len front) (drop most_head octets)
-              ∙ ap (λ xs. print_response head ++ xs) (sym (drop-append-le r.len front (drop most_head octets) within.section.len_fits) ∙ ap (drop r.len) whole),
+          sym whole ∙ ap (λ xs. xs ++ drop HEAD_LIMIT octets) at.reads.1
+              ∙ append_assoc (print_response head) (drop r.len front) (drop HEAD_LIMIT octets)
+              ∙ ap (λ xs. print_response head ++ xs) (sym (drop-append-le r.len front (drop HEAD_LIMIT octets) within.section.len_fits) ∙ ap (drop r.len) whole),
         );
         short = omega (arith, at.len, within.section.len_fits);
         few_fields = omega (arith, within.section.count_fits, length-take r.headers spans);
@@ -59,14 +59,14 @@ BeginsWithStatus-append octets head rest more begins = record {
 head-fits : (octets : List ℕ) (r : ResponseSpans) (body : Framing) (head : ResponseHead) → IsHeadAt octets r body head → r.len ≤ length octets
 head-fits octets r body head at = omega (arith, ap length at.begins.reads.1, length-append (print_response head) (drop r.len octets), at.len_is)
 
-pub head-within : (octets : List ℕ) (r : ResponseSpans) (body : Framing) → IsHeadOf octets r body → (r.len ≤ length octets) × (r.len ≤ most_head)
+pub head-within : (octets : List ℕ) (r : ResponseSpans) (body : Framing) → IsHeadOf octets r body → (r.len ≤ length octets) × (r.len ≤ HEAD_LIMIT)
 head-within octets r body at = (head-fits octets r body at.0 at.1, omega (arith, at.1.begins.short, at.1.len_is))
 
 -- an announced length is within its limit
 IsSmall : Framing → Type 0
 IsSmall Coded = ⊤
 IsSmall Unannounced = ⊤
-IsSmall (Octets n) = n ≤ most_body
+IsSmall (Octets n) = n ≤ BODY_LIMIT
 IsSmall Unreadable = ⊤
 IsSmall TooLong = ⊤
 
@@ -74,8 +74,8 @@ small_of : (text : List ℕ) → IsSmall (length_of text)
 unfolding IsSmall
 small_of text =
     let n = digits_value 10 text in
-    let inner : Framing = cond (nat_le n most_body) (Octets n) TooLong in
-    let bounded : IsSmall inner = cond_both (nat_le n most_body) (Octets n) TooLong IsSmall (λ small. leb-true n most_body small) (λ _. tt) in
+    let inner : Framing = cond (nat_le n BODY_LIMIT) (Octets n) TooLong in
+    let bounded : IsSmall inner = cond_both (nat_le n BODY_LIMIT) (Octets n) TooLong IsSmall (λ small. leb-true n BODY_LIMIT small) (λ _. tt) in
     cond_both (is_number text) inner Unreadable IsSmall (λ _. bounded) (λ _. tt)
 
 small_by : (codings lengths : List (List ℕ)) → IsSmall (framing_by codings lengths)
@@ -85,7 +85,7 @@ small_by [] [] = tt
 small_by [] (text ∷ []) = small_of text
 small_by [] (text ∷ other ∷ more) = tt
 
-pub announced-small : (octets : List ℕ) (r : ResponseSpans) (n : ℕ) → IsHeadOf octets r (Octets n) → n ≤ most_body
+pub announced-small : (octets : List ℕ) (r : ResponseSpans) (n : ℕ) → IsHeadOf octets r (Octets n) → n ≤ BODY_LIMIT
 unfolding IsSmall
 announced-small octets r n at =
     let fields = map name_and_value at.0.fields in
@@ -130,13 +130,13 @@ placed-announced octets r n at whole more =
     )
 
 -- all octets to the end
-pub placed-rest : (octets : List ℕ) (r : ResponseSpans) → IsHeadOf octets r Unannounced → length octets - r.len ≤ most_body
+pub placed-rest : (octets : List ℕ) (r : ResponseSpans) → IsHeadOf octets r Unannounced → length octets - r.len ≤ BODY_LIMIT
     → IsResponse octets r.code (slice_range octets r.len (r.len + (length octets - r.len)))
 placed-rest octets r at few =
     let rest = drop r.len octets in
     let size = length-drop r.len octets in
     let slice = slice_after octets r.len (length octets - r.len) ∙ take_all (length octets - r.len) rest (omega arith) in
-    let small : length (slice_range octets r.len (r.len + (length octets - r.len))) ≤ most_body = omega (arith, ap length slice) in (
+    let small : length (slice_range octets r.len (r.len + (length octets - r.len))) ≤ BODY_LIMIT = omega (arith, ap length slice) in (
       at.0,
       rest,
       record {
@@ -154,7 +154,7 @@ bad-length octets r at more = inr (at.0, drop r.len octets ++ more, BeginsWithSt
 pub long-length : (octets : List ℕ) (r : ResponseSpans) → IsHeadOf octets r TooLong → (more : List ℕ) → IsTooLong (octets ++ more)
 long-length octets r at more = inr (inr (inl (at.0, drop r.len octets ++ more, BeginsWithStatus-append octets at.0 (drop r.len octets) more at.1.begins, sym at.1.framed)))
 
-pub long-rest : (octets : List ℕ) (r : ResponseSpans) → IsHeadOf octets r Unannounced → most_body < length octets - r.len → (more : List ℕ) → IsTooLong (octets ++ more)
+pub long-rest : (octets : List ℕ) (r : ResponseSpans) → IsHeadOf octets r Unannounced → BODY_LIMIT < length octets - r.len → (more : List ℕ) → IsTooLong (octets ++ more)
 long-rest octets r at many more =
     let rest = drop r.len octets in
     let size = length-drop r.len octets in
@@ -165,48 +165,48 @@ ends-in_content octets r n at part =
     let size = length-drop r.len octets in
     inr (at.0, drop r.len octets, n, at.1.begins, sym at.1.framed, omega arith)
 
-pub ends-in_status : (octets : List ℕ) → length octets < most_head → HasNoResponse (take most_head octets) → MayBecomeResponse (take most_head octets) → EndsShort octets
+pub ends-in_status : (octets : List ℕ) → length octets < HEAD_LIMIT → HasNoResponse (take HEAD_LIMIT octets) → MayBecomeResponse (take HEAD_LIMIT octets) → EndsShort octets
 ends-in_status octets short none may_become =
-    let all = take_all most_head octets (omega arith) in
+    let all = take_all HEAD_LIMIT octets (omega arith) in
     inl (record { none = subst HasNoResponse all none; may_become = subst MayBecomeResponse all may_become; short = short })
 
-no_status-overflows : (octets more : List ℕ) → ResponseOverflows most_fields (take most_head octets) → HasNoStatus (octets ++ more)
+no_status-overflows : (octets more : List ℕ) → ResponseOverflows FIELD_LIMIT (take HEAD_LIMIT octets) → HasNoStatus (octets ++ more)
 no_status-overflows octets more overflows head rest begins =
-    let regrouped : take most_head octets ++ (drop most_head octets ++ more) ≡ octets ++ more = sym (append_assoc (take most_head octets) (drop most_head octets) more) ∙ ap (λ xs. xs ++ more) (take-append-drop most_head octets) in
-    let many = overflows (drop most_head octets ++ more) head rest (begins.reads.0, regrouped ∙ begins.reads.1) in
+    let regrouped : take HEAD_LIMIT octets ++ (drop HEAD_LIMIT octets ++ more) ≡ octets ++ more = sym (append_assoc (take HEAD_LIMIT octets) (drop HEAD_LIMIT octets) more) ∙ ap (λ xs. xs ++ more) (take-append-drop HEAD_LIMIT octets) in
+    let many = overflows (drop HEAD_LIMIT octets ++ more) head rest (begins.reads.0, regrouped ∙ begins.reads.1) in
     omega (arith, begins.few_fields)
 
-pub long-many : (octets : List ℕ) → ResponseOverflows most_fields (take most_head octets) → ResponseExceeds most_fields (take most_head octets) → (more : List ℕ) → IsTooLong (octets ++ more)
+pub long-many : (octets : List ℕ) → ResponseOverflows FIELD_LIMIT (take HEAD_LIMIT octets) → ResponseExceeds FIELD_LIMIT (take HEAD_LIMIT octets) → (more : List ℕ) → IsTooLong (octets ++ more)
 long-many octets overflows exceeds more =
-    let behind = take (most_head - length octets) more in
+    let behind = take (HEAD_LIMIT - length octets) more in
     inr (inl (record {
       none = no_status-overflows octets more overflows;
       many = (
         exceeds.0,
         exceeds.1 ++ behind,
-        take_more_behind most_head octets more ∙ ap (λ xs. xs ++ behind) exceeds.2 ∙ append_assoc exceeds.0 exceeds.1 behind,
+        take_more_behind HEAD_LIMIT octets more ∙ ap (λ xs. xs ++ behind) exceeds.2 ∙ append_assoc exceeds.0 exceeds.1 behind,
         exceeds.3,
         exceeds.4,
         exceeds.5,
       );
     }))
 
-pub long-status : (octets : List ℕ) → most_head ≤ length octets → HasNoResponse (take most_head octets) → MayBecomeResponse (take most_head octets) → (more : List ℕ) → IsTooLong (octets ++ more)
+pub long-status : (octets : List ℕ) → HEAD_LIMIT ≤ length octets → HasNoResponse (take HEAD_LIMIT octets) → MayBecomeResponse (take HEAD_LIMIT octets) → (more : List ℕ) → IsTooLong (octets ++ more)
 long-status octets long none may_become more =
-    let same = sym (take-append-le most_head octets more long) in
+    let same = sym (take-append-le HEAD_LIMIT octets more long) in
     inl (record {
       long = omega (arith, length-append octets more);
       none = subst HasNoResponse same none;
       may_become = subst MayBecomeResponse same may_become;
     })
 
-pub bad-never : (octets : List ℕ) → NeverHasResponse (take most_head octets) → (more : List ℕ) → IsBad (octets ++ more)
+pub bad-never : (octets : List ℕ) → NeverHasResponse (take HEAD_LIMIT octets) → (more : List ℕ) → IsBad (octets ++ more)
 bad-never octets never more =
-    let front = take most_head octets in
-    let behind = take (most_head - length octets) more in
+    let front = take HEAD_LIMIT octets in
+    let behind = take (HEAD_LIMIT - length octets) more in
     inl (λ after head rest reads.
     never (behind ++ after) head rest
-    (reads.0, sym (ap (λ xs. xs ++ after) (take_more_behind most_head octets more) ∙ append_assoc front behind after) ∙ reads.1))
+    (reads.0, sym (ap (λ xs. xs ++ after) (take_more_behind HEAD_LIMIT octets more) ∙ append_assoc front behind after) ∙ reads.1))
 
 -- ---- at the end of the input
 

@@ -4,7 +4,7 @@ use Rattle.std.specs.List.{list_all}
 use Rattle.std.specs.Char.{is_ascii_digit}
 use Rattle.std.specs.Str.Parse.{digits_value}
 use Rattle.http_header.specs.Token.{lowercase}
-use Rattle.ilp_http.specs.Limits.{most_body}
+use Rattle.ilp_http.specs.declared.limits.TheConstants.{BODY_LIMIT}
 use Rattle.ilp_http.specs.declared.framing.FieldValues.{FieldValues}
 use Rattle.ilp_http.specs.declared.framing.FieldValues.TheVariants.{Absent, One, Several}
 use Rattle.ilp_http.specs.declared.framing.Framing.{Framing}
@@ -31,7 +31,7 @@ is_number text = nat_lt 0 (length text) && list_all is_ascii_digit text
 -- the body of which a Content-Length tells: digits are a length however many they are
 abbrev pub length_of : List ℕ → Framing
 length_of text =
-    if is_number text then (if nat_le (digits_value 10 text) most_body then Octets (digits_value 10 text) else TooLong)
+    if is_number text then (if nat_le (digits_value 10 text) BODY_LIMIT then Octets (digits_value 10 text) else TooLong)
     else Unreadable
 
 -- the body, from the values of Transfer-Encoding and those of Content-Length

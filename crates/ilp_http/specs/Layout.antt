@@ -4,7 +4,7 @@ use Rattle.httparse.specs.Grammar.{RequestHead}
 use Rattle.httparse.specs.Spans.{span_bytes, header_bytes, IsRequestAt, IsRequestWithin}
 use Rattle.httparse.specs.declared.spans.HeaderSpan.{HeaderSpan}
 use Rattle.httparse.specs.declared.spans.RequestSpans.{RequestSpans}
-use Rattle.ilp_http.specs.Limits.{most_head, most_octets}
+use Rattle.ilp_http.specs.declared.limits.TheConstants.{HEAD_LIMIT, BUFFER_LENGTH}
 use Rattle.ilp_http.specs.Request.{BeginsWithHead, HoldsRequest, EndsEarly, IsRefused, body_length, length_by}
 use Rattle.ilp_http.specs.declared.refusal.Refusal.{Refusal}
 use Rattle.ilp_http.specs.declared.examination.Look.{Look}
@@ -22,8 +22,8 @@ pub record IsLayoutAt (octets : List ℕ) (spans : List HeaderSpan) (layout : La
   pub begins : BeginsWithHead octets head rest
   pub announced : body_length head ≡ Ok layout.body
   pub whole : layout.body ≤ length rest
-  pub parsed : IsRequestAt (take most_head octets) spans layout.head head
-  pub within : IsRequestWithin (take most_head octets) spans layout.head
+  pub parsed : IsRequestAt (take HEAD_LIMIT octets) spans layout.head head
+  pub within : IsRequestWithin (take HEAD_LIMIT octets) spans layout.head
 
 abbrev pub IsLayoutOf : List ℕ → List HeaderSpan → Layout → Type 0
 IsLayoutOf octets spans layout = (head : RequestHead) × (rest : List ℕ) × IsLayoutAt octets spans layout head rest
@@ -32,7 +32,7 @@ IsLayoutOf octets spans layout = (head : RequestHead) × (rest : List ℕ) × Is
 pub record IsUnfinished (octets : List ℕ) (least : ℕ) : Type 0 where
   pub ends : (more : List ℕ) → length octets + length more < least → EndsEarly (octets ++ more)
   pub more : length octets < least
-  pub room : least ≤ most_octets
+  pub room : least ≤ BUFFER_LENGTH
 
 -- the octets are refused so, whatever follows
 abbrev pub StayRefused : List ℕ → Refusal → Type 0

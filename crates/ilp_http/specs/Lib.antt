@@ -1,4 +1,3 @@
-pub mod Limits
 pub mod Framing
 pub mod Fields
 pub mod Request

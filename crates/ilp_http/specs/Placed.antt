@@ -8,6 +8,7 @@ use Rattle.ilp_http.specs.declared.response_octets.Place.{Place}
 use Rattle.ilp_http.specs.declared.response_octets.ResponseFinding.{ResponseFinding}
 use Rattle.ilp_http.specs.declared.response_octets.ResponseFinding.TheVariants.{Whole, Unfinished, ToEnd, Bad, TooLong}
 use Rattle.ilp_http.specs.declared.response.ResponseFault.{ResponseFault}
+use Rattle.ilp_http.specs.declared.buffer.TheConstants.{ROOM}
 use Rattle.ilp_http.specs.declared.response.ResponseFault.TheVariants as Fault
 
 -- the spans are those of a head that says this of its body
@@ -30,7 +31,7 @@ IsPlacedAt all octets place = IsResponse all place.code (slice_range octets plac
 
 -- more octets are needed, and there is room for one
 abbrev pub NeedsMore : List ℕ → ℕ → Type 0
-NeedsMore octets least = (length octets < least) × (least ≤ 81921)
+NeedsMore octets least = (length octets < least) × (least ≤ ROOM)
 
 -- what the octets are
 abbrev pub IsFinding : List ℕ → ResponseFinding → Type 0

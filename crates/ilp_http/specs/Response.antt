@@ -2,7 +2,7 @@
 use Rattle.std.specs.Prelude.{◌≡◌, ◌⊎◌, ℕ, ◌<◌, ◌≤◌, List, [], ◌++◌, length, take, map}
 use Rattle.httparse.specs.Grammar.{ResponseHead, print_response, ReadsResponse, HasNoResponse, NeverHasResponse, MayBecomeResponse, status_code}
 use Rattle.httparse.specs.Spans.{name_and_value, ResponseExceeds}
-use Rattle.ilp_http.specs.Limits.{most_head, most_fields, most_body}
+use Rattle.ilp_http.specs.declared.limits.TheConstants.{HEAD_LIMIT, FIELD_LIMIT, BODY_LIMIT}
 use Rattle.ilp_http.specs.Framing.{framing}
 use Rattle.ilp_http.specs.declared.framing.Framing.{Framing}
 use Rattle.ilp_http.specs.declared.framing.Framing.TheVariants.{Coded, Unannounced, Octets, Unreadable, TooLong}
@@ -10,8 +10,8 @@ use Rattle.ilp_http.specs.declared.framing.Framing.TheVariants.{Coded, Unannounc
 -- the octets are this head, within the limits of a head, and then the rest
 pub record BeginsWithStatus (octets : List ℕ) (head : ResponseHead) (rest : List ℕ) : Type 0 where
   pub reads : ReadsResponse octets head rest
-  pub short : length (print_response head) ≤ most_head
-  pub few_fields : length head.fields ≤ most_fields
+  pub short : length (print_response head) ≤ HEAD_LIMIT
+  pub few_fields : length head.fields ≤ FIELD_LIMIT
 
 -- what a head says of its body
 abbrev pub framing_in : ResponseHead → Framing
@@ -20,7 +20,7 @@ framing_in head = framing (map name_and_value head.fields)
 -- the body, of the octets that follow the head up to the end of the input: none where there is a transfer coding, all of them where no length is announced
 abbrev pub HasBody : Framing → List ℕ → List ℕ → Type 0
 HasBody Coded rest body = body ≡ []
-HasBody Unannounced rest body = (body ≡ rest) × (length body ≤ most_body)
+HasBody Unannounced rest body = (body ≡ rest) × (length body ≤ BODY_LIMIT)
 HasBody (Octets n) rest body = (length body ≡ n) × (more : List ℕ) × (rest ≡ body ++ more)
 HasBody Unreadable rest body = ⊥
 HasBody TooLong rest body = ⊥
@@ -40,7 +40,7 @@ IsResponse octets code body = (head : ResponseHead) × (rest : List ℕ) × IsRe
 pub record EndsInStatus (octets : List ℕ) : Type 0 where
   pub none : HasNoResponse octets
   pub may_become : MayBecomeResponse octets
-  pub short : length octets < most_head
+  pub short : length octets < HEAD_LIMIT
 
 -- the octets begin with a head, and end before the body does that it announces
 abbrev pub EndsInContent : List ℕ → Type 0
@@ -56,14 +56,14 @@ HasNoStatus octets = (head : ResponseHead) (rest : List ℕ) → ¬ (BeginsWithS
 
 -- so many first octets begin a head that has not ended
 pub record HasLongStatus (octets : List ℕ) : Type 0 where
-  pub long : most_head ≤ length octets
-  pub none : HasNoResponse (take most_head octets)
-  pub may_become : MayBecomeResponse (take most_head octets)
+  pub long : HEAD_LIMIT ≤ length octets
+  pub none : HasNoResponse (take HEAD_LIMIT octets)
+  pub may_become : MayBecomeResponse (take HEAD_LIMIT octets)
 
 -- no head within the limits begins the octets, and they begin one of too many fields
 pub record HasManyStatusFields (octets : List ℕ) : Type 0 where
   pub none : HasNoStatus octets
-  pub many : ResponseExceeds most_fields (take most_head octets)
+  pub many : ResponseExceeds FIELD_LIMIT (take HEAD_LIMIT octets)
 
 -- the octets begin with a head that says this of its body
 abbrev pub HasStatusWith : List ℕ → Framing → Type 0
@@ -71,11 +71,11 @@ HasStatusWith octets body = (head : ResponseHead) × (rest : List ℕ) × Begins
 
 -- the octets begin with a head that announces no length, and with too many octets after it
 abbrev pub HasLongRest : List ℕ → Type 0
-HasLongRest octets = (head : ResponseHead) × (rest : List ℕ) × BeginsWithStatus octets head rest × (framing_in head ≡ Unannounced) × (most_body < length rest)
+HasLongRest octets = (head : ResponseHead) × (rest : List ℕ) × BeginsWithStatus octets head rest × (framing_in head ≡ Unannounced) × (BODY_LIMIT < length rest)
 
 -- octets are no response, whatever follows them
 abbrev pub IsBad : List ℕ → Type 0
-IsBad octets = NeverHasResponse (take most_head octets) ⊎ HasStatusWith octets Unreadable
+IsBad octets = NeverHasResponse (take HEAD_LIMIT octets) ⊎ HasStatusWith octets Unreadable
 
 -- octets are a response that is too long, whatever follows them
 abbrev pub IsTooLong : List ℕ → Type 0

@@ -3,6 +3,7 @@ ghost use Rattle.std.specs.Prelude.{◌≡◌, ◌+◌, ◌≤◌, ◌++◌, [],
 ghost use Rattle.std.specs.Io.KnownBytes.{Appends};
 ghost use Rattle.ilp_io.specs.Counts.{CountsUp};
 ghost use Rattle.ilp_io.specs.Writing.{AppendsProperPrefix};
+ghost use Rattle.ilp_http.specs.declared.pending.TheConstants.{ROOM};
 
 use ilp_io::{Sink, WriteFault, put_all};
 
@@ -11,9 +12,9 @@ const ROOM: usize = 1024;
 /// Octets that wait to be written.
 #[derive(Drop)]
 pub(crate) struct Pending {
-    octets: [u8; 1024],
+    octets: [u8; ROOM],
     len: usize,
-    ghost within: { len ≤ 1024 },
+    ghost within: { len ≤ ROOM },
 }
 
 impl Pending {

@@ -61,9 +61,12 @@ pub enum Kind {
     Text,
 }
 
+// The most octets of each line that stands here.
+pub(crate) const LONGEST_LINE: usize = 64;
+
 pub(crate) fn status_line(status: Status) -> &'static [u8]
     ensures text { result.now ≡ status_line status }
-    ensures short { length result.now ≤ 64 }
+    ensures short { length result.now ≤ LONGEST_LINE }
 {
     match status {
         Status::Ok => b"HTTP/1.1 200 OK\r\n",
@@ -83,7 +86,7 @@ pub(crate) fn status_line(status: Status) -> &'static [u8]
 
 pub(crate) fn own_line(status: Status) -> &'static [u8]
     ensures text { result.now ≡ own_line status }
-    ensures short { length result.now ≤ 64 }
+    ensures short { length result.now ≤ LONGEST_LINE }
 {
     match status {
         Status::Unauthorized => b"WWW-Authenticate: Bearer\r\n",
@@ -104,7 +107,7 @@ pub(crate) fn kind_text(kind: Kind) -> &'static [u8]
 
 pub(crate) fn kind_line(kind: Kind, body: &[u8]) -> &'static [u8]
     ensures text { result.now ≡ kind_line kind body.now }
-    ensures short { length result.now ≤ 64 }
+    ensures short { length result.now ≤ LONGEST_LINE }
 {
     if body.is_empty() {
         return b"";

@@ -10,7 +10,7 @@ use ilp_io::{Sink, WriteFault, put_all};
 use itoa::Buffer;
 
 // Where the column of the label ends.
-const LABEL_END: usize = 10;
+pub(crate) const LABEL_END: usize = 10;
 
 // Where that of the name ends.
 const NAME_END: usize = 30;
@@ -25,7 +25,7 @@ pub(crate) fn put_line<W: Sink>(
     name: &str,
     number: i128,
 ) -> Result<(), WriteFault>
-    requires label { length label.now ≤ 10 }
+    requires label { length label.now ≤ LABEL_END }
     requires name { IsShort name.now }
     requires number { IsNarrow number }
     ensures ok { OnOk result
@@ -40,7 +40,7 @@ pub(crate) fn put_line<W: Sink>(
 
 // The octets of a line.
 fn line_of(label: &str, name: &str, number: i128) -> [u8; 61]
-    requires label { length label.now ≤ 10 }
+    requires label { length label.now ≤ LABEL_END }
     requires name { IsShort name.now }
     requires number { IsNarrow number }
     ensures { result ≡ line label.now name.now number }

@@ -7,7 +7,7 @@ ghost use Rattle.ilp_io.specs.Writing.{AppendsProperPrefix};
 ghost use Rattle.ilp_report.specs.Report.{line, balance_line, open_line, asset_lines, text_of};
 
 use crate::accounts::{AssetBooks, PeerAccount};
-use crate::line::put_line;
+use crate::line::{LABEL_END, put_line};
 use crate::snapshot::Snapshot;
 use ilp_io::{Sink, WriteFault};
 use std::alloc::Allocator;
@@ -128,7 +128,7 @@ fn put_asset<A: Allocator, W: Sink>(sink: &mut W, asset: &AssetBooks<A>) -> Resu
 
 // The line of a count, which has no name.
 fn put_count<W: Sink>(sink: &mut W, label: &str, count: u32) -> Result<(), WriteFault>
-    requires { length label.now ≤ 10 }
+    requires { length label.now ≤ LABEL_END }
     ensures ok { OnOk result
         (Appends (W.contents sink.old) (W.contents sink.new) (line label.now [] (pos count))) }
     ensures err { OnErr result (AppendsProperPrefix (W.contents sink.old) (W.contents sink.new)

@@ -9,7 +9,7 @@ use Rattle.ilp_http.specs.declared.refusal.RequestFault.TheVariants as request_f
 use Rattle.ilp_workers.specs.Worker.{PlainWorker}
 use Rattle.ilp_server.specs.declared.unserved.NotServed.{NotServed}
 use Rattle.ilp_server.specs.declared.served.Served.{Served}
-use Rattle.ilp_server.specs.declared.served.Served.TheVariants.{Closing}
+use Rattle.ilp_server.specs.declared.served.Served.TheVariants as served
 use Rattle.ilp_server.specs.declared.handled.ConnectionFault.{ConnectionFault}
 use Rattle.ilp_server.specs.declared.handled.ConnectionFault.TheVariants as connection_fault
 use Rattle.ilp_server.specs.declared.handled.Handled.{Handled}
@@ -33,16 +33,16 @@ written_by worker outcome done old new handled r is same told sent =
     of (Fault fault) sent = sent
 
 -- the response to a close that was sent whole is told as a close
-pub close_written : (worker : PlainWorker) (outcome : Result Served NotServed) (old new : Option (List ℕ)) (s : Status) → outcome ≡ Ok Closing → IsSentWith (reply_to worker (Ok Closing)) old new (Done s)
+pub close_written : (worker : PlainWorker) (outcome : Result Served NotServed) (old new : Option (List ℕ)) (s : Status) → outcome ≡ Ok served.Close → IsSentWith (reply_to worker (Ok served.Close)) old new (Done s)
     → IsWritten worker outcome old new Close
 close_written worker outcome old new s is sent = subst (λ o. IsWritten worker o old new Close) (sym is) (sent.0, refl)
 
 -- one that was not is told as the fault
-pub close_failed : (worker : PlainWorker) (outcome : Result Served NotServed) (old new : Option (List ℕ)) (handled : Handled) → outcome ≡ Ok Closing
-    → IsSentWith (reply_to worker (Ok Closing)) old new handled → ((s : Status) → ¬ (handled ≡ Done s)) → IsWritten worker outcome old new handled
+pub close_failed : (worker : PlainWorker) (outcome : Result Served NotServed) (old new : Option (List ℕ)) (handled : Handled) → outcome ≡ Ok served.Close
+    → IsSentWith (reply_to worker (Ok served.Close)) old new handled → ((s : Status) → ¬ (handled ≡ Done s)) → IsWritten worker outcome old new handled
 close_failed worker outcome old new handled is sent not_done = subst (λ o. IsWritten worker o old new handled) (sym is) (of handled sent not_done)
   where
-    of : (h : Handled) → IsSentWith (reply_to worker (Ok Closing)) old new h → ((s : Status) → ¬ (h ≡ Done s)) → IsWritten worker (Ok Closing) old new h
+    of : (h : Handled) → IsSentWith (reply_to worker (Ok served.Close)) old new h → ((s : Status) → ¬ (h ≡ Done s)) → IsWritten worker (Ok served.Close) old new h
     of (Done s) sent not_done = absurd (not_done s refl)
     of Close sent not_done = absurd (not_done status.Ok sent.1)
     of (Fault fault) sent not_done = sent

@@ -5,6 +5,7 @@ use Rattle.ilp_io.specs.Counts.{Tally, Tallies, TalliesUpTo, CountsUp}
 use Rattle.ilp_io.specs.Writing.{AppendsProperPrefix}
 use Rattle.ilp_http.specs.Writing.{response_text}
 use Rattle.ilp_http.specs.Answer.{IsAnswer, HasPartsOf, failed_reads}
+use Rattle.ilp_http.specs.declared.limits.TheConstants.{MOST_READS}
 use Rattle.ilp_http.specs.declared.status.Status.{Status}
 use Rattle.ilp_http.specs.declared.refusal.RequestFault.{RequestFault}
 use Rattle.ilp_http.specs.declared.refusal.RequestFault.TheVariants as request_fault
@@ -14,17 +15,13 @@ use Rattle.ilp_workers.specs.Worker.{PlainWorker}
 use Rattle.ilp_server.specs.declared.target.Side.{Side}
 use Rattle.ilp_server.specs.declared.unserved.NotServed.{NotServed}
 use Rattle.ilp_server.specs.declared.served.Served.{Served}
-use Rattle.ilp_server.specs.declared.served.Served.TheVariants.{Closing}
+use Rattle.ilp_server.specs.declared.served.Served.TheVariants as served
 use Rattle.ilp_server.specs.declared.handled.ConnectionFault.{ConnectionFault}
 use Rattle.ilp_server.specs.declared.handled.ConnectionFault.TheVariants as connection_fault
 use Rattle.ilp_server.specs.declared.handled.Handled.{Handled}
 use Rattle.ilp_server.specs.declared.handled.Handled.TheVariants.{Done, Close, Fault}
 use Rattle.ilp_server.specs.Statuses.{unread}
 use Rattle.ilp_server.specs.Serving.{Reply, reply_to, inquiry, Serves}
-
--- the most reads of one request
-abbrev pub most_reads : ℕ
-most_reads = 4096
 
 -- ---- what is served
 
@@ -39,29 +36,29 @@ IsOutcome desk side (Err fault) before after (Err none) = (unread fault ≡ Err 
 -- ---- what is written
 
 -- the octets of a response
-unfoldable pub octets_of : Reply → List ℕ
-octets_of reply = response_text reply.status reply.kind reply.body
+unfoldable pub response_octets : Reply → List ℕ
+response_octets reply = response_text reply.status reply.kind reply.body
 
 -- The response was written whole, and its status is told; or a write failed before its end.
 abbrev pub IsSentWith : Reply → Option (List ℕ) → Option (List ℕ) → Handled → Type 0
-IsSentWith reply old new (Fault fault) = (fault ≡ connection_fault.Write) × AppendsProperPrefix old new (octets_of reply)
-IsSentWith reply old new handled = Appends old new (octets_of reply) × (handled ≡ Done reply.status)
+IsSentWith reply old new (Fault fault) = (fault ≡ connection_fault.Write) × AppendsProperPrefix old new (response_octets reply)
+IsSentWith reply old new handled = Appends old new (response_octets reply) × (handled ≡ Done reply.status)
 
 -- what is told of a response that was written whole: a close, or its status
 abbrev pub told_of : Result Served NotServed → Status → Handled
-told_of (Ok Closing) status = Close
+told_of (Ok served.Close) status = Close
 told_of outcome status = Done status
 
 -- The response was written whole, and this is told of it; or a write failed before its end.
 abbrev pub IsWritten : PlainWorker → Result Served NotServed → Option (List ℕ) → Option (List ℕ) → Handled → Type 0
-IsWritten worker outcome old new (Fault fault) = (fault ≡ connection_fault.Write) × AppendsProperPrefix old new (octets_of (reply_to worker outcome))
+IsWritten worker outcome old new (Fault fault) = (fault ≡ connection_fault.Write) × AppendsProperPrefix old new (response_octets (reply_to worker outcome))
 IsWritten worker outcome old new handled =
-    Appends old new (octets_of (reply_to worker outcome)) × (handled ≡ told_of outcome (reply_to worker outcome).status)
+    Appends old new (response_octets (reply_to worker outcome)) × (handled ≡ told_of outcome (reply_to worker outcome).status)
 
 -- Where there is nothing to answer nothing is written.
-abbrev pub IsTold : PlainWorker → Result (Result Served NotServed) ConnectionFault → Option (List ℕ) → Option (List ℕ) → Handled → Type 0
-IsTold worker (Ok outcome) old new handled = IsWritten worker outcome old new handled
-IsTold worker (Err fault) old new handled = (handled ≡ Fault fault) × (new ≡ old)
+abbrev pub IsHandled : PlainWorker → Result (Result Served NotServed) ConnectionFault → Option (List ℕ) → Option (List ℕ) → Handled → Type 0
+IsHandled worker (Ok outcome) old new handled = IsWritten worker outcome old new handled
+IsHandled worker (Err fault) old new handled = (handled ≡ Fault fault) × (new ≡ old)
 
 -- how many writes failed
 abbrev pub failed_writes_of : Handled → ℕ
@@ -86,9 +83,9 @@ pub record Answers (desk : PlainDesk) (side : Side) (old new : Wire) (before aft
   pub request : Result Request RequestFault
   pub read : IfSome old.input (λ octets. IsAnswer octets request)
   pub begun : IfOk request (λ found. (octets : List ℕ) × HasPartsOf octets found)
-  pub counted : TalliesUpTo old.reads new.reads most_reads (failed_reads request)
-  pub patient : IsErrOf request request_fault.TooManyReads → Tallies old.reads new.reads most_reads 0
+  pub counted : TalliesUpTo old.reads new.reads MOST_READS (failed_reads request)
+  pub patient : IsErrOf request request_fault.TooManyReads → Tallies old.reads new.reads MOST_READS 0
   pub outcome : Result (Result Served NotServed) ConnectionFault
   pub served : IsOutcome desk side request before after outcome
-  pub told : IsTold after outcome old.output new.output handled
+  pub told : IsHandled after outcome old.output new.output handled
   pub failed : CountsUp old.failures new.failures (failed_writes_of handled)

@@ -10,16 +10,16 @@ use Rattle.ilp_server.specs.declared.exchange.PostFault.{PostFault}
 use Rattle.ilp_server.specs.declared.exchange.PostFault.TheVariants.{Unsent, Unanswered}
 
 -- The octets were written: all of them, or where the request is unsent not all.
-abbrev pub IsSent : {T : Type 0} → Option (List ℕ) → Option (List ℕ) → List ℕ → Result T PostFault → Type 0
-IsSent old new octets (Ok came) = Appends old new octets
-IsSent old new octets (Err Unsent) = AppendsProperPrefix old new octets
-IsSent old new octets (Err (Unanswered fault)) = Appends old new octets
+abbrev pub IsRequestWritten : {T : Type 0} → Option (List ℕ) → Option (List ℕ) → List ℕ → Result T PostFault → Type 0
+IsRequestWritten old new octets (Ok came) = Appends old new octets
+IsRequestWritten old new octets (Err Unsent) = AppendsProperPrefix old new octets
+IsRequestWritten old new octets (Err (Unanswered fault)) = Appends old new octets
 
 -- the response that the input begins with, or why there is none
-abbrev pub IsAnswered : List ℕ → Result Response PostFault → Type 0
-IsAnswered input (Ok came) = IsResponse input came.status came.body.now
-IsAnswered input (Err Unsent) = ⊤
-IsAnswered input (Err (Unanswered fault)) = IsResponseFault input fault
+abbrev pub IsResponseRead : List ℕ → Result Response PostFault → Type 0
+IsResponseRead input (Ok came) = IsResponse input came.status came.body.now
+IsResponseRead input (Err Unsent) = ⊤
+IsResponseRead input (Err (Unanswered fault)) = IsResponseFault input fault
 
 -- how many writes failed
 abbrev pub failed_writes : {T : Type 0} → Result T PostFault → ℕ

@@ -20,9 +20,9 @@ abbrev pub is_conflict : ℕ → Bool
 is_conflict status = status == 409
 
 -- the octets that came over a link, if any did
-abbrev pub octets_of : Result (Bor (List ℕ)) LinkFault → Option (List ℕ)
-octets_of (Ok octets) = Some octets.now
-octets_of (Err fault) = None
+abbrev pub link_octets : Result (Bor (List ℕ)) LinkFault → Option (List ℕ)
+link_octets (Ok octets) = Some octets.now
+link_octets (Err fault) = None
 
 -- a peer's answer to a packet: the body of a 200
 abbrev pub packet_reply : Result Response PostFault → Option (List ℕ)

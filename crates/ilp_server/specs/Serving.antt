@@ -11,7 +11,6 @@ use Rattle.ilp_settlement.specs.declared.quantity.QuantityFault.{QuantityFault}
 use Rattle.ilp_settlement.specs.declared.quantity.QuantityFault.TheVariants as quantity_fault
 use Rattle.ilp_settlement.specs.Quantity.{quantity_in, quantity_text}
 use Rattle.ilp_book.specs.declared.calls.Kept.{Kept}
-use Rattle.ilp_book.specs.declared.fault.CreditFault.{CreditFault}
 use Rattle.ilp_book.specs.Configured.{scale_at}
 use Rattle.ilp_book.specs.SettleStep.{payment}
 use Rattle.ilp_book.specs.Book.{PlainBook}
@@ -23,14 +22,14 @@ use Rattle.ilp_workers.specs.declared.messaging.MessageFault.{MessageFault}
 use Rattle.ilp_workers.specs.Worker.{PlainWorker}
 use Rattle.ilp_workers.specs.Arrivals.{arrival, Forwards}
 use Rattle.ilp_workers.specs.Crediting.{Credits}
-use Rattle.ilp_workers.specs.Messaging.{answer_of, Messages}
+use Rattle.ilp_workers.specs.Messaging.{peer_peer_answer_of, Messages}
 use Rattle.ilp_server.specs.declared.target.Side.{Side}
 use Rattle.ilp_server.specs.declared.target.Target.{Target}
 use Rattle.ilp_server.specs.declared.target.Target.TheVariants as target
 use Rattle.ilp_server.specs.declared.unserved.NotServed.{NotServed}
 use Rattle.ilp_server.specs.declared.unserved.NotServed.TheVariants as unserved
 use Rattle.ilp_server.specs.declared.served.Served.{Served}
-use Rattle.ilp_server.specs.declared.served.Served.TheVariants.{Packet, Settlement, Message, Report, Closing}
+use Rattle.ilp_server.specs.declared.served.Served.TheVariants.{Packet, Settlement, Message, Report, Close}
 use Rattle.ilp_server.specs.Targets.{AsksFor}
 use Rattle.ilp_server.specs.Fields.{values_in, IsFrom, IsKeyAmong}
 use Rattle.ilp_server.specs.Statuses.{status_of}
@@ -67,9 +66,9 @@ bare s = reply s kind.Text []
 abbrev pub reply_to : PlainWorker → Result Served NotServed → Reply
 reply_to worker (Ok Packet) = reply status.Ok kind.OctetStream worker.reply
 reply_to worker (Ok (Settlement text)) = reply status.Created kind.Json text.octets
-reply_to worker (Ok Message) = reply status.Created kind.OctetStream (unwrap_or (answer_of (Some worker.reply)) [])
+reply_to worker (Ok Message) = reply status.Created kind.OctetStream (unwrap_or (peer_answer_of (Some worker.reply)) [])
 reply_to worker (Ok (Report text)) = reply status.Ok kind.Text text.items
-reply_to worker (Ok Closing) = bare status.Ok
+reply_to worker (Ok Close) = bare status.Ok
 reply_to worker (Err why) = bare (status_of why)
 
 -- ---- what becomes of it
@@ -91,20 +90,23 @@ ServesPacket desk headers body before after outcome =
     ⊎ ((peer : ℕ) × IsFrom desk.config shown peer × (receipt : Result Receipt BadPacket)
     × Forwards (arrival desk peer body) before after receipt × (outcome ≡ packet_outcome receipt))
 
--- The outcome for a settlement that was credited, or was not. The quantity that is answered is the one that is kept, at the scale of
--- the peer's balance.
-abbrev pub IsCreditOutcome : PlainDesk → ℕ → Result Kept CreditFault → Result Served NotServed → Type 0
-IsCreditOutcome desk peer (Ok kept) (Ok (Settlement text)) = text.octets ≡ quantity_text kept.amount (scale_at desk.config peer)
-IsCreditOutcome desk peer (Ok kept) outcome = ⊥
-IsCreditOutcome desk peer (Err fault) outcome = outcome ≡ Err (unserved.Credit fault)
+-- Why a body is no quantity: memory to read it was denied, or this is its first fault.
+abbrev pub IsNoQuantity : List ℕ → QuantityFault → Type 0
+IsNoQuantity body fault = (fault ≡ quantity_fault.Memory) ⊎ (quantity_in body ≡ Err fault)
 
--- With a key: the body is a quantity, and it is credited under the key; or there is no memory for the answer; or the body is none.
+-- With a key, by the outcome. Where the body is a quantity it is credited under the key, and what is answered is the amount that is
+-- kept under it, at the scale of the peer's balance; or memory for that answer was denied, and no book was asked.
 abbrev pub ServesPayment : PlainDesk → ℕ → List ℕ → List ℕ → PlainWorker → PlainWorker → Result Served NotServed → Type 0
-ServesPayment desk peer key body before after outcome =
-    IsTurnedAway (unserved.Quantity quantity_fault.Memory) before after outcome
-    ⊎ (((fault : QuantityFault) × (quantity_in body ≡ Err fault) × IsTurnedAway (unserved.Quantity fault) before after outcome)
-    ⊎ ((quantity : Quantity) × (quantity_in body ≡ Ok quantity) × (IsTurnedAway unserved.Memory before after outcome
-    ⊎ ((kept : Result Kept CreditFault) × Credits desk (payment peer key quantity) before after kept × IsCreditOutcome desk peer kept outcome))))
+ServesPayment desk peer key body before after (Ok (Settlement text)) =
+    (quantity : Quantity) × (quantity_in body ≡ Ok quantity) × (kept : Kept) × Credits desk (payment peer key quantity) before after (Ok kept)
+    × (text.octets ≡ quantity_text kept.amount (scale_at desk.config peer))
+ServesPayment desk peer key body before after (Ok other) = ⊥
+ServesPayment desk peer key body before after (Err (unserved.Quantity fault)) = IsNoQuantity body fault × (after ≡ before)
+ServesPayment desk peer key body before after (Err unserved.Memory) =
+    (quantity : Quantity) × (quantity_in body ≡ Ok quantity) × (after ≡ before)
+ServesPayment desk peer key body before after (Err (unserved.Credit fault)) =
+    (quantity : Quantity) × (quantity_in body ≡ Ok quantity) × Credits desk (payment peer key quantity) before after (Err fault)
+ServesPayment desk peer key body before after (Err other) = ⊥
 
 -- A settlement of a peer: without a key it is turned away.
 abbrev pub ServesSettlement : PlainDesk → ℕ → Entries FieldValue → List ℕ → PlainWorker → PlainWorker → Result Served NotServed → Type 0
@@ -135,7 +137,7 @@ ServesTarget desk i target.Packet before after outcome = ServesPacket desk i.hea
 ServesTarget desk i (target.Settlement peer) before after outcome = ServesSettlement desk peer i.headers i.body before after outcome
 ServesTarget desk i (target.Message peer) before after outcome = ServesMessage desk peer i.body before after outcome
 ServesTarget desk i target.Report before after outcome = ServesReport desk outcome × (after ≡ before)
-ServesTarget desk i target.Close before after outcome = (outcome ≡ Ok Closing) × (after ≡ before)
+ServesTarget desk i target.Close before after outcome = (outcome ≡ Ok Close) × (after ≡ before)
 
 -- What asks for nothing is turned away, whatever else it has.
 abbrev pub Serves : PlainDesk → Inquiry → PlainWorker → PlainWorker → Result Served NotServed → Type 0

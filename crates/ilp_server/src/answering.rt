@@ -75,9 +75,14 @@ fn respond<
     match outcome {
         Ok(Served::Packet) => send(sink, Status::Ok, Kind::OctetStream, worker.reply()),
         Ok(Served::Settlement(text)) => { send(sink, Status::Created, Kind::Json, text.as_slice()) }
-        Ok(Served::Message) => send(sink, Status::Created, Kind::OctetStream, worker.answer()),
+        Ok(Served::Message) => send(
+            sink,
+            Status::Created,
+            Kind::OctetStream,
+            worker.message_answer(),
+        ),
         Ok(Served::Report(text)) => send(sink, Status::Ok, Kind::Text, text.as_slice()),
-        Ok(Served::Closing) => match send(sink, Status::Ok, Kind::Text, &[]) {
+        Ok(Served::Close) => match send(sink, Status::Ok, Kind::Text, &[]) {
             Handled::Done(_) => Handled::Close,
             other => other,
         },
@@ -86,7 +91,7 @@ fn respond<
 }
 
 // Writes one response.
-#[tactic(auto, unfolding(crate::specs::Connection::octets_of))]
+#[tactic(auto, unfolding(crate::specs::Connection::response_octets))]
 fn send<W: Sink>(sink: &mut W, status: Status, kind: Kind, body: &[u8]) -> Handled
     ensures written { IsSentWith (reply status kind body.now)
         (W.contents sink.old) (W.contents sink.new) result }

@@ -2,7 +2,7 @@
 ghost use Rattle.std.specs.Prelude.{◌≡◌, IfSome, IsErrOf};
 ghost use Rattle.ilp_io.specs.Counts.{CountsUp, Tallies, TalliesUpTo};
 ghost use Rattle.ilp_http.specs.Writing.{request_text};
-ghost use Rattle.ilp_server.specs.Exchange.{IsSent, IsAnswered, failed_writes, failed_reads};
+ghost use Rattle.ilp_server.specs.Exchange.{IsRequestWritten, IsResponseRead, failed_writes, failed_reads};
 
 use ilp_http::{
     Buffer, MOST_READS, Outgoing, Response, ResponseFault, read_response, write_request,
@@ -32,9 +32,9 @@ pub fn post<'b, W: Sink, S: Source>(
     body: &[u8],
     buffer: &'b mut Buffer,
 ) -> Result<Response<'b>, PostFault>
-    ensures sent { IsSent (W.contents sink.old) (W.contents sink.new)
+    ensures sent { IsRequestWritten (W.contents sink.old) (W.contents sink.new)
         (request_text head.now body.now) result }
-    ensures answered { IfSome (S.remaining source.old) (λ input. IsAnswered input result) }
+    ensures answered { IfSome (S.remaining source.old) (λ input. IsResponseRead input result) }
     ensures unread { IsErrOf result PostFault.Unsent → source.new ≡ source.old }
     ensures writes { CountsUp (W.failures sink.old) (W.failures sink.new) (failed_writes result) }
     ensures reads { TalliesUpTo (S.tally source.old) (S.tally source.new)

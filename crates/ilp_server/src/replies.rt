@@ -1,7 +1,7 @@
 //! What a response of a peer or of a settlement engine comes to.
 ghost use Rattle.std.specs.Prelude.{◌≡◌, ◌&&◌, not};
 ghost use Rattle.ilp_server.specs.Replies as replies;
-ghost use Rattle.ilp_server.specs.Replies.{octets_of};
+ghost use Rattle.ilp_server.specs.Replies.{link_octets};
 
 use crate::exchange::PostFault;
 use ilp_http::Response;
@@ -10,7 +10,7 @@ use ilp_workers::{EngineReply, LinkFault};
 /// A peer's answer to a packet (RFC 0035): the body of a 200. Every other status is a fault of the
 /// link, those from 100 to 199 among them, and so is no response.
 pub fn packet_reply<'b>(came: Result<Response<'b>, PostFault>) -> Result<&'b [u8], LinkFault>
-    ensures { octets_of result ≡ replies.packet_reply came.entry }
+    ensures { link_octets result ≡ replies.packet_reply came.entry }
 {
     match came {
         Ok(response) if response.status == 200 => Ok(response.body),
@@ -22,7 +22,7 @@ pub fn packet_reply<'b>(came: Result<Response<'b>, PostFault>) -> Result<&'b [u8
 /// An engine's answer to a message (RFC 0038): the body of a 200 to 299. Every other status is a
 /// fault of the link, and so is no response.
 pub fn message_reply<'b>(came: Result<Response<'b>, PostFault>) -> Result<&'b [u8], LinkFault>
-    ensures { octets_of result ≡ replies.message_reply came.entry }
+    ensures { link_octets result ≡ replies.message_reply came.entry }
 {
     match came {
         Ok(response) if is_success(response.status) => Ok(response.body),

@@ -86,10 +86,13 @@ pub fn messages_target(config: &Config, peer: u32) -> ShortText
     named(config, peer, b"/accounts/", b"/messages")
 }
 
+// The most octets of two texts round a peer's name, by which all three fit a short text.
+const ROUND_A_NAME: usize = 48;
+
 // A peer's name between two texts.
 fn named(config: &Config, peer: u32, before: &[u8], after: &[u8]) -> ShortText
     requires peer { peer < length config.now.peers }
-    requires room { length before.now + length after.now ≤ 48 }
+    requires room { length before.now + length after.now ≤ ROUND_A_NAME }
     ensures { result ≡ before.now ++ ((peer_at config.now peer).name ++ after.now) }
 {
     // Called for what its contract tells: the configuration is valid, so a name is short.

@@ -14,5 +14,5 @@ pub(crate) enum Served {
     // The report of the book.
     Report(Vec<u8>),
     // Nothing: the connector is asked to close.
-    Closing,
+    Close,
 }

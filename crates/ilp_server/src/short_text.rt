@@ -1,5 +1,6 @@
 //! A short text.
 ghost use Rattle.std.specs.Prelude.{◌≡◌, ◌+◌, ◌≤◌, ◌++◌, length};
+ghost use Rattle.ilp_server.specs.declared.short_text.TheConstants.{ROOM};
 
 use std::marker::Model;
 
@@ -11,7 +12,7 @@ const ROOM: usize = 64;
 pub struct ShortText {
     octets: [u8; ROOM],
     len: usize,
-    ghost within: { len ≤ 64 },
+    ghost within: { len ≤ ROOM },
 }
 
 impl Model for ShortText {
@@ -25,7 +26,7 @@ impl Model for ShortText {
 impl ShortText {
     /// The three texts, one after the other.
     pub(crate) fn joined(first: &[u8], second: &[u8], third: &[u8]) -> ShortText
-        requires { length first.now + length second.now + length third.now ≤ 64 }
+        requires { length first.now + length second.now + length third.now ≤ ROOM }
         ensures { result ≡ first.now ++ (second.now ++ third.now) }
     {
         let mut text = ShortText {
@@ -40,7 +41,7 @@ impl ShortText {
 
     // Adds a text for which there is room.
     fn add(&mut self, text: &[u8])
-        requires { length self.old + length text.now ≤ 64 }
+        requires { length self.old + length text.now ≤ ROOM }
         ensures { self.new ≡ self.old ++ text.now }
     {
         let end = self.len + text.len();

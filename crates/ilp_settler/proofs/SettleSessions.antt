@@ -56,7 +56,7 @@ asking_by desk peer moments moments' before after now reply asked at =
 -- a book was told what the engine said, at a moment that the clock gave, and what is kept of it
 pub closing_by : (desk : PlainDesk) (peer : ℕ) (a : Asked) (accepted : Bool) (moments moments' : Option (List ℤ)) (before after : Holding) (later : ℤ) (reply : Result ℕ NotOpen) (turn : Turn)
     → Tells moments later moments' → IsClosedAt desk a.number accepted later before.share after.share reply
-    → after.kept ≡ before.kept ++ kept_of_close peer a accepted reply → turn ≡ turn_of_close a accepted reply
+    → after.records ≡ before.records ++ kept_of_close peer a accepted reply → turn ≡ turn_of_close a accepted reply
     → IsClosing desk peer a accepted moments moments' before after turn
 closing_by desk peer a accepted moments moments' before after later reply turn asked at is turn_is =
     let old = at.0 in
@@ -69,6 +69,6 @@ closing_by desk peer a accepted moments moments' before after later reply turn a
       booked = at;
       raised = raised_by desk old at.1 before.share after.share (closings_of reply) at.2
           (booked_more old at.1 reply made (closings_of reply) does (close_counts old (by before.share.actor later) a.number (verdict_of accepted) ∙ ap closings_of (sym does.reply)));
-      kept = is;
+      records = is;
       turn_is = turn_is;
     }

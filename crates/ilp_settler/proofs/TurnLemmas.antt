@@ -19,7 +19,7 @@ pub record IsFound (peer : ℕ) (before known : PlainSettler) : Type 0 where
   pub account : HasAccount (knows_account before.accounts peer) peer before.engine known.engine
   pub accounts : known.accounts ≡ with_account before.accounts peer
   pub share : known.share ≡ before.share
-  pub kept : known.kept ≡ before.kept
+  pub records : known.records ≡ before.records
   pub moments : known.moments ≡ before.moments
 
 -- a book that is asked then is asked as if nothing had been done before
@@ -50,20 +50,20 @@ told_turn desk peer before after (Closed n accepted) other turn = turn
 -- a turn by which the engine is asked for a settlement, where a book was asked before
 pub settled_turn : (E : Type 0) (desk : PlainDesk) (peer : ℕ) (before known between after : PlainSettler) (reply : Result Asked AskFault) (a : Asked) (said : EngineReply) (told : Turn)
     → IsFound peer before known → IsAsking desk peer known.moments between.moments known.share between.share reply → settlement_of reply ≡ Some a
-    → between.kept ≡ known.kept → between.engine ≡ known.engine → after.accounts ≡ known.accounts
+    → between.records ≡ known.records → between.engine ≡ known.engine → after.accounts ≡ known.accounts
     → Tells between.engine (settlement_told desk.config peer a said) after.engine
-    → ClosesBy desk peer a (verdict_by said) between.moments after.moments (holding between.share between.kept) (holding after.share after.kept) told
+    → ClosesBy desk peer a (verdict_by said) between.moments after.moments (holding between.share between.records) (holding after.share after.records) told
     → Turns {E = E} desk peer before after (Ok told)
 settled_turn E desk peer before known between after reply a said told found asking is kept engine accounts handed closed =
-    let Closes : List Record → Type 0 = λ k. ClosesBy desk peer a (verdict_by said) between.moments after.moments (holding between.share k) (holding after.share after.kept) told in
+    let Closes : List Record → Type 0 = λ k. ClosesBy desk peer a (verdict_by said) between.moments after.moments (holding between.share k) (holding after.share after.records) told in
     let goes : GoesOn {E = E} desk peer before after known.engine reply between.share between.moments (Ok told) (Some a) = record {
       said = said;
       handed = subst (λ x. Tells x (settlement_told desk.config peer a said) after.engine) engine handed;
       told = told;
-      closed = subst Closes (kept ∙ found.kept) closed;
+      closed = subst Closes (kept ∙ found.records) closed;
       turn_is = refl;
     } in
-    told_turn {E = E} desk peer before after told (closes_with_account desk peer a (verdict_by said) between.moments after.moments (holding between.share between.kept) (holding after.share after.kept) told closed) (record {
+    told_turn {E = E} desk peer before after told (closes_with_account desk peer a (verdict_by said) between.moments after.moments (holding between.share between.records) (holding after.share after.records) told closed) (record {
       engine = known.engine;
       account = found.account;
       accounts = accounts ∙ found.accounts;
@@ -77,7 +77,7 @@ settled_turn E desk peer before known between after reply a said told found aski
 -- a turn by which a book had no memory
 pub denied_turn : {E : Type 0} (desk : PlainDesk) (peer : ℕ) (before known after : PlainSettler) (e : E)
     → IsFound peer before known → IsAsking desk peer known.moments after.moments known.share after.share (Err ask_fault.Memory)
-    → after.kept ≡ known.kept → after.engine ≡ known.engine → after.accounts ≡ known.accounts → Turns {E = E} desk peer before after (Err e)
+    → after.records ≡ known.records → after.engine ≡ known.engine → after.accounts ≡ known.accounts → Turns {E = E} desk peer before after (Err e)
 denied_turn {E} desk peer before known after e found asking kept engine accounts = inr (record {
   engine = known.engine;
   account = found.account;
@@ -86,5 +86,5 @@ denied_turn {E} desk peer before known after e found asking kept engine accounts
   share = after.share;
   moments = after.moments;
   asked = asking_before desk peer before known after.moments after.share (Err ask_fault.Memory) found asking;
-  goes_on = (record { fault = ask_fault.Memory; refused = refl; turn_is = search rules; kept = kept ∙ found.kept; engine_stays = engine }, refl, refl);
+  goes_on = (record { fault = ask_fault.Memory; refused = refl; turn_is = search rules; records = kept ∙ found.records; engine_stays = engine }, refl, refl);
 })

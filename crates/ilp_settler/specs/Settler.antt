@@ -25,13 +25,13 @@ use Rattle.ilp_workers.specs.Links.{Tells, ToEngine, asked, asking, settled, set
 -- which peers' engines are known to have the account, by the peers' places
 pub record PlainSettler : Type 0 where
   pub share : Portion
-  pub kept : List Record
+  pub records : List Record
   pub moments : Option (List ℤ)
   pub engine : Option (List ToEngine)
   pub accounts : List Bool
 
 abbrev pub settler : Portion → List Record → Option (List ℤ) → Option (List ToEngine) → List Bool → PlainSettler
-settler share kept moments engine accounts = record { share = share; kept = kept; moments = moments; engine = engine; accounts = accounts }
+settler share records moments engine accounts = record { share = share; records = records; moments = moments; engine = engine; accounts = accounts }
 
 -- ---- accounts
 
@@ -136,7 +136,7 @@ pub record IsClosing (desk : PlainDesk) (peer : ℕ) (a : Asked) (accepted : Boo
   pub asked : Tells moments later moments'
   pub booked : IsClosedAt desk a.number accepted later before.share after.share reply
   pub raised : after.share ≡ portion before.share.actor (before.share.entries + closings_of reply)
-  pub kept : after.kept ≡ before.kept ++ kept_of_close peer a accepted reply
+  pub records : after.records ≡ before.records ++ kept_of_close peer a accepted reply
   pub turn_is : turn ≡ turn_of_close a accepted reply
 
 -- Nothing was said that a book is told.
@@ -155,12 +155,12 @@ ClosesBy desk peer a (Some accepted) moments moments' before after turn = IsClos
 pub record IsWithoutAccount (peer : ℕ) (before after : PlainSettler) : Type 0 where
   pub unknown : knows_account before.accounts peer ≡ false
   pub denied : Tells before.engine (account_told peer false) after.engine
-  pub same : after ≡ settler before.share before.kept before.moments after.engine before.accounts
+  pub same : after ≡ settler before.share before.records before.moments after.engine before.accounts
 
 -- The engine has the account, and there is no room for a record. No book is asked, and no engine for a settlement.
 pub record IsWithoutRoom (peer : ℕ) (before after : PlainSettler) : Type 0 where
   pub account : HasAccount (knows_account before.accounts peer) peer before.engine after.engine
-  pub same : after ≡ settler before.share before.kept before.moments after.engine (with_account before.accounts peer)
+  pub same : after ≡ settler before.share before.records before.moments after.engine (with_account before.accounts peer)
 
 -- what a turn comes to by a refusal of the book
 abbrev pub IsTurnOfFault : {E : Type 0} → AskFault → Result Turn E → Type 0
@@ -172,7 +172,7 @@ pub record IsIdle {E : Type 0} (before after : PlainSettler) (engine : Option (L
   pub fault : AskFault
   pub refused : reply ≡ Err fault
   pub turn_is : IsTurnOfFault fault turn
-  pub kept : after.kept ≡ before.kept
+  pub records : after.records ≡ before.records
   pub engine_stays : after.engine ≡ engine
 
 -- The peer's engine is asked for the settlement, once, and a book is told what it said. Between the two sessions nothing is known
@@ -181,7 +181,7 @@ pub record IsSettling {E : Type 0} (desk : PlainDesk) (peer : ℕ) (before after
   pub said : EngineReply
   pub handed : Tells engine (settlement_told desk.config peer a said) after.engine
   pub told : Turn
-  pub closed : ClosesBy desk peer a (verdict_by said) moments after.moments (holding share before.kept) (holding after.share after.kept) told
+  pub closed : ClosesBy desk peer a (verdict_by said) moments after.moments (holding share before.records) (holding after.share after.records) told
   pub turn_is : turn ≡ Ok told
 
 -- after a book was asked: by the settlement that its reply leads to

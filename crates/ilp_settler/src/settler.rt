@@ -81,7 +81,7 @@ impl<J: Naming, C: Clock + Drop, E: EngineLink + Drop, A: Allocator> Settler<J, 
 
     /// The records of what it booked, in order.
     pub fn records(&self) -> &[Record]
-        ensures { result.now ≡ self.now.kept }
+        ensures { result.now ≡ self.now.records }
     {
         self.parts.records.as_slice()
     }
@@ -104,7 +104,7 @@ impl<J: Naming, C: Clock + Drop, E: EngineLink + Drop, A: Allocator> Settler<J, 
 impl<J: Naming, C: Clock + Drop, E: EngineLink + Drop> Settler<J, C, E> {
     /// What the settler hands back in the end.
     pub fn into_end(self) -> End<J>
-        ensures { result ≡ holding self.share self.kept }
+        ensures { result ≡ holding self.share self.records }
     {
         let Settler { parts } = self;
         parts.into_end()

@@ -139,7 +139,7 @@ credit_step_is book caller p growth lawful fits =
 -- A session with a payment that is not too large, at a moment that the clock gave, and what is kept of it.
 pub credited_by : (desk : PlainDesk) (p : Payment) (moments moments' : Option (List ℤ)) (before after : Holding) (now : ℤ) (reply : Result Kept CreditFault)
     → amount_of desk.config p ≤ most → Tells moments now moments' → IsCreditedAt desk p now before.share after.share reply
-    → after.kept ≡ before.kept ++ kept_of p reply → IsCredited desk p moments moments' before after reply
+    → after.records ≡ before.records ++ kept_of p reply → IsCredited desk p moments moments' before after reply
 credited_by desk p moments moments' before after now reply fits asked at is =
     let old = at.0 in
     let made = credit_step old (by before.share.actor now) p (credit_growth reply) in
@@ -153,7 +153,7 @@ credited_by desk p moments moments' before after now reply fits asked at is =
       booked = at;
       raised = raised_by desk old at.1 before.share after.share (length (kept_of p reply)) at.2
           (booked_more old at.1 reply made (length (kept_of p reply)) does (step.counted ∙ ap (λ r. length (kept_of p r)) (sym does.reply)));
-      kept = is;
+      records = is;
       amount = subst (λ r. IfOk r (λ told. told.amount ≡ amount_of desk.config p)) (sym does.reply) (subst (λ C. IfOk made.reply (λ told. told.amount ≡ amount_of C p)) at.2.found.config step.amount);
       allowed = λ e. step.allowed (sym does.reply ∙ e);
     }

@@ -17,7 +17,7 @@ use Rattle.ilp_packet.proofs.WritingLemmas.{size_by_content}
 use Rattle.ilp_accounts.specs.Configuration.{Configuration}
 use Rattle.ilp_workers.specs.declared.links.LinkFault.{LinkFault}
 use Rattle.ilp_workers.specs.Links.{Tells, Sending, sending, came_of}
-use Rattle.ilp_workers.specs.Messaging.{settle_address, message_prepare, message_expiry, zero_preimage, zero_fulfill, answer_in, longest_fulfill, answer_of, IsPassedOn}
+use Rattle.ilp_workers.specs.Messaging.{settle_address, message_prepare, message_expiry, zero_preimage, zero_fulfill, peer_answer_in, longest_fulfill, peer_answer_of, IsPassedOn}
 
 -- ---- packets
 
@@ -57,8 +57,8 @@ some_is None is = absurd cc
 some_is (Some x) is = search rules
 
 -- what is an answer came
-pub answer_came : (came : Result (Unit {0}) LinkFault) (reply : List ℕ) → is_some (answer_of (came_of came reply)) ≡ true → (came_of came reply ≡ Some reply) × IsSome (answer_of (Some reply))
-answer_came (Ok x) reply is = (refl, some_is (answer_of (Some reply)) is)
+pub answer_came : (came : Result (Unit {0}) LinkFault) (reply : List ℕ) → is_some (peer_answer_of (came_of came reply)) ≡ true → (came_of came reply ≡ Some reply) × IsSome (peer_answer_of (Some reply))
+answer_came (Ok x) reply is = (refl, some_is (peer_answer_of (Some reply)) is)
 answer_came (Err fault) reply is = absurd cc
 
 -- what is no answer has none
@@ -67,7 +67,7 @@ no_answer_came None is = refl
 no_answer_came (Some x) is = absurd cc
 
 -- an answer that was read is the data of a Fulfill of 32 zero octets
-answer_read : (read : Result PlainPacket PacketFault) (answer : List ℕ) → answer_in read ≡ Some answer → read ≡ Ok (fulfill (zero_fulfill answer))
+answer_read : (read : Result PlainPacket PacketFault) (answer : List ℕ) → peer_answer_in read ≡ Some answer → read ≡ Ok (fulfill (zero_fulfill answer))
 answer_read (Ok (prepare p)) answer is = absurd cc
 answer_read (Ok (reject r)) answer is = absurd cc
 answer_read (Err fault) answer is = absurd cc
@@ -81,12 +81,12 @@ answer_read (Ok (fulfill f)) answer is = of (bytes_eq f.preimage zero_preimage) 
         ap (λ p. Ok (fulfill (record { preimage = p; payload = f.payload }))) preimage ∙ ap (λ p. Ok (fulfill (zero_fulfill p))) payload
 
 -- so the octets stand for that
-pub answer_spelled : (octets answer : List ℕ) → AreOctets octets → answer_of (Some octets) ≡ Some answer → Spells octets (fulfill (zero_fulfill answer))
+pub answer_spelled : (octets answer : List ℕ) → AreOctets octets → peer_answer_of (Some octets) ≡ Some answer → Spells octets (fulfill (zero_fulfill answer))
 answer_spelled octets answer are is = reading_spelled octets (fulfill (zero_fulfill answer)) are (answer_read (reading octets) answer is)
 
 -- and its octets are read as that
-pub spelled_answer : (octets answer : List ℕ) → Spells octets (fulfill (zero_fulfill answer)) → answer_of (Some octets) ≡ Some answer
-spelled_answer octets answer spelled = ap answer_in (reading_again octets (fulfill (zero_fulfill answer)) spelled)
+pub spelled_answer : (octets answer : List ℕ) → Spells octets (fulfill (zero_fulfill answer)) → peer_answer_of (Some octets) ≡ Some answer
+spelled_answer octets answer spelled = ap peer_answer_in (reading_again octets (fulfill (zero_fulfill answer)) spelled)
 
 -- ---- what the peer is handed
 

@@ -16,19 +16,19 @@ use Rattle.ilp_book.specs.declared.calls.Held.{Held}
 use Rattle.ilp_book.specs.declared.calls.Outcome.{Outcome}
 use Rattle.ilp_book.specs.declared.fault.NotOpen.{NotOpen}
 use Rattle.ilp_desk.specs.declared.record.Record.{Record}
-use Rattle.ilp_desk.specs.declared.record.Ending.TheVariants.{Fulfilled, Released}
+use Rattle.ilp_desk.specs.declared.record.Verdict.TheVariants.{Fulfilled, Released}
 use Rattle.ilp_desk.specs.Portion.{Portion, portion}
 use Rattle.ilp_desk.specs.Totals.{packets, of_packet}
 use Rattle.ilp_workers.specs.declared.reply.Receipt.{Receipt}
 use Rattle.ilp_workers.specs.declared.rejects.LocalReject.{LocalReject}
 use Rattle.ilp_workers.specs.declared.rejects.LocalReject.TheVariants as local
-use Rattle.ilp_workers.specs.declared.closing.Closing.{Closing}
-use Rattle.ilp_workers.specs.declared.closing.Told.{Told}
-use Rattle.ilp_workers.specs.declared.closing.Told.TheVariants.{Passed, Rejected}
+use Rattle.ilp_workers.specs.declared.reply_effect.ReplyEffect.{ReplyEffect}
+use Rattle.ilp_workers.specs.declared.reply_effect.Told.{Told}
+use Rattle.ilp_workers.specs.declared.reply_effect.Told.TheVariants.{Passed, Rejected}
 use Rattle.ilp_workers.specs.Rejects.{local_reject}
 use Rattle.ilp_workers.specs.Worker.{PlainWorker}
 use Rattle.ilp_workers.specs.Arrivals.{Arrival, IsForPeers, Forwards}
-use Rattle.ilp_workers.specs.Forwarding.{Order, order, IsTold, Ends, EndsLate, end_of, entry_of, count_of, IsSent, IsForwardedBy, closing, closing_of, closing_of_packet, record_of_end}
+use Rattle.ilp_workers.specs.Forwarding.{Order, order, IsTold, Ends, EndsLate, end_of, entry_of, count_of, IsSent, IsForwardedBy, effect, effect_of, effect_of_packet, record_of_end}
 use Rattle.ilp_workers.specs.Outcome.{IsFulfilled, IsRejected}
 
 -- ---- packets
@@ -43,9 +43,9 @@ released_kept o held c entry kept kept' is =
 
 -- a Reject of the connector's own
 own : (o : Order) (before after : PlainWorker) (came : Option (List ℕ)) (told : Told) (why : LocalReject) → IsTold o.desk.config came told after.reply → told ≡ Rejected why
-    → packets after.kept ≡ packets before.kept → IsRejected before after
+    → packets after.records ≡ packets before.records → IsRejected before after
 own o before after came told why is_told is kept =
-    record { answer = local_reject o.desk.config why; reply = subst (λ t. IsTold o.desk.config came t after.reply) is is_told; kept = kept }
+    record { answer = local_reject o.desk.config why; reply = subst (λ t. IsTold o.desk.config came t after.reply) is is_told; records = kept }
 
 -- what is passed on stands for the packet that came
 passed_spells : (C : Configuration) (octets reply : List ℕ) (told : Told) (packet : PlainPacket) → AreOctets reply → reading octets ≡ Ok packet → IsTold C (Some octets) told reply → told ≡ Passed → Spells reply packet
@@ -57,42 +57,42 @@ passed_spells C octets reply told packet are read is_told is =
 -- ---- a hold that ended by what came back
 
 -- what a Fulfill comes to, by whether its preimage meets the condition
-abbrev closing_if : List ℕ → Bool → Closing
-closing_if preimage b = if b then closing (peer_reply.Fulfil preimage) Fulfilled Passed else closing peer_reply.BadFulfil (Released cause.WrongPreimage) (Rejected local.WrongCondition)
+abbrev effect_if : List ℕ → Bool → ReplyEffect
+effect_if preimage b = if b then effect (peer_reply.Fulfill preimage) Fulfilled Passed else effect peer_reply.BadFulfill (Released cause.WrongPreimage) (Rejected local.WrongCondition)
 
 module _ (a : Arrival) (packet : PlainPrepare) (before after : PlainWorker) (receipt : Receipt) (held : Held) (entry : ℕ) (told : Told) (came : Spells a.octets (prepare packet)) (holds : receipt.hold ≡ Some held.number)
     (answers : receipt.answer ≡ Some entry) (raised : after.share ≡ portion before.share.actor (before.share.entries + 2)) (are : AreOctets after.reply) where
   -- the worker keeps what the reply comes to, and the sender is told it
-  abbrev Closed : Closing → Type 0
-  Closed c = (told ≡ c.told) × (after.kept ≡ before.kept ++ record_of_end (order a.desk a.from packet) held c.ending entry ∷ [])
+  abbrev Closed : ReplyEffect → Type 0
+  Closed c = (told ≡ c.told) × (after.records ≡ before.records ++ record_of_end (order a.desk a.from packet) held c.verdict entry ∷ [])
 
   rejected : (answer : Option (List ℕ)) (c : Cause) (why : LocalReject) → IsTold a.desk.config answer told after.reply → told ≡ Rejected why
-      → after.kept ≡ before.kept ++ record_of_end (order a.desk a.from packet) held (Released c) entry ∷ [] → IsFulfilled a before after receipt ⊎ IsRejected before after
+      → after.records ≡ before.records ++ record_of_end (order a.desk a.from packet) held (Released c) entry ∷ [] → IsFulfilled a before after receipt ⊎ IsRejected before after
   rejected answer c why is_told is kept =
-      inr (own (order a.desk a.from packet) before after answer told why is_told is (released_kept (order a.desk a.from packet) held c entry before.kept after.kept kept))
+      inr (own (order a.desk a.from packet) before after answer told why is_told is (released_kept (order a.desk a.from packet) held c entry before.records after.records kept))
 
   by_fulfill : (octets : List ℕ) (f : PlainFulfill) (b : Bool) → reading octets ≡ Ok (fulfill f) → meets packet.condition f.preimage ≡ b
-      → IsTold a.desk.config (Some octets) told after.reply → Closed (closing_if f.preimage b) → IsFulfilled a before after receipt ⊎ IsRejected before after
+      → IsTold a.desk.config (Some octets) told after.reply → Closed (effect_if f.preimage b) → IsFulfilled a before after receipt ⊎ IsRejected before after
   by_fulfill octets f true read met is_told closed =
-      inl (record { packet = packet; held = held; entry = entry; answer = f; came = came; reply = passed_spells a.desk.config octets after.reply told (fulfill f) are read is_told closed.0; met = met; holds = holds; answers = answers; raised = raised; kept = closed.1 })
+      inl (record { packet = packet; held = held; entry = entry; answer = f; came = came; reply = passed_spells a.desk.config octets after.reply told (fulfill f) are read is_told closed.0; met = met; holds = holds; answers = answers; raised = raised; records = closed.1 })
   by_fulfill octets f false read met is_told closed = rejected (Some octets) cause.WrongPreimage local.WrongCondition is_told closed.0 closed.1
 
-  by_packet : (octets : List ℕ) (r : Result PlainPacket PacketFault) → reading octets ≡ r → IsTold a.desk.config (Some octets) told after.reply → Closed (closing_of_packet packet.condition r)
+  by_packet : (octets : List ℕ) (r : Result PlainPacket PacketFault) → reading octets ≡ r → IsTold a.desk.config (Some octets) told after.reply → Closed (effect_of_packet packet.condition r)
       → IsFulfilled a before after receipt ⊎ IsRejected before after
   by_packet octets (Err fault) read is_told closed = rejected (Some octets) cause.NoReply local.PeerUnreachable is_told closed.0 closed.1
   by_packet octets (Ok (prepare p)) read is_told closed = rejected (Some octets) cause.NoReply local.PeerUnreachable is_told closed.0 closed.1
   by_packet octets (Ok (fulfill f)) read is_told closed = by_fulfill octets f (meets packet.condition f.preimage) read refl is_told closed
   by_packet octets (Ok (reject r)) read is_told closed =
-      inr (record { answer = r; reply = passed_spells a.desk.config octets after.reply told (reject r) are read is_told closed.0; kept = released_kept (order a.desk a.from packet) held (cause.Peer r.code) entry before.kept after.kept closed.1 })
+      inr (record { answer = r; reply = passed_spells a.desk.config octets after.reply told (reject r) are read is_told closed.0; records = released_kept (order a.desk a.from packet) held (cause.Peer r.code) entry before.records after.records closed.1 })
 
-  in_time : (answer : Option (List ℕ)) → IsTold a.desk.config answer told after.reply → Closed (closing_of packet.condition answer) → IsFulfilled a before after receipt ⊎ IsRejected before after
+  in_time : (answer : Option (List ℕ)) → IsTold a.desk.config answer told after.reply → Closed (effect_of packet.condition answer) → IsFulfilled a before after receipt ⊎ IsRejected before after
   in_time (Some octets) is_told closed = by_packet octets (reading octets) refl is_told closed
   in_time None is_told closed = rejected None cause.NoReply local.PeerUnreachable is_told closed.0 closed.1
 
 -- ---- a Prepare that was forwarded
 
 -- an end that nothing is kept of
-late : (o : Order) (before after : PlainWorker) (answer : Option (List ℕ)) (told : Told) → IsTold o.desk.config answer told after.reply → EndsLate before.kept after.kept told → IsRejected before after
+late : (o : Order) (before after : PlainWorker) (answer : Option (List ℕ)) (told : Told) → IsTold o.desk.config answer told after.reply → EndsLate before.records after.records told → IsRejected before after
 late o before after answer told is_told ends = own o before after answer told local.TransferTimedOut is_told ends.0 (ap packets ends.1)
 
 sent_outcome : (a : Arrival) (packet : PlainPrepare) (before after : PlainWorker) (receipt : Receipt) (hold : ℕ) (answer : Option ℕ) → AreOctets after.reply → Spells a.octets (prepare packet)
@@ -104,7 +104,7 @@ sent_outcome a packet before after receipt hold answer are came holds answers se
         let sum : first.entries + 1 + 1 ≡ first.entries + 2 = omega arith in
         two ∙ (ap (λ (s : Portion). portion s.actor (s.entries + 1)) one ∙ ap (portion first.actor) sum)
 
-    of : (reply : Result Outcome NotOpen) → Ends (order a.desk a.from packet) sent.held (closing_of packet.condition sent.came) reply before.kept after.kept sent.told → entry_of reply ≡ answer
+    of : (reply : Result Outcome NotOpen) → Ends (order a.desk a.from packet) sent.held (effect_of packet.condition sent.came) reply before.records after.records sent.told → entry_of reply ≡ answer
         → IsFulfilled a before after receipt ⊎ IsRejected before after
     of (Err fault) ends is = inr (late (order a.desk a.from packet) before after sent.came sent.told sent.reply ends)
     of (Ok outcome) ends is =
@@ -121,6 +121,6 @@ forwarded_outcome a before after receipt are for_peers forwards =
   where
     of : (hold answer : Option ℕ) → receipt.hold ≡ hold → receipt.answer ≡ answer → IsForwardedBy (order a.desk a.from forwards.0) before after hold answer → IsFulfilled a before after receipt ⊎ IsRejected before after
     of None None holds answers refused =
-        inr (record { answer = local_reject a.desk.config refused.why; reply = refused.told; kept = ap packets refused.kept })
+        inr (record { answer = local_reject a.desk.config refused.why; reply = refused.told; records = ap packets refused.records })
     of None (Some n) holds answers none = absurd none
     of (Some hold) answer holds answers sent = sent_outcome a forwards.0 before after receipt hold answer are forwards.1 holds answers sent

@@ -17,8 +17,8 @@ use Rattle.ilp_book.proofs.AnswerSteps.{outcome_books_one, not_open_books_nothin
 use Rattle.ilp_desk.specs.Desk.{PlainDesk, IsBookOf}
 use Rattle.ilp_desk.specs.Portion.{Portion, portion, Holding}
 use Rattle.ilp_desk.specs.Session.{IsSession}
-use Rattle.ilp_workers.specs.declared.closing.Closing.{Closing}
-use Rattle.ilp_workers.specs.declared.closing.Told.{Told}
+use Rattle.ilp_workers.specs.declared.reply_effect.ReplyEffect.{ReplyEffect}
+use Rattle.ilp_workers.specs.declared.reply_effect.Told.{Told}
 use Rattle.ilp_workers.specs.Links.{Tells}
 use Rattle.ilp_workers.specs.Forwarding.{Order, IsHeldAt, IsAnsweredAt, IsOnItsWay, within_years, entry_of, count_of, Ends, IsEnded}
 
@@ -143,8 +143,8 @@ held_on_its_way o now before after held at =
 -- ---- what was told to a book
 
 -- what came back was told to a book, and how the hold ended follows from its reply
-pub ended_by : (o : Order) (held : Held) (c : Closing) (moments moments' : Option (List ℤ)) (before after : Holding) (told : Told) (entry : Option ℕ) (later : ℤ) (reply : Result Outcome NotOpen)
-    → Tells moments later moments' → IsAnsweredAt o later held.number c.answer before.share after.share reply → entry_of reply ≡ entry → Ends o held c reply before.kept after.kept told
+pub ended_by : (o : Order) (held : Held) (c : ReplyEffect) (moments moments' : Option (List ℤ)) (before after : Holding) (told : Told) (entry : Option ℕ) (later : ℤ) (reply : Result Outcome NotOpen)
+    → Tells moments later moments' → IsAnsweredAt o later held.number c.answer before.share after.share reply → entry_of reply ≡ entry → Ends o held c reply before.records after.records told
     → IsEnded o held c moments moments' before after told entry
 ended_by o held c moments moments' before after told entry later reply asked at is ends = record {
   later = later;

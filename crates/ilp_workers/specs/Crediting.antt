@@ -37,7 +37,7 @@ pub record IsCredited (desk : PlainDesk) (p : Payment) (moments moments' : Optio
   pub asked : Tells moments now moments'
   pub booked : IsCreditedAt desk p now before.share after.share reply
   pub raised : after.share ≡ portion before.share.actor (before.share.entries + length (kept_of p reply))
-  pub kept : after.kept ≡ before.kept ++ kept_of p reply
+  pub records : after.records ≡ before.records ++ kept_of p reply
   pub amount : IfOk reply (λ told. told.amount ≡ amount_of desk.config p)
   pub allowed : reply ≢ Err credit_fault.TooLarge
 
@@ -60,6 +60,6 @@ CreditsAt desk p moments moments' before after reply =
 
 -- What a worker makes of a payment. No peer and no engine is handed anything.
 pub record Credits (desk : PlainDesk) (p : Payment) (before after : PlainWorker) (reply : Result Kept CreditFault) : Type 0 where
-  pub told : CreditsAt desk p before.moments after.moments (holding before.share before.kept) (holding after.share after.kept) reply
+  pub told : CreditsAt desk p before.moments after.moments (holding before.share before.records) (holding after.share after.records) reply
   pub links : (after.sent ≡ before.sent) × (after.engine ≡ before.engine)
   pub reply_stays : after.reply ≡ before.reply

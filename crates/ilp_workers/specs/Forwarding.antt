@@ -22,16 +22,16 @@ use Rattle.ilp_book.specs.HoldStep.{incoming, hold_step, growth_of, latest_answe
 use Rattle.ilp_book.specs.AnswerStep.{answer_step}
 use Rattle.ilp_desk.specs.declared.record.Record.{Record}
 use Rattle.ilp_desk.specs.declared.record.Recorded.TheVariants as recorded
-use Rattle.ilp_desk.specs.declared.record.Ending.{Ending}
-use Rattle.ilp_desk.specs.declared.record.Ending.TheVariants.{Fulfilled, Released}
+use Rattle.ilp_desk.specs.declared.record.Verdict.{Verdict}
+use Rattle.ilp_desk.specs.declared.record.Verdict.TheVariants.{Fulfilled, Released}
 use Rattle.ilp_desk.specs.Desk.{PlainDesk}
 use Rattle.ilp_desk.specs.Portion.{Portion, portion, Holding, holding}
 use Rattle.ilp_desk.specs.Session.{IsReplyAt}
 use Rattle.ilp_workers.specs.declared.rejects.LocalReject.{LocalReject}
 use Rattle.ilp_workers.specs.declared.rejects.LocalReject.TheVariants as local
-use Rattle.ilp_workers.specs.declared.closing.Closing.{Closing}
-use Rattle.ilp_workers.specs.declared.closing.Told.{Told}
-use Rattle.ilp_workers.specs.declared.closing.Told.TheVariants.{Passed, Rejected}
+use Rattle.ilp_workers.specs.declared.reply_effect.ReplyEffect.{ReplyEffect}
+use Rattle.ilp_workers.specs.declared.reply_effect.Told.{Told}
+use Rattle.ilp_workers.specs.declared.reply_effect.Told.TheVariants.{Passed, Rejected}
 use Rattle.ilp_workers.specs.Links.{Tells, Sending, sending}
 use Rattle.ilp_workers.specs.Rejects.{local_reject, reject_of_fault}
 use Rattle.ilp_workers.specs.Worker.{PlainWorker}
@@ -76,8 +76,8 @@ pub record IsHolding (o : Order) (moments moments' : Option (List ℤ)) (before 
   pub terms : IsOnItsWay o now held
 
 -- None is booked: memory was denied before a book was asked, or a book refused it at a moment that the clock gives.
-abbrev pub IsReason : Order → Option (List ℤ) → Option (List ℤ) → Portion → Portion → LocalReject → Type 0
-IsReason o moments moments' before after why =
+abbrev pub IsHoldRefusal : Order → Option (List ℤ) → Option (List ℤ) → Portion → Portion → LocalReject → Type 0
+IsHoldRefusal o moments moments' before after why =
     ((why ≡ local.InternalError) × (moments' ≡ moments))
     ⊎ ((now : ℤ) × (fault : HoldFault) × Tells moments now moments' × IsHeldAt o now before after (Err fault) × (why ≡ reject_of_fault o.packet.amount fault))
 
@@ -88,37 +88,37 @@ abbrev pub onward : PlainPrepare → Held → PlainPrepare
 onward packet held = record { amount = held.out; expires = held.deadline; condition = packet.condition; destination = packet.destination; payload = packet.payload }
 
 -- The next peer is handed one packet, and this came back for it.
-pub record IsAsked (packet : PlainPrepare) (held : Held) (sent sent' : Option (List Sending)) (came : Option (List ℕ)) : Type 0 where
+pub record IsSentOn (packet : PlainPrepare) (held : Held) (sent sent' : Option (List Sending)) (came : Option (List ℕ)) : Type 0 where
   pub octets : List ℕ
   pub spelled : Spells octets (prepare (onward packet held))
   pub handed : Tells sent (sending held.to octets held.deadline came) sent'
 
 -- What a reply comes to has three parts: what the book is told, how the hold ends if it is open and in time, and what the sender
 -- is told then.
-abbrev pub closing : PeerReply → Ending → Told → Closing
-closing answer ending told = record { answer = answer; ending = ending; told = told }
+abbrev pub effect : PeerReply → Verdict → Told → ReplyEffect
+effect answer verdict told = record { answer = answer; verdict = verdict; told = told }
 
 -- of no reply, or of one that is no Fulfill and no Reject
-abbrev pub closing_of_none : Closing
-closing_of_none = closing peer_reply.NoReply (Released cause.NoReply) (Rejected local.PeerUnreachable)
+abbrev pub effect_of_none : ReplyEffect
+effect_of_none = effect peer_reply.NoReply (Released cause.NoReply) (Rejected local.PeerUnreachable)
 
 -- of a Fulfill, by the condition that its preimage is to meet
-abbrev pub closing_of_fulfill : List ℕ → List ℕ → Closing
-closing_of_fulfill condition preimage =
-    if meets condition preimage then closing (peer_reply.Fulfil preimage) Fulfilled Passed
-    else closing peer_reply.BadFulfil (Released cause.WrongPreimage) (Rejected local.WrongCondition)
+abbrev pub effect_of_fulfill : List ℕ → List ℕ → ReplyEffect
+effect_of_fulfill condition preimage =
+    if meets condition preimage then effect (peer_reply.Fulfill preimage) Fulfilled Passed
+    else effect peer_reply.BadFulfill (Released cause.WrongPreimage) (Rejected local.WrongCondition)
 
 -- of a packet
-abbrev pub closing_of_packet : List ℕ → Result PlainPacket PacketFault → Closing
-closing_of_packet condition (Ok (fulfill f)) = closing_of_fulfill condition f.preimage
-closing_of_packet condition (Ok (reject r)) = closing (peer_reply.Reject r.code) (Released (cause.Peer r.code)) Passed
-closing_of_packet condition (Ok (prepare p)) = closing_of_none
-closing_of_packet condition (Err fault) = closing_of_none
+abbrev pub effect_of_packet : List ℕ → Result PlainPacket PacketFault → ReplyEffect
+effect_of_packet condition (Ok (fulfill f)) = effect_of_fulfill condition f.preimage
+effect_of_packet condition (Ok (reject r)) = effect (peer_reply.Reject r.code) (Released (cause.Peer r.code)) Passed
+effect_of_packet condition (Ok (prepare p)) = effect_of_none
+effect_of_packet condition (Err fault) = effect_of_none
 
 -- of the octets that came for a Prepare of this condition, if any did
-abbrev pub closing_of : List ℕ → Option (List ℕ) → Closing
-closing_of condition (Some octets) = closing_of_packet condition (reading octets)
-closing_of condition None = closing_of_none
+abbrev pub effect_of : List ℕ → Option (List ℕ) → ReplyEffect
+effect_of condition (Some octets) = effect_of_packet condition (reading octets)
+effect_of condition None = effect_of_none
 
 -- ---- ending
 
@@ -128,7 +128,7 @@ IsAnsweredAt o now hold answer before after reply =
     IsReplyAt o.desk (λ book. answer_step book (by before.actor now) hold answer) before after reply
 
 -- how a hold ended, and the number of the entry that says so
-abbrev pub end_of : Outcome → ℕ × Ending
+abbrev pub end_of : Outcome → ℕ × Verdict
 end_of (outcome.Fulfilled entry) = (entry, Fulfilled)
 end_of (outcome.Released entry c) = (entry, Released c)
 
@@ -143,12 +143,12 @@ count_of None = 0
 count_of (Some n) = 1
 
 -- what the books say of a hold that ended by this entry
-abbrev pub record_of_end : Order → Held → Ending → ℕ → Record
-record_of_end o held ending entry = record { number = entry; what = recorded.Ended (record { hold = held.number; from = o.from; to = held.to; amount = o.packet.amount; out = held.out; condition = o.packet.condition; ending = ending }) }
+abbrev pub record_of_end : Order → Held → Verdict → ℕ → Record
+record_of_end o held verdict entry = record { number = entry; what = recorded.Answered (record { hold = held.number; from = o.from; to = held.to; amount = o.packet.amount; out = held.out; condition = o.packet.condition; verdict = verdict }) }
 
 -- The hold ended by what came back: the sender is told that, and the worker keeps the record.
-abbrev pub EndsInTime : Order → Held → Closing → ℕ → List Record → List Record → Told → Type 0
-EndsInTime o held c entry kept kept' told = (told ≡ c.told) × (kept' ≡ kept ++ record_of_end o held c.ending entry ∷ [])
+abbrev pub EndsInTime : Order → Held → ReplyEffect → ℕ → List Record → List Record → Told → Type 0
+EndsInTime o held c entry kept kept' told = (told ≡ c.told) × (kept' ≡ kept ++ record_of_end o held c.verdict entry ∷ [])
 
 -- The hold was over, or ended otherwise: the sender is told that time ran out, and the worker keeps nothing.
 abbrev pub EndsLate : List Record → List Record → Told → Type 0
@@ -156,21 +156,21 @@ EndsLate kept kept' told = (told ≡ Rejected local.TransferTimedOut) × (kept' 
 
 -- An end that the book has counts by what came back just where it is the one that this comes to. Where the book has none, the hold
 -- was over.
-abbrev pub Ends : Order → Held → Closing → Result Outcome NotOpen → List Record → List Record → Told → Type 0
+abbrev pub Ends : Order → Held → ReplyEffect → Result Outcome NotOpen → List Record → List Record → Told → Type 0
 Ends o held c (Err fault) kept kept' told = EndsLate kept kept' told
 Ends o held c (Ok outcome) kept kept' told =
-    (((end_of outcome).1 ≡ c.ending) × EndsInTime o held c (end_of outcome).0 kept kept' told)
-    ⊎ (((end_of outcome).1 ≢ c.ending) × EndsLate kept kept' told)
+    (((end_of outcome).1 ≡ c.verdict) × EndsInTime o held c (end_of outcome).0 kept kept' told)
+    ⊎ (((end_of outcome).1 ≢ c.verdict) × EndsLate kept kept' told)
 
 -- What came back is told to a book at a moment that the clock gives, and the worker's share and records are raised by that.
-pub record IsEnded (o : Order) (held : Held) (c : Closing) (moments moments' : Option (List ℤ)) (before after : Holding) (told : Told) (entry : Option ℕ) : Type 0 where
+pub record IsEnded (o : Order) (held : Held) (c : ReplyEffect) (moments moments' : Option (List ℤ)) (before after : Holding) (told : Told) (entry : Option ℕ) : Type 0 where
   pub later : ℤ
   pub reply : Result Outcome NotOpen
   pub asked : Tells moments later moments'
   pub booked : IsAnsweredAt o later held.number c.answer before.share after.share reply
   pub entry_is : entry_of reply ≡ entry
   pub raised : after.share ≡ portion before.share.actor (before.share.entries + count_of entry)
-  pub ends : Ends o held c reply before.kept after.kept told
+  pub ends : Ends o held c reply before.records after.records told
 
 -- ---- a Prepare that is forwarded
 
@@ -182,10 +182,10 @@ IsTold C came (Rejected why) octets = Spells octets (reject (local_reject C why)
 -- Nothing is booked, and no peer is handed anything.
 pub record IsRefused (o : Order) (before after : PlainWorker) : Type 0 where
   pub why : LocalReject
-  pub reason : IsReason o before.moments after.moments before.share after.share why
+  pub reason : IsHoldRefusal o before.moments after.moments before.share after.share why
   pub told : Spells after.reply (reject (local_reject o.desk.config why))
   pub share : after.share ≡ before.share
-  pub kept : after.kept ≡ before.kept
+  pub records : after.records ≡ before.records
   pub links : (after.sent ≡ before.sent) × (after.engine ≡ before.engine)
 
 -- A hold is booked, then the next peer is asked, then what came back is booked. Between the two sessions nothing is known of the
@@ -197,9 +197,9 @@ pub record IsSent (o : Order) (before after : PlainWorker) (hold : ℕ) (answer 
   pub moments : Option (List ℤ)
   pub booked : IsHolding o before.moments moments before.share share held
   pub came : Option (List ℕ)
-  pub asked : IsAsked o.packet held before.sent after.sent came
+  pub asked : IsSentOn o.packet held before.sent after.sent came
   pub told : Told
-  pub ended : IsEnded o held (closing_of o.packet.condition came) moments after.moments (holding share before.kept) (holding after.share after.kept) told answer
+  pub ended : IsEnded o held (effect_of o.packet.condition came) moments after.moments (holding share before.records) (holding after.share after.records) told answer
   pub engine : after.engine ≡ before.engine
   pub reply : IsTold o.desk.config came told after.reply
 

@@ -86,19 +86,19 @@ pub record IsHandedOver (from : ℕ) (packet : PlainPrepare) (told told' : Optio
   pub counts : answer ≡ engine_answer came
 
 -- A refusal keeps the message back, and so may want of memory where there is none.
-abbrev pub IsAnswered : Option LocalReject → ℕ → PlainPrepare → Option (List ToEngine) → Option (List ToEngine) → Result (List ℕ) LocalReject → Type 0
-IsAnswered (Some why) from packet told told' answer = IsKeptBack why told told' answer
-IsAnswered None from packet told told' answer = IsKeptBack local.InternalError told told' answer ⊎ IsHandedOver from packet told told' answer
+abbrev pub IsEngineAnswer : Option LocalReject → ℕ → PlainPrepare → Option (List ToEngine) → Option (List ToEngine) → Result (List ℕ) LocalReject → Type 0
+IsEngineAnswer (Some why) from packet told told' answer = IsKeptBack why told told' answer
+IsEngineAnswer None from packet told told' answer = IsKeptBack local.InternalError told told' answer ⊎ IsHandedOver from packet told told' answer
 
 -- A Prepare for the engine here is answered by one moment of the clock. Nothing is booked, and no peer is handed anything.
 pub record IsMessaged (C : Configuration) (from : ℕ) (packet : PlainPrepare) (before after : PlainWorker) : Type 0 where
   pub now : ℤ
   pub asked : Tells before.moments now after.moments
   pub answer : Result (List ℕ) LocalReject
-  pub answered : IsAnswered (message_refusal C from now packet) from packet before.engine after.engine answer
+  pub answered : IsEngineAnswer (message_refusal C from now packet) from packet before.engine after.engine answer
   pub reply : Spells after.reply (answer_packet C answer)
   pub share : after.share ≡ before.share
-  pub kept : after.kept ≡ before.kept
+  pub records : after.records ≡ before.records
   pub sent : after.sent ≡ before.sent
 
 -- ---- a message of the engine here for a peer's engine
@@ -108,16 +108,16 @@ abbrev pub message_expiry : Configuration → ℤ → ℤ
 message_expiry C now = int_min (within_years now +ℤ pos C.settings.max_hold_ms) last_of_all
 
 -- the data of a packet, if it is a Fulfill of 32 zero octets
-abbrev pub answer_in : Result PlainPacket PacketFault → Option (List ℕ)
-answer_in (Ok (prepare p)) = None
-answer_in (Ok (fulfill f)) = if bytes_eq f.preimage zero_preimage then Some f.payload else None
-answer_in (Ok (reject r)) = None
-answer_in (Err fault) = None
+abbrev pub peer_answer_in : Result PlainPacket PacketFault → Option (List ℕ)
+peer_answer_in (Ok (prepare p)) = None
+peer_answer_in (Ok (fulfill f)) = if bytes_eq f.preimage zero_preimage then Some f.payload else None
+peer_answer_in (Ok (reject r)) = None
+peer_answer_in (Err fault) = None
 
 -- what the peer's engine answered, by the octets that came back for its message, if any did
-abbrev pub answer_of : Option (List ℕ) → Option (List ℕ)
-answer_of (Some octets) = answer_in (reading octets)
-answer_of None = None
+abbrev pub peer_answer_of : Option (List ℕ) → Option (List ℕ)
+peer_answer_of (Some octets) = peer_answer_in (reading octets)
+peer_answer_of None = None
 
 -- The peer is handed one packet with the message, and this came back for it.
 pub record IsPassedOn (C : Configuration) (peer : ℕ) (octets : List ℕ) (now : ℤ) (sent sent' : Option (List Sending)) (came : Option (List ℕ)) : Type 0 where
@@ -128,9 +128,9 @@ pub record IsPassedOn (C : Configuration) (peer : ℕ) (octets : List ℕ) (now 
 -- By what the call answers: after an Ok, the worker's reply is the Fulfill that came; else it has none.
 abbrev pub IsMessageOver : Configuration → ℕ → List ℕ → ℤ → PlainWorker → PlainWorker → Result (Unit {0}) MessageFault → Type 0
 IsMessageOver C peer octets now before after (Ok x) =
-    IsPassedOn C peer octets now before.sent after.sent (Some after.reply) × IsSome (answer_of (Some after.reply))
+    IsPassedOn C peer octets now before.sent after.sent (Some after.reply) × IsSome (peer_answer_of (Some after.reply))
 IsMessageOver C peer octets now before after (Err message_fault.NoAnswer) =
-    (came : Option (List ℕ)) × IsPassedOn C peer octets now before.sent after.sent came × (answer_of came ≡ None) × (after.reply ≡ [])
+    (came : Option (List ℕ)) × IsPassedOn C peer octets now before.sent after.sent came × (peer_answer_of came ≡ None) × (after.reply ≡ [])
 IsMessageOver C peer octets now before after (Err message_fault.Memory) = (after.sent ≡ before.sent) × (after.reply ≡ [])
 IsMessageOver C peer octets now before after (Err message_fault.TooLong) = ⊥
 
@@ -141,7 +141,7 @@ pub record IsTried (C : Configuration) (peer : ℕ) (octets : List ℕ) (before 
   pub asked : Tells before.moments now after.moments
   pub over : IsMessageOver C peer octets now before after result
   pub share : after.share ≡ before.share
-  pub kept : after.kept ≡ before.kept
+  pub records : after.records ≡ before.records
   pub engine : after.engine ≡ before.engine
 
 -- A message that is too long leaves all as it was.

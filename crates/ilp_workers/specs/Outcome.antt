@@ -7,7 +7,7 @@ use Rattle.ilp_book.specs.declared.calls.Held.{Held}
 use Rattle.ilp_book.specs.declared.fault.HoldFault.{HoldFault}
 use Rattle.ilp_book.specs.declared.fault.HoldFault.TheVariants as hold_fault
 use Rattle.ilp_book.specs.HoldStep.{Incoming}
-use Rattle.ilp_desk.specs.declared.record.Ending.TheVariants.{Fulfilled}
+use Rattle.ilp_desk.specs.declared.record.Verdict.TheVariants.{Fulfilled}
 use Rattle.ilp_desk.specs.Desk.{PlainDesk}
 use Rattle.ilp_desk.specs.Portion.{portion}
 use Rattle.ilp_desk.specs.Totals.{packets}
@@ -32,13 +32,13 @@ pub record IsFulfilled (a : Arrival) (before after : PlainWorker) (receipt : Rec
   pub holds : receipt.hold ≡ Some held.number
   pub answers : receipt.answer ≡ Some entry
   pub raised : after.share ≡ portion before.share.actor (before.share.entries + 2)
-  pub kept : after.kept ≡ before.kept ++ record_of_end (order a.desk a.from packet) held Fulfilled entry ∷ []
+  pub records : after.records ≡ before.records ++ record_of_end (order a.desk a.from packet) held Fulfilled entry ∷ []
 
 -- The sender is answered a Reject, and the worker keeps as many packets as before.
 pub record IsRejected (before after : PlainWorker) : Type 0 where
   pub answer : PlainReject
   pub reply : Spells after.reply (reject answer)
-  pub kept : packets after.kept ≡ packets before.kept
+  pub records : packets after.records ≡ packets before.records
 
 -- ---- refusals that no moment changes
 

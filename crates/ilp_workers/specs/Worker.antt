@@ -10,14 +10,14 @@ use Rattle.ilp_workers.specs.Links.{Sending, ToEngine}
 -- engines were handed), and the octets by which the sender of the last packet is answered
 pub record PlainWorker : Type 0 where
   pub share : Portion
-  pub kept : List Record
+  pub records : List Record
   pub moments : Option (List ℤ)
   pub sent : Option (List Sending)
   pub engine : Option (List ToEngine)
   pub reply : List ℕ
 
 abbrev pub worker : Portion → List Record → Option (List ℤ) → Option (List Sending) → Option (List ToEngine) → List ℕ → PlainWorker
-worker share kept moments sent engine reply = record { share = share; kept = kept; moments = moments; sent = sent; engine = engine; reply = reply }
+worker share records moments sent engine reply = record { share = share; records = records; moments = moments; sent = sent; engine = engine; reply = reply }
 
 -- the octets of an answer, which stand in one of three buffers
 abbrev pub reply_of : Buffer → List ℕ → List ℕ → List ℕ → List ℕ

@@ -14,7 +14,7 @@ ghost use Rattle.ilp_workers.specs.Rejects.{local_reject, longest_local_reject, 
 ghost use Rattle.ilp_workers.specs.Rows.{RejectRows};
 ghost use Rattle.ilp_workers.specs.declared.reply.Receipt.{Receipt};
 ghost use Rattle.ilp_workers.specs.Worker.{PlainWorker};
-ghost use Rattle.ilp_workers.specs.Messaging.{IsForEngine, zero_condition, zero_preimage, zero_fulfill, answer_of};
+ghost use Rattle.ilp_workers.specs.Messaging.{IsForEngine, zero_condition, zero_preimage, zero_fulfill, peer_answer_of};
 ghost use Rattle.ilp_workers.specs.Arrivals.{Arrival, IsForPeers, Forwards};
 ghost use Rattle.ilp_workers.specs.Outcome.{IsFulfilled, IsRejected, IsRefusedAs, standing_refusal};
 
@@ -68,7 +68,7 @@ pub fn messages_are_met()
 /// that came stand.
 pub fn answers_are_fulfills()
     ensures answer { (octets answer : List ℕ) → AreOctets octets
-        → answer_of (Some octets) ≡ Some answer → Spells octets (fulfill (zero_fulfill answer)) }
+        → peer_answer_of (Some octets) ≡ Some answer → Spells octets (fulfill (zero_fulfill answer)) }
     ensures fulfill { (octets answer : List ℕ) → Spells octets (fulfill (zero_fulfill answer))
-        → answer_of (Some octets) ≡ Some answer }
+        → peer_answer_of (Some octets) ≡ Some answer }
 {}

@@ -2,7 +2,6 @@
 //! given: a clock, and links to peers and engines.
 #![tactic(auto)]
 
-mod closing;
 mod crediting;
 pub mod laws;
 mod links;
@@ -10,6 +9,7 @@ mod messaging;
 mod parts;
 mod rejects;
 mod reply;
+mod reply_effect;
 mod worker;
 
 pub use links::{Clock, EngineLink, EngineReply, LinkFault, Uplink};

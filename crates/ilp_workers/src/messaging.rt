@@ -6,13 +6,13 @@ ghost use Rattle.ilp_book.specs.Configured.{IsKnown};
 ghost use Rattle.ilp_workers.specs.Links.{came_of};
 ghost use Rattle.ilp_workers.specs.Worker.{worker, reply_of};
 ghost use Rattle.ilp_workers.specs.Forwarding.{within_years};
-ghost use Rattle.ilp_workers.specs.Messaging.{IsForEngine, message_refusal, engine_answer, answered_with, zero_fulfill, longest_fulfill, IsAnswered, IsMessaged, message_expiry, message_prepare, answer_of, Messages};
+ghost use Rattle.ilp_workers.specs.Messaging.{IsForEngine, message_refusal, engine_answer, answered_with, zero_fulfill, longest_fulfill, IsEngineAnswer, IsMessaged, message_expiry, message_prepare, peer_answer_of, Messages};
 
-use crate::closing::Told;
 use crate::links::{Clock, EngineLink, LinkFault, Uplink};
 use crate::parts::Parts;
 use crate::rejects::LocalReject;
 use crate::reply::Buffer;
+use crate::reply_effect::Told;
 use ilp_accounts::Config;
 use ilp_desk::Naming;
 use ilp_oer::Octets;
@@ -151,8 +151,8 @@ fn put_message<A: Allocator>(
 }
 
 // The data of the Fulfill of 32 zero octets, if the octets stand for one.
-pub(crate) fn answer_in(octets: &[u8]) -> Option<&[u8]>
-    ensures { option_map (λ answer. answer.now) result ≡ answer_of (Some octets.now) }
+pub(crate) fn peer_answer_in(octets: &[u8]) -> Option<&[u8]>
+    ensures { option_map (λ answer. answer.now) result ≡ peer_answer_of (Some octets.now) }
 {
     match Packet::read(octets) {
         Ok(Packet::Fulfill(fulfill)) if fulfill.preimage == &ZERO_PREIMAGE => Some(fulfill.payload),
@@ -180,7 +180,7 @@ impl<J: Naming, C: Clock + Drop, U: Uplink + Drop, E: EngineLink + Drop, A: Allo
             self.new.outgoing.octets self.new.rejected.octets)) }
     {
         let now = self.clock.now();
-        match self.ask_engine(config, from, packet, now) {
+        match self.message_engine(config, from, packet, now) {
             Ok(()) => self.reply_in = Buffer::Outgoing,
             Err(why) => self.tell(config, Told::Rejected(why)),
         }
@@ -188,7 +188,7 @@ impl<J: Naming, C: Clock + Drop, U: Uplink + Drop, E: EngineLink + Drop, A: Allo
 
     // Asks the engine here, unless the Prepare is refused at this time, and writes the Fulfill of
     // its answer. Room for that is made before the engine is asked.
-    fn ask_engine(
+    fn message_engine(
         &mut self,
         config: &Config,
         from: u32,
@@ -199,7 +199,7 @@ impl<J: Naming, C: Clock + Drop, U: Uplink + Drop, E: EngineLink + Drop, A: Allo
         ensures share { self.new.share ≡ self.old.share }
         ensures records { self.new.records ≡ self.old.records }
         ensures links { (self.new.clock ≡ self.old.clock) × (self.new.uplink ≡ self.old.uplink) }
-        ensures answered { IsAnswered (message_refusal config.now from now (plain_prepare packet.now))
+        ensures answered { IsEngineAnswer (message_refusal config.now from now (plain_prepare packet.now))
             from (plain_prepare packet.now) (E.told self.old.engine) (E.told self.new.engine)
             (answered_with result self.new.incoming.octets) }
         ensures packet { OnOk result
@@ -256,7 +256,7 @@ impl<J: Naming, C: Clock + Drop, U: Uplink + Drop, E: EngineLink + Drop, A: Allo
 
 // Whether what came for a message is an answer.
 fn is_answered(came: Result<(), LinkFault>, reply: &[u8]) -> bool
-    ensures { result ≡ is_some (answer_of (came_of came reply.now)) }
+    ensures { result ≡ is_some (peer_answer_of (came_of came reply.now)) }
 {
-    came.is_ok() && answer_in(reply).is_some()
+    came.is_ok() && peer_answer_in(reply).is_some()
 }

@@ -9,15 +9,15 @@ ghost use Rattle.ilp_desk.specs.Portion.{holding};
 ghost use Rattle.ilp_workers.specs.declared.links.LinkFault.{LinkFault};
 ghost use Rattle.ilp_workers.specs.Links.{came_of};
 ghost use Rattle.ilp_workers.specs.Worker.{worker, reply_of};
-ghost use Rattle.ilp_workers.specs.Forwarding.{order, onward, IsReason, IsHolding, IsAsked, IsEnded, IsForwardedBy, IsTold, closing_of, end_of, record_of_end};
+ghost use Rattle.ilp_workers.specs.Forwarding.{order, onward, IsHoldRefusal, IsHolding, IsSentOn, IsEnded, IsForwardedBy, IsTold, effect_of, end_of, record_of_end};
 
-use crate::closing::{Closing, Told, closing_by};
 use crate::links::{Clock, EngineLink, Uplink};
 use crate::rejects::{LONGEST_LOCAL_REJECT, LocalReject, put_local_reject};
 use crate::reply::{Buffer, Receipt};
+use crate::reply_effect::{ReplyEffect, Told, effect_by};
 use ilp_accounts::Config;
 use ilp_book::{Held, Outcome};
-use ilp_desk::{Desk, End, EndedHold, Ending, Naming, Record, Recorded, Share};
+use ilp_desk::{AnsweredHold, Desk, End, Naming, Record, Recorded, Share, Verdict};
 use ilp_oer::Octets;
 use ilp_packet::{Prepare, write_prepare};
 use std::alloc::{AllocError, Allocator, Global};
@@ -94,8 +94,8 @@ impl<J: Naming, C: Clock + Drop, U: Uplink + Drop, E: EngineLink + Drop, A: Allo
                 };
             }
         };
-        let closing = self.ask(packet, &held);
-        let ended = self.end(rt, desk, from, packet, &held, &closing);
+        let effect = self.send_on(packet, &held);
+        let ended = self.end(rt, desk, from, packet, &held, &effect);
         Passed {
             told: ended.told,
             receipt: Receipt {
@@ -116,14 +116,14 @@ impl<J: Naming, C: Clock + Drop, U: Uplink + Drop, E: EngineLink + Drop, A: Allo
         len: usize,
     ) -> Result<Held, LocalReject>
         requires known { IsKnown J.desk.config from }
-        ensures kept { self.new.records.items ≡ self.old.records.items }
+        ensures records { self.new.records.items ≡ self.old.records.items }
         ensures links { (self.new.uplink ≡ self.old.uplink) × (self.new.engine ≡ self.old.engine) }
         ensures held { IfOk result (λ held. IsHolding (order J.desk from (plain_prepare packet.now))
             (C.told self.old.clock) (C.told self.new.clock) self.old.share self.new.share held) }
         ensures record { OnOk result (vec_len self.new.records < vec_capacity self.new.records) }
         ensures cleared { OnOk result (self.new.outgoing.octets ≡ []) }
         ensures room { OnOk result (len ≤ self.new.outgoing.spare) }
-        ensures refused { IfErr result (λ why. IsReason (order J.desk from (plain_prepare packet.now))
+        ensures refused { IfErr result (λ why. IsHoldRefusal (order J.desk from (plain_prepare packet.now))
             (C.told self.old.clock) (C.told self.new.clock) self.old.share self.new.share why) }
         ensures share { IfErr result (λ why. self.new.share ≡ self.old.share) }
     {
@@ -140,7 +140,7 @@ impl<J: Naming, C: Clock + Drop, U: Uplink + Drop, E: EngineLink + Drop, A: Allo
     // Room for a record, and for a packet of so many octets.
     fn make_room(&mut self, len: usize) -> Result<(), AllocError>
         ensures share { self.new.share ≡ self.old.share }
-        ensures kept { self.new.records.items ≡ self.old.records.items }
+        ensures records { self.new.records.items ≡ self.old.records.items }
         ensures clock { self.new.clock ≡ self.old.clock }
         ensures links { (self.new.uplink ≡ self.old.uplink) × (self.new.engine ≡ self.old.engine) }
         ensures record { OnOk result (vec_len self.new.records < vec_capacity self.new.records) }
@@ -153,7 +153,7 @@ impl<J: Naming, C: Clock + Drop, U: Uplink + Drop, E: EngineLink + Drop, A: Allo
     }
 
     // Hands the Prepare on, and waits for what comes back.
-    fn ask(&mut self, packet: &Prepare<'_>, held: &Held) -> Closing
+    fn send_on(&mut self, packet: &Prepare<'_>, held: &Held) -> ReplyEffect
         requires packet { IsPrepare (onward (plain_prepare packet.now) held.now) }
         requires cleared { self.old.outgoing.octets ≡ [] }
         requires room { size (prepare (onward (plain_prepare packet.now) held.now)) ≤ self.old.outgoing.spare }
@@ -162,9 +162,9 @@ impl<J: Naming, C: Clock + Drop, U: Uplink + Drop, E: EngineLink + Drop, A: Allo
         ensures clock { self.new.clock ≡ self.old.clock }
         ensures engine { self.new.engine ≡ self.old.engine }
         ensures asked { (answer : Result (Unit {0}) LinkFault)
-            × IsAsked (plain_prepare packet.now) held.now (U.told self.old.uplink)
+            × IsSentOn (plain_prepare packet.now) held.now (U.told self.old.uplink)
             (U.told self.new.uplink) (came_of answer self.new.incoming.octets)
-            × (result ≡ closing_of packet.now.condition.now (came_of answer self.new.incoming.octets)) }
+            × (result ≡ effect_of packet.now.condition.now (came_of answer self.new.incoming.octets)) }
     {
         let onward = Prepare {
             amount: held.out,
@@ -183,7 +183,7 @@ impl<J: Naming, C: Clock + Drop, U: Uplink + Drop, E: EngineLink + Drop, A: Allo
             held.deadline,
             &mut self.incoming,
         );
-        closing_by(packet.condition, came, self.incoming.as_slice())
+        effect_by(packet.condition, came, self.incoming.as_slice())
     }
 
     // Has the desk book what came back, and keeps the record of how the hold ended by that.
@@ -194,34 +194,34 @@ impl<J: Naming, C: Clock + Drop, U: Uplink + Drop, E: EngineLink + Drop, A: Allo
         from: u32,
         packet: &Prepare<'_>,
         held: &Held,
-        closing: &Closing,
-    ) -> Ended
+        effect: &ReplyEffect,
+    ) -> Answered
         requires room { vec_len self.old.records < vec_capacity self.old.records }
         ensures incoming { self.new.incoming ≡ self.old.incoming }
         ensures links { (self.new.uplink ≡ self.old.uplink) × (self.new.engine ≡ self.old.engine) }
-        ensures ended { IsEnded (order J.desk from (plain_prepare packet.now)) held.now closing.now
+        ensures ended { IsEnded (order J.desk from (plain_prepare packet.now)) held.now effect.now
             (C.told self.old.clock) (C.told self.new.clock) (holding self.old.share self.old.records.items)
             (holding self.new.share self.new.records.items) result.told result.entry }
     {
         let later = self.clock.now();
-        let answer = closing.answer;
+        let answer = effect.answer;
         let Ok(outcome) = desk.answer(rt, &mut self.share, held.number, answer, later) else {
-            return Ended {
+            return Answered {
                 told: Told::Rejected(LocalReject::TransferTimedOut),
                 entry: None,
             };
         };
-        let (entry, ending) = end_of(outcome);
-        if !same(ending, closing.ending) {
-            return Ended {
+        let (entry, verdict) = end_of(outcome);
+        if !same(verdict, effect.verdict) {
+            return Answered {
                 told: Told::Rejected(LocalReject::TransferTimedOut),
                 entry: Some(entry),
             };
         }
         self.records
-            .push_reserved(record_of(from, packet, held, ending, entry));
-        Ended {
-            told: closing.told,
+            .push_reserved(record_of(from, packet, held, verdict, entry));
+        Answered {
+            told: effect.told,
             entry: Some(entry),
         }
     }
@@ -280,43 +280,43 @@ impl<J: Naming, C: Clock + Drop, U: Uplink + Drop, E: EngineLink + Drop> Parts<J
 
 // What the sender is told of a hold that ended, and the entry that says so, if it is this one.
 #[derive(Clone, Copy)]
-struct Ended {
+struct Answered {
     told: Told,
     entry: Option<u32>,
 }
 
 // How a hold ended, and the number of the entry that says so.
-fn end_of(outcome: Outcome) -> (u32, Ending)
+fn end_of(outcome: Outcome) -> (u32, Verdict)
     ensures { result ≡ end_of outcome }
 {
     match outcome {
-        Outcome::Fulfilled { entry } => (entry, Ending::Fulfilled),
-        Outcome::Released { entry, cause } => (entry, Ending::Released(cause)),
+        Outcome::Fulfilled { entry } => (entry, Verdict::Fulfilled),
+        Outcome::Released { entry, cause } => (entry, Verdict::Released(cause)),
     }
 }
 
-fn same(one: Ending, other: Ending) -> bool
+fn same(one: Verdict, other: Verdict) -> bool
     ensures { MatchBool result (one ≡ other) (one ≢ other) }
 {
     one == other
 }
 
 // The record of a hold that ended so, by this entry.
-fn record_of(from: u32, packet: &Prepare<'_>, held: &Held, ending: Ending, entry: u32) -> Record
+fn record_of(from: u32, packet: &Prepare<'_>, held: &Held, verdict: Verdict, entry: u32) -> Record
     ensures { (desk : PlainDesk) → result
-        ≡ record_of_end (order desk from (plain_prepare packet.now)) held.now ending entry }
+        ≡ record_of_end (order desk from (plain_prepare packet.now)) held.now verdict entry }
 {
-    let ended = EndedHold {
+    let ended = AnsweredHold {
         hold: held.number,
         from,
         to: held.to,
         amount: packet.amount,
         out: held.out,
         condition: *packet.condition,
-        ending,
+        verdict,
     };
     Record {
         number: entry,
-        what: Recorded::Ended(ended),
+        what: Recorded::Answered(ended),
     }
 }

@@ -6,11 +6,11 @@ ghost use Rattle.ilp_packet.specs.Packet.{plain_prepare, prepare, Spells};
 ghost use Rattle.ilp_desk.specs.Portion.{holding};
 ghost use Rattle.ilp_workers.specs.Worker.{worker};
 ghost use Rattle.ilp_workers.specs.Crediting.{Credits};
-ghost use Rattle.ilp_workers.specs.Messaging.{answer_of, Messages};
+ghost use Rattle.ilp_workers.specs.Messaging.{peer_answer_of, Messages};
 ghost use Rattle.ilp_workers.specs.Arrivals.{arrival, IsBad, Forwards};
 
 use crate::links::{Clock, EngineLink, Uplink};
-use crate::messaging::{MessageFault, answer_in, is_for_engine};
+use crate::messaging::{MessageFault, is_for_engine, peer_answer_in};
 use crate::parts::Parts;
 use crate::rejects::LONGEST_LOCAL_REJECT;
 use crate::reply::{BadPacket, Buffer, Receipt};
@@ -112,7 +112,7 @@ impl<J: Naming, C: Clock + Drop, U: Uplink + Drop, E: EngineLink + Drop, A: Allo
 
     /// The records of what it booked, in order.
     pub fn records(&self) -> &[Record]
-        ensures { result.now ≡ self.now.kept }
+        ensures { result.now ≡ self.now.records }
     {
         self.parts.records.as_slice()
     }
@@ -188,17 +188,17 @@ impl<J: Naming, C: Clock + Drop, U: Uplink + Drop, E: EngineLink + Drop, A: Allo
 
     /// The data of the Fulfill of 32 zero octets that `reply` has; none where it has no such Fulfill.
     /// Right after an `Ok` of `message` it is what the peer's engine answered.
-    pub fn answer(&self) -> &[u8]
-        ensures { result.now ≡ unwrap_or (answer_of (Some self.now.reply)) [] }
+    pub fn message_answer(&self) -> &[u8]
+        ensures { result.now ≡ unwrap_or (peer_answer_of (Some self.now.reply)) [] }
     {
-        answer_in(self.parts.reply()).unwrap_or(&[])
+        peer_answer_in(self.parts.reply()).unwrap_or(&[])
     }
 }
 
 impl<J: Naming, C: Clock + Drop, U: Uplink + Drop, E: EngineLink + Drop> Worker<J, C, U, E> {
     /// What the worker hands back in the end: its share and its records.
     pub fn into_end(self) -> End<J>
-        ensures { result ≡ holding self.share self.kept }
+        ensures { result ≡ holding self.share self.records }
     {
         let Worker { parts } = self;
         parts.into_end()

@@ -117,7 +117,7 @@ fn pass_on<J: Naming>(rt: &impl Wait, desk: &Desk<J>, mut share: Share<J>) -> Pa
         let Ok(held) = desk.hold(rt, &mut share, from, &prepare, START) else {
             break;
         };
-        let reply = PeerReply::Fulfil([0; 32]);
+        let reply = PeerReply::Fulfill([0; 32]);
         if let Ok(Outcome::Fulfilled { .. }) = desk.answer(
             rt,
             &mut share,

@@ -44,7 +44,7 @@ fn too_long(alloc: Global) -> io::Result<Vec<u8>> {
 }
 
 // Alice answers with the Fulfill.
-fn fulfil<R: Threads + std::time::Clock + Abort + Sync, U: Uplink>(
+fn fulfill<R: Threads + std::time::Clock + Abort + Sync, U: Uplink>(
     scene: Scene<'_, R>,
     link: &mut U,
     request: &[u8],
@@ -95,7 +95,7 @@ fn send_to_alice<R: Threads + std::time::Clock + Abort + Copy + Sync, U: Uplink>
     link: &mut U,
 ) -> io::Result<()> {
     let request = packet_request(scene)?;
-    fulfil(scene, link, request.as_bytes())?;
+    fulfill(scene, link, request.as_bytes())?;
     flood(scene, link, request.len())?;
     fail(scene, link, request.len())
 }

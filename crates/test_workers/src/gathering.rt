@@ -169,7 +169,7 @@ fn book_beside<J: Naming>(
     if let Ok(Packet::Prepare(prepare)) = Packet::read(given.packet) {
         if ALICE < desk.config().peers() {
             if let Ok(held) = desk.hold(rt, &mut share, ALICE, &prepare, START) {
-                let reply = PeerReply::Fulfil([0; 32]);
+                let reply = PeerReply::Fulfill([0; 32]);
                 let _ = desk.answer(rt, &mut share, held.number, reply, START);
             }
         }

@@ -4,7 +4,7 @@ use crate::forwards::forward;
 use crate::gathering::{book_of, end_without, settler_end, sweeper_end};
 use crate::scenes::Given;
 use ilp_book::Book;
-use ilp_desk::{Desk, End, EndedHold, Ending, Naming, Record, Recorded, Share};
+use ilp_desk::{Desk, End, AnsweredHold, Verdict, Naming, Record, Recorded, Share};
 use ilp_journal::What;
 use ilp_oer::Octets;
 use ilp_workers::{LinkFault, Uplink, Worker};
@@ -234,11 +234,11 @@ fn totals_of_ends<J: Naming>(ends: &Vec<End<J>>) -> Totals {
 
 fn add_records(totals: &mut Totals, records: &[Record]) {
     for record in records {
-        if let Recorded::Ended(
-            EndedHold {
+        if let Recorded::Answered(
+            AnsweredHold {
                 amount,
                 out,
-                ending: Ending::Fulfilled,
+                verdict: Verdict::Fulfilled,
                 ..
             },
         ) = record.what

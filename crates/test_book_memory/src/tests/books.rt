@@ -87,8 +87,8 @@ fn hold_all<A: Allocator>(rt: &impl Abort, book: &mut Book<A>) {
 
 // What releases a hold, when it comes, and the cause that it is released for.
 const ANSWERS: [(PeerReply, i64, Cause); 5] = [
-    (PeerReply::Fulfil([1; 32]), START, Cause::WrongPreimage),
-    (PeerReply::BadFulfil, START, Cause::WrongPreimage),
+    (PeerReply::Fulfill([1; 32]), START, Cause::WrongPreimage),
+    (PeerReply::BadFulfill, START, Cause::WrongPreimage),
     (PeerReply::Reject(*b"F99"), START, Cause::Peer(*b"F99")),
     (PeerReply::NoReply, START, Cause::NoReply),
     (PeerReply::NoReply, DEADLINE, Cause::Late),
@@ -129,7 +129,7 @@ fn end_over<B: Allocator>(
 
 // The first holds are answered, and the others swept.
 fn end_all<A: Allocator>(rt: &impl Abort, book: &mut Book<A>) {
-    let outcome = book.answer(0, 0, PeerReply::Fulfil([0; 32]), START);
+    let outcome = book.answer(0, 0, PeerReply::Fulfill([0; 32]), START);
     assert_eq!(rt; outcome, Ok(Outcome::Fulfilled { entry: HOLDS }));
     let mut entry = HOLDS + 1;
     let mut number = 1;

@@ -116,7 +116,7 @@ fn book_extremes(rt: &(impl Abort + AllocGlobal), book: &mut Book) -> Result<(),
     // The one peer falls to its least; with both, the totals of the asset are full.
     hold(rt, book, 0, 64, 9_223_372_036_854_775_808)?; // 0
     hold(rt, book, 64, 128, 9_223_372_036_854_775_807)?; // 1
-    fulfil(rt, book, 1); // 2
+    fulfill(rt, book, 1); // 2
 
     // A balance of more than 64 bits.
     credit(rt, book, 1, b'a'); // 3
@@ -130,7 +130,7 @@ fn book_extremes(rt: &(impl Abort + AllocGlobal), book: &mut Book) -> Result<(),
 
     // By the price 4 units are worth 4 * 4294967295 * 10^9; more is asked for than that.
     hold(rt, book, 12, 3, 5)?; // 11
-    fulfil(rt, book, 11); // 12
+    fulfill(rt, book, 11); // 12
     ask(rt, book, 3); // 13
 
     // The last peer has two holds open; a third was released.
@@ -162,9 +162,9 @@ fn hold(
     Ok(())
 }
 
-fn fulfil(rt: &impl Abort, book: &mut Book, number: u32) {
+fn fulfill(rt: &impl Abort, book: &mut Book, number: u32) {
     let entry = book.len();
-    let outcome = book.answer(0, number, PeerReply::Fulfil([0; 32]), START);
+    let outcome = book.answer(0, number, PeerReply::Fulfill([0; 32]), START);
     assert_eq!(rt; outcome, Ok(Outcome::Fulfilled { entry }));
 }
 

@@ -66,7 +66,7 @@ fn hold_and_release(rt: &impl Abort, book: &mut Book) {
 
 fn pay_and_hold(rt: &impl Abort, book: &mut Book) {
     hold(rt, book);
-    let outcome = book.answer(0, 0, PeerReply::Fulfil([0; 32]), START);
+    let outcome = book.answer(0, 0, PeerReply::Fulfill([0; 32]), START);
     assert_eq!(rt; outcome, Ok(Outcome::Fulfilled { entry: 1 }));
     hold(rt, book);
 }

@@ -196,7 +196,7 @@ fn end_with<A: Allocator>(rt: &impl Abort, book: &mut Book<A>, last: Last) {
         Last::Credited => credit(rt, book, ALICE, 1),
         Last::Held => hold(rt, book),
         Last::Fulfilled => {
-            let outcome = book.answer(0, 0, PeerReply::Fulfil([0; 32]), START);
+            let outcome = book.answer(0, 0, PeerReply::Fulfill([0; 32]), START);
             assert!(rt; outcome.is_ok());
         }
         Last::Released => {

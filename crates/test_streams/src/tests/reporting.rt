@@ -75,7 +75,7 @@ fn print_in_pieces(rt: &(impl Abort + AllocGlobal), snapshot: &Snapshot) {
 fn pay_and_hold(rt: &impl Abort, book: &mut Book) {
     assert!(rt; book.config().peers() == 2);
     assert!(rt; book.hold(0, 0, &TO_BOB, START).is_ok());
-    let outcome = book.answer(0, 0, PeerReply::Fulfil([0; 32]), START);
+    let outcome = book.answer(0, 0, PeerReply::Fulfill([0; 32]), START);
     assert_eq!(rt; outcome, Ok(Outcome::Fulfilled { entry: 1 }));
     assert!(rt; book.config().peers() == 2);
     assert!(rt; book.hold(0, 1, &TO_ALICE, START).is_ok());

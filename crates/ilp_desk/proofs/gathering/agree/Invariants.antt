@@ -5,4 +5,4 @@ use Rattle.ilp_desk.specs.Gathering.{records_of}
 use Rattle.ilp_desk.proofs.gathering.agree.Given as goal
 
 abbrev pub invariant-loop-end : goal.invariant-loop-end
-invariant-loop-end g l = (k : ℕ) (d : Holding) → k < l.end-index → (get_or l.ends.items k d).share.actor ≡ l.actor → (get_or l.ends.items k d).kept ≡ records_of l.book l.actor
+invariant-loop-end g l = (k : ℕ) (d : Holding) → k < l.end-index → (get_or l.ends.items k d).share.actor ≡ l.actor → (get_or l.ends.items k d).records ≡ records_of l.book l.actor

@@ -8,6 +8,7 @@ use Rattle.ilp_io.proofs.ReadingLemmas.{Consumes-stream}
 use Rattle.ilp_http.specs.Placed.{IsPlacedAt, EndsAt}
 use Rattle.ilp_http.specs.ResponseAnswer.{IsResponseFault}
 use Rattle.ilp_http.specs.declared.response.ResponseFault.TheVariants.{Bad}
+use Rattle.ilp_http.specs.declared.buffer.TheConstants.{ROOM}
 use Rattle.ilp_http.proofs.SourceLemmas.{Tallies-next, taken_more, of_ended}
 use Rattle.ilp_http.proofs.ResponseLemmas.{IsResponseFault-at_end}
 use Rattle.ilp_http.proofs.response.fill_response.Goals.{then-needed-filled+in-Unfinished, then-needed-filled+in-ToEnd, else-needed-filled}
@@ -27,7 +28,7 @@ returns-in_err-place-in-Ok-eq0-clause-refused g c =
     let filled = c.loop-needed.filled in
     let seen = take filled octets in
     let same = take_put filled (length octets - filled) octets c.pull.new.room (omega arith) in
-    let few : c.if-needed-filled.needed ≤ 81921 = elim c.if-needed-filled.branch [
+    let few : c.if-needed-filled.needed ≤ ROOM = elim c.if-needed-filled.branch [
       | then-needed-filled+in-Unfinished w ↦ omega (arith, w.needed-is, w.in-Unfinished.ensures.0.1)
       | then-needed-filled+in-ToEnd w ↦ omega (arith, w.needed-is, w.in-ToEnd.ensures.0.1)
       | else-needed-filled w ↦ omega (arith, w.needed-is, c.loop-needed.invariant.needed)
@@ -51,7 +52,7 @@ returns-in-Ok-eq0-clause-whole g c =
     let filled = c.loop-needed.filled in
     let seen = take filled octets in
     let same = take_put filled (length octets - filled) octets c.pull.new.room (omega arith) in
-    let few : c.if-needed-filled.needed ≤ 81921 = elim c.if-needed-filled.branch [
+    let few : c.if-needed-filled.needed ≤ ROOM = elim c.if-needed-filled.branch [
       | then-needed-filled+in-Unfinished w ↦ omega (arith, w.needed-is, w.in-Unfinished.ensures.0.1)
       | then-needed-filled+in-ToEnd w ↦ omega (arith, w.needed-is, w.in-ToEnd.ensures.0.1)
       | else-needed-filled w ↦ omega (arith, w.needed-is, c.loop-needed.invariant.needed)

@@ -1,13 +1,14 @@
 use Rattle.std.proofs.Common.{◌-◌, ◌≤◌, take}
 use Rattle.std.specs.Io.KnownBytes.{Consumes}
 use Rattle.ilp_io.specs.Counts.{Tallies}
+use Rattle.ilp_http.specs.declared.buffer.TheConstants.{ROOM}
 use Rattle.ilp_http.proofs.response.fill_response.Given as goal
 
 -- what the reads so far gave stands at the front, and none of them failed
 abbrev pub invariant-loop-needed : goal.invariant-loop-needed
 invariant-loop-needed g l = record {
-  filled : l.filled ≤ 81921;
-  needed : l.needed ≤ 81921;
+  filled : l.filled ≤ ROOM;
+  needed : l.needed ≤ ROOM;
   reads : l.reads ≤ 4096;
   known : Consumes (g.S.Source.remaining l.fn.source) (g.S.Source.remaining l.source) (take l.filled l.octets);
   counted : Tallies (g.S.Source.tally l.fn.source) (g.S.Source.tally l.source) l.reads 0;

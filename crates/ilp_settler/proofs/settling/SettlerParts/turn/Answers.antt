@@ -23,7 +23,7 @@ returns-in-Err-StillOpen g c =
       account = search rules;
       accounts = search rules;
       share = books.0;
-      kept = ap (λ v. v.items) books.1;
+      records = ap (λ v. v.items) books.1;
       moments = ap g.C.Clock.told books.2;
     } in
     let a : Asked = record { number = c.in-Err-StillOpen.number; amount = c.in-Err-StillOpen.amount } in
@@ -50,7 +50,7 @@ returns-in-Err-Memory g c =
       account = search rules;
       accounts = search rules;
       share = books.0;
-      kept = ap (λ v. v.items) books.1;
+      records = ap (λ v. v.items) books.1;
       moments = ap g.C.Clock.told books.2;
     } in
     let asking : IsAsking desk c.args.peer known.moments after.moments known.share after.share (Err ask_fault.Memory) = search rules in

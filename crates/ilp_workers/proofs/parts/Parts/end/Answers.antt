@@ -17,9 +17,9 @@ returns-in_default-clause-ended g c =
     let later = c.now-later.result in
     let reply : Result Outcome NotOpen = Err c.in_default.field-0 in
     let fits : FitsSigned w64 later = search rules in
-    let at : IsAnsweredAt o later c.args.held.now.number c.args.closing.now.answer c.args.self.now.share c.answer.new.share reply =
-    subst (λ t. IsAnsweredAt o t c.args.held.now.number c.args.closing.now.answer c.args.self.now.share c.answer.new.share reply) (to_z-of_z w64 later fits) c.in_default.ensures in
-    ended_by o c.args.held.now c.args.closing.now (g.C.Clock.told c.args.self.now.clock) (g.C.Clock.told c.now-later.new.self)
+    let at : IsAnsweredAt o later c.args.held.now.number c.args.effect.now.answer c.args.self.now.share c.answer.new.share reply =
+    subst (λ t. IsAnsweredAt o t c.args.held.now.number c.args.effect.now.answer c.args.self.now.share c.answer.new.share reply) (to_z-of_z w64 later fits) c.in_default.ensures in
+    ended_by o c.args.held.now c.args.effect.now (g.C.Clock.told c.args.self.now.clock) (g.C.Clock.told c.now-later.new.self)
     (holding c.args.self.now.share c.args.self.now.records.items) (holding c.answer.new.share c.args.self.now.records.items) _ None later reply c.now-later.ensures at refl (refl, refl)
 
 -- the hold ended otherwise than what came back says
@@ -29,9 +29,9 @@ returns-then-not-same-clause-ended g c =
     let later = c.now-later.result in
     let reply : Result Outcome NotOpen = Ok c.in-Ok.outcome in
     let fits : FitsSigned w64 later = search rules in
-    let at : IsAnsweredAt o later c.args.held.now.number c.args.closing.now.answer c.args.self.now.share c.answer.new.share reply =
-    subst (λ t. IsAnsweredAt o t c.args.held.now.number c.args.closing.now.answer c.args.self.now.share c.answer.new.share reply) (to_z-of_z w64 later fits) c.in-Ok.ensures in
-    ended_by o c.args.held.now c.args.closing.now (g.C.Clock.told c.args.self.now.clock) (g.C.Clock.told c.now-later.new.self)
+    let at : IsAnsweredAt o later c.args.held.now.number c.args.effect.now.answer c.args.self.now.share c.answer.new.share reply =
+    subst (λ t. IsAnsweredAt o t c.args.held.now.number c.args.effect.now.answer c.args.self.now.share c.answer.new.share reply) (to_z-of_z w64 later fits) c.in-Ok.ensures in
+    ended_by o c.args.held.now c.args.effect.now (g.C.Clock.told c.args.self.now.clock) (g.C.Clock.told c.now-later.new.self)
     (holding c.args.self.now.share c.args.self.now.records.items) (holding c.answer.new.share c.args.self.now.records.items) _ (Some c.end_of-entry.result.0) later reply c.now-later.ensures at
     (ap (λ r. Some r.0) (sym c.end_of-entry.ensures)) (inr ((λ e. c.if-not-same.ensures (ap (λ r. r.1) c.end_of-entry.ensures ∙ e)), (refl, refl)))
 
@@ -45,9 +45,9 @@ returns-clause-ended g c =
     let kept = c.args.self.now.records.items in
     let reply : Result Outcome NotOpen = Ok c.in-Ok.outcome in
     let fits : FitsSigned w64 later = search rules in
-    let at : IsAnsweredAt o later held.number c.args.closing.now.answer c.args.self.now.share c.answer.new.share reply =
-    subst (λ t. IsAnsweredAt o t held.number c.args.closing.now.answer c.args.self.now.share c.answer.new.share reply) (to_z-of_z w64 later fits) c.in-Ok.ensures in
-    let told = c.record_of.ensures g.J.Naming.desk ∙ ap (λ ending. record_of_end o held ending entry) c.if-not-same.ensures in
-    ended_by o held c.args.closing.now (g.C.Clock.told c.args.self.now.clock) (g.C.Clock.told c.now-later.new.self)
+    let at : IsAnsweredAt o later held.number c.args.effect.now.answer c.args.self.now.share c.answer.new.share reply =
+    subst (λ t. IsAnsweredAt o t held.number c.args.effect.now.answer c.args.self.now.share c.answer.new.share reply) (to_z-of_z w64 later fits) c.in-Ok.ensures in
+    let told = c.record_of.ensures g.J.Naming.desk ∙ ap (λ verdict. record_of_end o held verdict entry) c.if-not-same.ensures in
+    ended_by o held c.args.effect.now (g.C.Clock.told c.args.self.now.clock) (g.C.Clock.told c.now-later.new.self)
     (holding c.args.self.now.share kept) (holding c.answer.new.share c.push_reserved.new.self.items) _ (Some entry) later reply c.now-later.ensures at
-    (ap (λ r. Some r.0) (sym c.end_of-entry.ensures)) (inl (ap (λ r. r.1) (sym c.end_of-entry.ensures) ∙ c.if-not-same.ensures, (refl, c.push_reserved.ensures.items ∙ ap (λ r. kept ++ r ∷ []) (told ∙ ap (λ r. record_of_end o held c.args.closing.now.ending r.0) c.end_of-entry.ensures))))
+    (ap (λ r. Some r.0) (sym c.end_of-entry.ensures)) (inl (ap (λ r. r.1) (sym c.end_of-entry.ensures) ∙ c.if-not-same.ensures, (refl, c.push_reserved.ensures.items ∙ ap (λ r. kept ++ r ∷ []) (told ∙ ap (λ r. record_of_end o held c.args.effect.now.verdict r.0) c.end_of-entry.ensures))))

@@ -3,7 +3,7 @@ use Rattle.std.specs.Prelude.{FitsSigned, is_some}
 use Rattle.std.specs.Int.{w64}
 use Rattle.std.proofs.lemmas.Int.{to_z-of_z}
 use Rattle.ilp_workers.specs.Links.{came_of}
-use Rattle.ilp_workers.specs.Messaging.{message_expiry, answer_of, IsPassedOn}
+use Rattle.ilp_workers.specs.Messaging.{message_expiry, peer_answer_of, IsPassedOn}
 use Rattle.ilp_workers.proofs.EngineMessages.{answer_came, no_answer_came, passed_on}
 use Rattle.ilp_workers.proofs.parts.Parts.send_message.Goals as goal
 
@@ -17,7 +17,7 @@ returns-then-is_answered g c =
     let now_fits : FitsSigned w64 now = search rules in
     let fits : FitsSigned w64 expires = search rules in
     let is = to_z-of_z w64 expires fits ∙ (c.message_expiry-expires.ensures.value ∙ ap (message_expiry C) (to_z-of_z w64 now now_fits)) in
-    let passes = sym (ap (λ r. is_some (answer_of (came_of c.send-came.result r))) c.as_slice.ensures) ∙ (sym c.is_answered.ensures ∙ c.if-is_answered.true) in
+    let passes = sym (ap (λ r. is_some (peer_answer_of (came_of c.send-came.result r))) c.as_slice.ensures) ∙ (sym c.is_answered.ensures ∙ c.if-is_answered.true) in
     let answered = answer_came c.send-came.result reply passes in
     let passed = passed_on C c.args.peer c.args.octets.now c.put_message.new.out.octets c.as_slice-packet.result.now now _ (g.U.Uplink.told c.args.self.now.uplink) (g.U.Uplink.told c.send-came.new.self) (came_of c.send-came.result reply) is c.in-Ok.ensures c.as_slice-packet.ensures c.send-came.ensures in
     record {
@@ -26,7 +26,7 @@ returns-then-is_answered g c =
       asked = c.now.ensures;
       over = (subst (λ came. IsPassedOn C c.args.peer c.args.octets.now now (g.U.Uplink.told c.args.self.now.uplink) (g.U.Uplink.told c.send-came.new.self) came) answered.0 passed, answered.1);
       share = refl;
-      kept = refl;
+      records = refl;
       engine = refl;
     }
 
@@ -41,14 +41,14 @@ returns g c =
     let now_fits : FitsSigned w64 now = search rules in
     let fits : FitsSigned w64 expires = search rules in
     let is = to_z-of_z w64 expires fits ∙ (c.message_expiry-expires.ensures.value ∙ ap (message_expiry C) (to_z-of_z w64 now now_fits)) in
-    let fails = sym (ap (λ r. is_some (answer_of (came_of c.send-came.result r))) c.as_slice.ensures) ∙ (sym c.is_answered.ensures ∙ c.if-is_answered.false) in
+    let fails = sym (ap (λ r. is_some (peer_answer_of (came_of c.send-came.result r))) c.as_slice.ensures) ∙ (sym c.is_answered.ensures ∙ c.if-is_answered.false) in
     let passed = passed_on C c.args.peer c.args.octets.now c.put_message.new.out.octets c.as_slice-packet.result.now now _ (g.U.Uplink.told c.args.self.now.uplink) (g.U.Uplink.told c.send-came.new.self) came is c.in-Ok.ensures c.as_slice-packet.ensures c.send-came.ensures in
     record {
       within = omega (arith, c.if-octets-gt-MAX_MESSAGE.false);
       now = now;
       asked = c.now.ensures;
-      over = (came, passed, no_answer_came (answer_of came) fails, c.clear-2.ensures.octets);
+      over = (came, passed, no_answer_came (peer_answer_of came) fails, c.clear-2.ensures.octets);
       share = refl;
-      kept = refl;
+      records = refl;
       engine = refl;
     }

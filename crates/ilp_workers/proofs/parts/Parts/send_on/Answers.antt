@@ -4,9 +4,9 @@ use Rattle.std.specs.Int.{w64}
 use Rattle.std.proofs.lemmas.Int.{to_z-of_z}
 use Rattle.ilp_packet.specs.Packet.{PlainPrepare, plain_prepare, prepare, Spells}
 use Rattle.ilp_workers.specs.Links.{Tells, sending, came_of}
-use Rattle.ilp_workers.specs.Forwarding.{closing_of}
+use Rattle.ilp_workers.specs.Forwarding.{effect_of}
 use Rattle.ilp_workers.proofs.Sending.{written_alone}
-use Rattle.ilp_workers.proofs.parts.Parts.ask.Goals as goal
+use Rattle.ilp_workers.proofs.parts.Parts.send_on.Goals as goal
 
 -- the octets that the peer is handed stand for the Prepare
 pub returns-clause-asked : goal.returns-clause-asked
@@ -23,4 +23,4 @@ returns-clause-asked g c =
     let handed : Tells (g.U.Uplink.told c.args.self.now.uplink) (sending held.to out held.deadline came) (g.U.Uplink.told c.send-came.new.self) =
     subst (λ d. Tells (g.U.Uplink.told c.args.self.now.uplink) (sending held.to out d came) (g.U.Uplink.told c.send-came.new.self)) same
     (subst (λ o. Tells (g.U.Uplink.told c.args.self.now.uplink) (sending held.to o (to_z w64 (of_z w64 held.deadline)) came) (g.U.Uplink.told c.send-came.new.self)) c.as_slice.ensures c.send-came.ensures) in
-    (c.send-came.result, record { octets = out; spelled = spelled; handed = handed }, c.closing_by.ensures ∙ ap (λ r. closing_of packet.condition (came_of c.send-came.result r)) c.as_slice-2.ensures)
+    (c.send-came.result, record { octets = out; spelled = spelled; handed = handed }, c.effect_by.ensures ∙ ap (λ r. effect_of packet.condition (came_of c.send-came.result r)) c.as_slice-2.ensures)
