@@ -2,7 +2,7 @@
 //! reach peers and settlement engines.
 //!
 //! What a socket gives or takes, and how long that takes, no clause can say: it stands in the
-//! comments, and `test_tcp` tests it over real sockets.
+//! comments, and `test_sockets` tests it over real sockets.
 #![tactic(auto)]
 
 mod calling;
