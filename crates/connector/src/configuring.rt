@@ -1,6 +1,6 @@
 //! Where a command's configuration comes from.
 
-use crate::Ending;
+use crate::Exit;
 use ilp_accounts::{Config, explain};
 use ilp_connector::{BUILT_IN, CONFIG_LIMIT, Refusal, read_config};
 use std::alloc::AllocError;
@@ -9,19 +9,19 @@ use std::rt::Runtime;
 use std::{fs, io};
 
 /// The octets of a configuration: the built-in one where the path is `-`, and else those of a file.
-pub(crate) fn octets_of<R: Runtime + AllocGlobal>(rt: &R, path: &str) -> Result<Vec<u8>, Ending> {
+pub(crate) fn config_octets<R: Runtime + AllocGlobal>(rt: &R, path: &str) -> Result<Vec<u8>, Exit> {
     match path {
         "-" => match Vec::from_slice(rt.alloc(), BUILT_IN.as_bytes()) {
             Ok(octets) => Ok(octets),
-            Err(AllocError) => Err(Ending::Refused(Refusal::Memory)),
+            Err(AllocError) => Err(Exit::Refused(Refusal::Memory)),
         },
-        _ => octets_of_file(rt, path),
+        _ => read_file(rt, path),
     }
 }
 
 /// The configuration that a path names, or what is told where it is refused.
-pub(crate) fn configured<R: Runtime + AllocGlobal>(rt: &R, path: &str) -> Result<Config, Ending> {
-    let octets = octets_of(rt, path)?;
+pub(crate) fn configured<R: Runtime + AllocGlobal>(rt: &R, path: &str) -> Result<Config, Exit> {
+    let octets = config_octets(rt, path)?;
     match Config::read(rt.alloc(), &octets) {
         Ok(config) => Ok(config),
         Err(fault) => {
@@ -31,7 +31,8 @@ pub(crate) fn configured<R: Runtime + AllocGlobal>(rt: &R, path: &str) -> Result
     }
 }
 
-fn octets_of_file<R: Runtime + AllocGlobal>(rt: &R, path: &str) -> Result<Vec<u8>, Ending> {
+// The octets of a configuration's file.
+fn read_file<R: Runtime + AllocGlobal>(rt: &R, path: &str) -> Result<Vec<u8>, Exit> {
     let file = match fs::open(rt, path) {
         Ok(file) => file,
         Err(error) => {
@@ -46,7 +47,7 @@ fn octets_of_file<R: Runtime + AllocGlobal>(rt: &R, path: &str) -> Result<Vec<u8
             let why = why_unread(rt, path, reader.error);
             Err(refused(Refusal::ConfigUnread, why))
         }
-        Err(refusal) => Err(Ending::Refused(refusal)),
+        Err(refusal) => Err(Exit::Refused(refusal)),
     }
 }
 
@@ -63,10 +64,10 @@ fn why_unread<R: AllocGlobal>(
 }
 
 /// A refusal, and why it came where there was memory to say so.
-pub(crate) fn refused(refusal: Refusal, why: Result<String, AllocError>) -> Ending {
+pub(crate) fn refused(refusal: Refusal, why: Result<String, AllocError>) -> Exit {
     match why {
-        Ok(why) => Ending::Explained(refusal, why),
-        Err(AllocError) => Ending::Refused(refusal),
+        Ok(why) => Exit::Explained(refusal, why),
+        Err(AllocError) => Exit::Refused(refusal),
     }
 }
 

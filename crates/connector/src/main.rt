@@ -21,42 +21,44 @@ use std::thread::Threads;
 
 const USAGE: &str = "usage: connector packet HEX, check CONFIG, replay CONFIG, serve CONFIG";
 
-// How the program ended.
+// How the program ends.
 #[derive(Drop)]
-enum Ending {
+enum Exit {
     Done,
     Refused(Refusal),
-    /// It was refused, and this line says why.
+    // It was refused, and this line says why.
     Explained(Refusal, String),
+    // Its words are none of the commands.
     Misused,
+    // Standard output could not be written.
     OutputFailed,
 }
 
 fn main(rt: HostRuntime) -> ExitCode {
-    let ending = match words(&rt) {
+    let exit = match words(&rt) {
         Ok((command, argument)) => run(&rt, command.as_str(), argument.as_str()),
-        Err(ending) => ending,
+        Err(exit) => exit,
     };
-    ExitCode::from(status(&rt, ending))
+    ExitCode::from(status(&rt, exit))
 }
 
 // The command and its argument.
-fn words<R: Runtime + AllocGlobal>(rt: &R) -> Result<(String, String), Ending> {
+fn words<R: Runtime + AllocGlobal>(rt: &R) -> Result<(String, String), Exit> {
     let mut words = match env::args(rt) {
         Ok(args) => args.skip(1),
         Err(error) if error.kind() == ErrorKind::OutOfMemory => {
-            return Err(Ending::Refused(Refusal::Memory));
+            return Err(Exit::Refused(Refusal::Memory));
         }
-        Err(_) => return Err(Ending::Misused),
+        Err(_) => return Err(Exit::Misused),
     };
     match (words.next(), words.next(), words.next()) {
         (Some(command), Some(argument), None) => Ok((command, argument)),
-        _ => Err(Ending::Misused),
+        _ => Err(Exit::Misused),
     }
 }
 
 // Runs what the words ask for.
-fn run<R>(rt: &R, command: &str, argument: &str) -> Ending
+fn run<R>(rt: &R, command: &str, argument: &str) -> Exit
 where
     R: Runtime
         + AllocGlobal
@@ -72,41 +74,41 @@ where
         ("check", path) => run_check(rt, path),
         ("replay", path) => run_replay(rt, path),
         ("serve", path) => run_serve(rt, path),
-        _ => Ending::Misused,
+        _ => Exit::Misused,
     }
 }
 
 // Prints what a packet in hexadecimal says.
-fn run_packet<R: Runtime + AllocGlobal>(rt: &R, text: &str) -> Ending {
+fn run_packet<R: Runtime + AllocGlobal>(rt: &R, text: &str) -> Exit {
     match describe_packet(rt.alloc(), text) {
         Ok(line) => print_line(rt, line.as_str()),
-        Err(refusal) => Ending::Refused(refusal),
+        Err(refusal) => Exit::Refused(refusal),
     }
 }
 
 // Prints the one line of a command that is done.
-fn print_line<R: Runtime>(rt: &R, line: &str) -> Ending {
+fn print_line<R: Runtime>(rt: &R, line: &str) -> Exit {
     match rt.println(line) {
-        Ok(()) => Ending::Done,
-        Err(_) => Ending::OutputFailed,
+        Ok(()) => Exit::Done,
+        Err(_) => Exit::OutputFailed,
     }
 }
 
-// Says how the program ended, and gives its exit status.
-fn status<R: Runtime + AllocGlobal>(rt: &R, ending: Ending) -> u8 {
-    match ending {
-        Ending::Done => 0,
-        Ending::Refused(refusal) => status_of_refusal(rt, refusal),
-        Ending::Explained(refusal, why) => {
+// Prints how the program ends, and gives its exit status.
+fn status<R: Runtime + AllocGlobal>(rt: &R, exit: Exit) -> u8 {
+    match exit {
+        Exit::Done => 0,
+        Exit::Refused(refusal) => status_of_refusal(rt, refusal),
+        Exit::Explained(refusal, why) => {
             let status = status_of_refusal(rt, refusal);
             let _ = rt.eprintln(why.as_str());
             status
         }
-        Ending::Misused => {
+        Exit::Misused => {
             let _ = rt.eprintln(USAGE);
             2
         }
-        Ending::OutputFailed => 3,
+        Exit::OutputFailed => 3,
     }
 }
 

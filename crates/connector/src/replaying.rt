@@ -1,6 +1,6 @@
 //! The command `replay`.
 
-use crate::Ending;
+use crate::Exit;
 use crate::configuring::configured;
 use ilp_accounts::Config;
 use ilp_connector::{ReplayFault, replay};
@@ -8,19 +8,19 @@ use std::io;
 use std::rt::Runtime;
 
 /// Runs the script of standard input over a configuration.
-pub(crate) fn run_replay<R: Runtime + AllocGlobal>(rt: &R, path: &str) -> Ending {
+pub(crate) fn run_replay<R: Runtime + AllocGlobal>(rt: &R, path: &str) -> Exit {
     match configured(rt, path) {
         Ok(config) => replay_over(rt, &config),
-        Err(ending) => ending,
+        Err(exit) => exit,
     }
 }
 
-fn replay_over<R: Runtime + AllocGlobal>(rt: &R, config: &Config) -> Ending {
+fn replay_over<R: Runtime + AllocGlobal>(rt: &R, config: &Config) -> Exit {
     let mut reader = rt.reader();
     let mut writer = io::writer(rt);
     match replay(rt.alloc(), config, &mut reader, &mut writer) {
-        Ok(()) => Ending::Done,
-        Err(ReplayFault::WriteFault) => Ending::OutputFailed,
-        Err(fault) => Ending::Refused(fault.refusal()),
+        Ok(()) => Exit::Done,
+        Err(ReplayFault::WriteFault) => Exit::OutputFailed,
+        Err(fault) => Exit::Refused(fault.refusal()),
     }
 }

@@ -1,6 +1,6 @@
 //! The command `serve`.
 
-use crate::Ending;
+use crate::Exit;
 use crate::configuring::configured;
 use ilp_connector::Refusal;
 use ilp_links::{Hurry, Notices, SystemClock, TcpLinks};
@@ -12,7 +12,7 @@ use std::sync::Wait;
 use std::thread::Threads;
 
 /// Runs a connector of a configuration until it is asked to close.
-pub(crate) fn run_serve<R>(rt: &R, path: &str) -> Ending
+pub(crate) fn run_serve<R>(rt: &R, path: &str) -> Exit
 where
     R: Runtime
         + AllocGlobal
@@ -25,17 +25,17 @@ where
 {
     let config = match configured(rt, path) {
         Ok(config) => config,
-        Err(ending) => return ending,
+        Err(exit) => return exit,
     };
     let Ok(notices) = Notices::new(rt.alloc(), &config) else {
-        return Ending::Refused(Refusal::Memory);
+        return Exit::Refused(Refusal::Memory);
     };
     let hurry = Hurry::new();
     let links = TcpLinks::new(*rt, &config, SystemClock::new(*rt), &notices, &hurry);
     let mut writer = io::writer(rt);
     match serve(rt, &config, &links, &mut writer) {
-        Ok(()) => Ending::Done,
-        Err(ServeFault::Write) => Ending::OutputFailed,
-        Err(fault) => Ending::Refused(fault.refusal()),
+        Ok(()) => Exit::Done,
+        Err(ServeFault::Write) => Exit::OutputFailed,
+        Err(fault) => Exit::Refused(fault.refusal()),
     }
 }

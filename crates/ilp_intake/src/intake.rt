@@ -1,9 +1,9 @@
 //! The intake of one listening socket.
 
-use crate::arrival::Arrival;
-use crate::door::Door;
-use crate::guests::Guests;
+use crate::connections::Connections;
 use crate::limits::{MOST_AT_ONCE, MOST_EVENTS, REST_MS};
+use crate::listener::Listener;
+use crate::ready::ReadyConnection;
 use crate::watch::Watch;
 use mio::{Events, Interest, Poll, Token, Waker};
 use std::alloc::Global;
@@ -13,10 +13,10 @@ use std::sync::Wait;
 use std::time::{Clock, Duration};
 use std::{io, thread};
 
-// Connections have numbers from 0 on, and there are never so many.
-const DOOR: Token = Token(usize::MAX);
+// What events are of. Connections have numbers from 0 on, and there are never so many.
+const LISTENER: Token = Token(usize::MAX);
 
-const CLOSER: Token = Token(usize::MAX - 1);
+const CLOSE_HANDLE: Token = Token(usize::MAX - 1);
 
 /// Takes in the connections of one listening socket, and gives them on one by one.
 ///
@@ -28,19 +28,20 @@ const CLOSER: Token = Token(usize::MAX - 1);
 pub struct Intake {
     poll: Poll,
     events: Events,
-    door: Option<Door>,
-    knocking: Knocking,
-    guests: Guests,
+    // None once the intake is closed.
+    listener: Option<Listener>,
+    backlog: Backlog,
+    connections: Connections,
     watch: Watch,
 }
 
 /// Closes an intake from another thread.
 #[derive(Drop)]
-pub struct Closer {
+pub struct CloseHandle {
     waker: Waker,
 }
 
-impl Closer {
+impl CloseHandle {
     /// Has the intake accept no more. The connections that wait there are still given on, as far as
     /// their requests come within a second.
     pub fn close(&self) {
@@ -48,104 +49,110 @@ impl Closer {
     }
 }
 
-// Whether a connection waits to be accepted.
+// Whether connections wait at the listener to be accepted.
 #[derive(Clone, Copy, PartialEq, Eq)]
-enum Knocking {
-    Nobody,
-    Somebody,
+enum Backlog {
+    Empty,
+    // One may wait.
+    Pending,
     // One may wait, and could not be accepted.
-    Unheard,
+    Blocked,
 }
 
 impl Intake {
     /// The intake of a listening socket, and what closes it. Where memory is denied the error's kind
     /// is `OutOfMemory`.
-    pub fn new(rt: &impl Net, alloc: Global, door: Door) -> io::Result<(Intake, Closer)> {
-        let mut door = door;
+    pub fn new(
+        rt: &impl Net,
+        alloc: Global,
+        listener: Listener,
+    ) -> io::Result<(Intake, CloseHandle)> {
+        let mut listener = listener;
         let poll = Poll::new(rt)?;
-        let waker = Waker::new(poll.registry(), CLOSER)?;
+        let waker = Waker::new(poll.registry(), CLOSE_HANDLE)?;
         poll.registry()
-            .register(&mut door.listener, DOOR, Interest::READABLE)?;
+            .register(&mut listener.socket, LISTENER, Interest::READABLE)?;
         let intake = Intake {
             poll,
             events: Events::with_capacity(alloc, MOST_EVENTS)?,
-            door: Some(door),
-            knocking: Knocking::Nobody,
-            guests: Guests::new(alloc)?,
+            listener: Some(listener),
+            backlog: Backlog::Empty,
+            connections: Connections::new(alloc)?,
             watch: Watch::new(),
         };
-        Ok((intake, Closer { waker }))
+        Ok((intake, CloseHandle { waker }))
     }
 
     /// The next connection whose request has come whole, is refused as it stands, or whose client
     /// sends nothing more. Waits until there is one. None once the intake was closed and no
     /// connection waits.
-    pub fn next<R: Clock + Wait>(&mut self, rt: &R) -> Option<Arrival> {
+    pub fn next<R: Clock + Wait>(&mut self, rt: &R) -> Option<ReadyConnection> {
         self.watch.resume(rt);
         for _ in rt.forever() {
             let now = self.watch.last();
-            if let Some(arrival) = self.guests.leave(self.poll.registry(), now) {
-                return Some(arrival);
+            if let Some(ready) = self.connections.take_ready(self.poll.registry(), now) {
+                return Some(ready);
             }
-            if self.door.is_none() && self.guests.is_empty() {
+            if self.listener.is_none() && self.connections.is_empty() {
                 return None;
             }
-            self.turn(rt);
+            self.handle_events(rt);
         }
         unreachable!()
     }
 
-    // Waits until something comes or somebody's time is up, and sees to it.
-    fn turn(&mut self, rt: &impl Clock) {
-        let patience = self.patience();
-        if self.poll.poll(&mut self.events, patience).is_err() {
+    // Waits until events come or a connection's time is up, and handles both.
+    fn handle_events(&mut self, rt: &impl Clock) {
+        let timeout = self.poll_timeout();
+        if self.poll.poll(&mut self.events, timeout).is_err() {
             thread::sleep(rt, Duration::from_millis(REST_MS));
         }
         let now = self.watch.read(rt);
         let mut closing = false;
         for event in self.events.iter() {
             match event.token() {
-                DOOR => self.knocking = Knocking::Somebody,
-                CLOSER => closing = true,
-                Token(number) => self.guests.read(number),
+                LISTENER => self.backlog = Backlog::Pending,
+                CLOSE_HANDLE => closing = true,
+                Token(number) => self.connections.read(number),
             }
         }
-        // Who knocked before the close is let in.
-        if closing || self.knocking != Knocking::Nobody {
-            self.admit(now);
+        // Connections that came before the close are accepted.
+        if closing || self.backlog != Backlog::Empty {
+            self.accept_pending(now);
         }
         if closing {
-            self.door = None;
-            self.knocking = Knocking::Nobody;
-            self.guests.close(now);
+            self.listener = None;
+            self.backlog = Backlog::Empty;
+            self.connections.close(now);
         }
-        self.guests.part(now);
+        self.connections.drop_expired(now);
     }
 
-    fn patience(&self) -> Option<Duration> {
-        let patience = self.guests.patience(self.watch.last());
-        match self.knocking {
-            Knocking::Nobody => patience,
-            Knocking::Somebody => Some(Duration::ZERO),
-            Knocking::Unheard => {
+    // How long to wait for events at most; none for as long as it takes.
+    fn poll_timeout(&self) -> Option<Duration> {
+        let left = self.connections.time_left(self.watch.last());
+        match self.backlog {
+            Backlog::Empty => left,
+            Backlog::Pending => Some(Duration::ZERO),
+            Backlog::Blocked => {
                 let rest = Duration::from_millis(REST_MS);
-                Some(patience.unwrap_or(rest).min(rest))
+                Some(left.unwrap_or(rest).min(rest))
             }
         }
     }
 
-    // Accepts those who knock, some of them where there are many.
-    fn admit(&mut self, now: Duration) {
-        let Some(door) = &self.door else {
+    // Accepts the connections that wait at the listener, some of them where there are many.
+    fn accept_pending(&mut self, now: Duration) {
+        let Some(listener) = &self.listener else {
             return;
         };
         for _ in 0..MOST_AT_ONCE {
-            match door.listener.accept() {
-                Ok((stream, _)) => self.guests.enter(self.poll.registry(), stream, now),
+            match listener.socket.accept() {
+                Ok((stream, _)) => self.connections.add(self.poll.registry(), stream, now),
                 Err(error) => {
-                    self.knocking = match error.kind() {
-                        ErrorKind::WouldBlock => Knocking::Nobody,
-                        _ => Knocking::Unheard,
+                    self.backlog = match error.kind() {
+                        ErrorKind::WouldBlock => Backlog::Empty,
+                        _ => Backlog::Blocked,
                     };
                     return;
                 }

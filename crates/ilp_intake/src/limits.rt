@@ -11,11 +11,11 @@ pub const ALLOWANCE_MS: u64 = 10_000;
 /// How long a request may still take to come once the intake is closed, in milliseconds.
 pub const GRACE_MS: u64 = 1_000;
 
-// How many connections are accepted before others are looked after: as many as the system has wait
-// at a listening socket of std.
+// How many connections are accepted before others are read: as many as the system has wait at a
+// listening socket of std.
 pub(crate) const MOST_AT_ONCE: usize = 128;
 
-// How many descriptors are told of as ready at once.
+// How many events are handled at once.
 pub(crate) const MOST_EVENTS: usize = 256;
 
 // How long to rest, in milliseconds, where no connection can be accepted although one waits, since

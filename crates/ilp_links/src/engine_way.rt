@@ -1,7 +1,8 @@
 //! The way to the settlement engines.
 ghost use Rattle.std.specs.Prelude.{◌+◌, ◌<◌, ◌≤◌, length, IfSome};
+ghost use Rattle.ilp_server.specs.declared.quantity.TheConstants.{LONGEST_QUANTITY};
 
-use crate::asking::ask_hurried;
+use crate::calling::call_hurried;
 use crate::hurry::Hurry;
 use crate::no_answer::NoAnswer;
 use crate::notices::Notices;
@@ -37,7 +38,7 @@ pub struct EngineWay<'c, R: Copy> {
     buffer: Buffer,
     // Room for the JSON of a quantity.
     quantity: Octets,
-    ghost room: { 45 ≤ length quantity.octets + quantity.spare },
+    ghost room: { LONGEST_QUANTITY ≤ length quantity.octets + quantity.spare },
 }
 
 impl<'c, R: Copy> EngineWay<'c, R> {
@@ -79,7 +80,7 @@ impl<R: Net<Stream = TcpStream> + Clock + Eprint + Copy> EngineLink for EngineWa
         };
         let text = account_text(self.config, peer);
         let head = account_head(engine);
-        let came = ask_engine(
+        let came = call_engine(
             &self.rt,
             self.hurry,
             engine,
@@ -104,7 +105,7 @@ impl<R: Net<Stream = TcpStream> + Clock + Eprint + Copy> EngineLink for EngineWa
         let target = settlements_target(self.config, peer);
         let head = settlement_head(engine, &target, key);
         let body = self.quantity.as_slice();
-        let came = ask_engine(&self.rt, self.hurry, engine, &head, body, &mut self.buffer);
+        let came = call_engine(&self.rt, self.hurry, engine, &head, body, &mut self.buffer);
         match came.and_then(reply_in) {
             Ok(reply) => reply,
             Err(why) => {
@@ -125,7 +126,7 @@ impl<R: Net<Stream = TcpStream> + Clock + Eprint + Copy> EngineLink for EngineWa
         };
         let target = messages_target(self.config, peer);
         let head = message_head(engine, &target);
-        let came = ask_engine(
+        let came = call_engine(
             &self.rt,
             self.hurry,
             engine,
@@ -155,7 +156,7 @@ fn engine_of(config: &Config, peer: u32) -> Option<&str>
 }
 
 // What an engine responds to a request.
-fn ask_engine<'b, R: Net<Stream = TcpStream> + Clock>(
+fn call_engine<'b, R: Net<Stream = TcpStream> + Clock>(
     rt: &R,
     hurry: &Hurry,
     engine: &str,
@@ -163,7 +164,7 @@ fn ask_engine<'b, R: Net<Stream = TcpStream> + Clock>(
     body: &[u8],
     buffer: &'b mut Buffer,
 ) -> Result<Response<'b>, NoAnswer> {
-    ask_hurried(rt, engine, ENGINE_WAIT, hurry, head, body, buffer)
+    call_hurried(rt, engine, ENGINE_WAIT, hurry, head, body, buffer)
 }
 
 // That the engine has the account that it was told of.

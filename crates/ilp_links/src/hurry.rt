@@ -1,18 +1,18 @@
 //! How links learn that the connector ends, so that no engine keeps it waiting.
 ghost use Rattle.std.specs.Io.{ReadsAtMost};
 
-use crate::time_left::{left_until, moment_in};
+use crate::time_left::{instant_after, left_until};
 use std::io;
 use std::io::{ErrorKind, Read};
 use std::net::{Net, SocketAddr, TcpStream};
 use std::sync::atomic::{AtomicBool, Ordering};
 use std::time::{Clock, Duration, Instant};
 
-// For how long an engine's answer is waited for at once, in milliseconds, before it is asked whether
-// the connector ends, and for how long from then on.
+// For how many milliseconds an engine's answer is waited for before it is seen again whether the
+// connector ends; and for how many in all, once it does.
 const PIECE_MS: u64 = 500;
 
-// The same for a connection, which may come with the second attempt of the system.
+// The same for a connection, which the system may make at its second attempt only.
 const CONNECT_PIECE_MS: u64 = 1_000;
 
 // More such pieces than there are in the time of any call.
@@ -44,7 +44,7 @@ impl Hurry {
 
 /// A connection to an engine. It fails with `TimedOut` at the moment at which all is to end, and a
 /// second or two after the connector begins to end.
-pub(crate) fn connect<R: Net<Stream = TcpStream> + Clock>(
+pub(crate) fn connect_hurried<R: Net<Stream = TcpStream> + Clock>(
     rt: &R,
     address: SocketAddr,
     until: Instant,
@@ -98,7 +98,8 @@ impl<'s, R: Clock> HurriedReader<'s, R> {
     fn look(&mut self) -> io::Result<()> {
         if !self.hurries && self.hurry.is_told() {
             self.hurries = true;
-            self.until = self.until.min(moment_in(self.rt, PIECE_MS)?);
+            let piece = Duration::from_millis(PIECE_MS);
+            self.until = self.until.min(instant_after(self.rt, piece)?);
         }
         Ok(())
     }

@@ -2,10 +2,10 @@
 //! reach peers and settlement engines.
 //!
 //! What a socket gives or takes, and how long that takes, no clause can say: it stands in the
-//! comments, and `test_tcp` tests it over real sockets.
+//! comments, and `test_sockets` tests it over real sockets.
 #![tactic(auto)]
 
-mod asking;
+mod calling;
 mod engine_way;
 mod hurry;
 mod links;
@@ -22,4 +22,5 @@ pub use links::{Links, TcpLinks};
 pub use notices::Notices;
 pub use peer_link::PeerLink;
 pub use system_clock::SystemClock;
+pub use time_left::instant_after;
 pub use timed::{TimedReader, TimedWriter};

@@ -13,10 +13,13 @@ use std::net::{Net, TcpStream};
 /// Makes what the actors of a desk are given: one of each for each actor, which may take it into a
 /// thread of its own.
 pub trait Links {
+    /// An actor's clock.
     type Clock: Clock + Drop + Send;
 
+    /// An actor's way to the peers.
     type Uplink: Uplink + Drop + Send;
 
+    /// An actor's way to the settlement engines.
     type Engine: EngineLink + Drop + Send;
 
     /// A clock.

@@ -1,7 +1,7 @@
 //! The way to the peers.
 ghost use Rattle.std.specs.Prelude.{◌<◌, length};
 
-use crate::asking::ask;
+use crate::calling::call;
 use crate::no_answer::NoAnswer;
 use crate::notices::Notices;
 use crate::time_left::time_left;
@@ -89,6 +89,6 @@ fn packet_answer<'b, R: Net<Stream = TcpStream> + std::time::Clock>(
     requires { to < length config.now.peers }
 {
     let head = packet_head(config, to);
-    let response = ask(rt, config.host(to), left, &head, packet, buffer)?;
+    let response = call(rt, config.host(to), left, &head, packet, buffer)?;
     packet_reply(Ok(response)).map_err(|_| NoAnswer::Status(response.status))
 }

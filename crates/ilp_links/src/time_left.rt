@@ -12,7 +12,7 @@ const LONGEST_WAIT: u64 = 3_600_000;
 /// since 1970.
 pub(crate) fn time_left(deadline: i64, now: i64) -> u64
     ensures over { deadline ≤ℤ now → result ≡ 0 }
-    ensures left { now <ℤ deadline → result ≡ min (nat_abs (deadline -ℤ now)) 3_600_000 }
+    ensures left { now <ℤ deadline → result ≡ min (nat_abs (deadline -ℤ now)) LONGEST_WAIT }
 {
     if deadline <= now {
         return 0;
@@ -20,11 +20,10 @@ pub(crate) fn time_left(deadline: i64, now: i64) -> u64
     deadline.abs_diff(now).min(LONGEST_WAIT)
 }
 
-/// The moment so many milliseconds from now, by the clock that never goes back. It is refused where
-/// that can't be read, or ends before.
-pub(crate) fn moment_in(rt: &impl Clock, milliseconds: u64) -> io::Result<Instant> {
-    let now = Instant::now(rt)?;
-    match now.checked_add(Duration::from_millis(milliseconds)) {
+/// The moment so long from now, by the clock that never goes back. It is refused where that can't be
+/// read, or ends before.
+pub fn instant_after(rt: &impl Clock, time: Duration) -> io::Result<Instant> {
+    match Instant::now(rt)?.checked_add(time) {
         Some(moment) => Ok(moment),
         None => Err(io::Error::from(io::ErrorKind::InvalidData)),
     }

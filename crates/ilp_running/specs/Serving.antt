@@ -54,7 +54,7 @@ Prints book old new (Err Write) = AppendsProperPrefix old new (report_text book)
 Prints book old new (Err (Unprinted why)) = new ≡ old
 
 -- The connector ran to its end, and printed the report of its book; or a write of it failed; or nothing was printed.
-abbrev pub Serves : PlainDesk → Option (List ℕ) → Option (List ℕ) → Result (Unit {0}) ServeFault → Type 0
-Serves desk old new (Ok done) = (book : PlainBook) × IsClosed desk book × Prints book old new (Ok done)
-Serves desk old new (Err Write) = (book : PlainBook) × IsClosed desk book × Prints book old new (Err Write)
-Serves desk old new (Err (Unprinted why)) = new ≡ old
+abbrev pub EndsWithReport : PlainDesk → Option (List ℕ) → Option (List ℕ) → Result (Unit {0}) ServeFault → Type 0
+EndsWithReport desk old new (Ok done) = (book : PlainBook) × IsClosed desk book × Prints book old new (Ok done)
+EndsWithReport desk old new (Err Write) = (book : PlainBook) × IsClosed desk book × Prints book old new (Err Write)
+EndsWithReport desk old new (Err (Unprinted why)) = new ≡ old

@@ -9,7 +9,7 @@ use std::alloc::{AllocError, Global};
 
 /// A worker, and the buffer into which it reads requests.
 #[derive(Drop)]
-pub(crate) struct Hand<J: Naming, C: Clock + Drop, U: Uplink + Drop, E: EngineLink + Drop> {
+pub(crate) struct Responder<J: Naming, C: Clock + Drop, U: Uplink + Drop, E: EngineLink + Drop> {
     pub(crate) worker: Worker<J, C, U, E>,
     pub(crate) buffer: Buffer,
 }
@@ -17,7 +17,7 @@ pub(crate) struct Hand<J: Naming, C: Clock + Drop, U: Uplink + Drop, E: EngineLi
 /// The actors of a desk, with all the memory that they are given.
 #[derive(Drop)]
 pub(crate) struct Actors<J: Naming, C: Clock + Drop, U: Uplink + Drop, E: EngineLink + Drop> {
-    pub(crate) hands: Vec<Hand<J, C, U, E>>,
+    pub(crate) responders: Vec<Responder<J, C, U, E>>,
     pub(crate) sweeper: Sweeper<J, C>,
     pub(crate) settler: Settler<J, C, E>,
 }
@@ -36,27 +36,27 @@ pub(crate) fn actors_of<J: Naming, L: Links>(
     let settler = new_settler(alloc, shares.pop().ok_or(AllocError)?, links)?;
     let share = shares.pop().ok_or(AllocError)?;
     let sweeper = Sweeper::new(alloc, share, links.clock());
-    let mut hands = Vec::new(alloc);
+    let mut responders = Vec::new(alloc);
     for share in shares {
-        hands.push(new_hand(alloc, share, links)?)?;
+        responders.push(new_responder(alloc, share, links)?)?;
     }
     Ok(Actors {
-        hands,
+        responders,
         sweeper,
         settler,
     })
 }
 
-fn new_hand<J: Naming, L: Links>(
+fn new_responder<J: Naming, L: Links>(
     alloc: Global,
     share: Share<J>,
     links: &L,
-) -> Result<Hand<J, L::Clock, L::Uplink, L::Engine>, AllocError> {
+) -> Result<Responder<J, L::Clock, L::Uplink, L::Engine>, AllocError> {
     let buffer = Buffer::new(alloc)?;
     let uplink = links.uplink()?;
     let engine = links.engine()?;
     match Worker::new(alloc, share, links.clock(), uplink, engine) {
-        Ok(worker) => Ok(Hand { worker, buffer }),
+        Ok(worker) => Ok(Responder { worker, buffer }),
         Err(_) => Err(AllocError),
     }
 }

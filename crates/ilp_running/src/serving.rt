@@ -2,17 +2,17 @@
 ghost use Rattle.std.specs.Prelude.{◌≡◌, IfOk};
 ghost use Rattle.ilp_desk.specs.Desk as desk;
 ghost use Rattle.ilp_desk.specs.Desk.{base_of};
-ghost use Rattle.ilp_running.specs.Serving.{desk_of, IsClosed, Prints, Serves};
+ghost use Rattle.ilp_running.specs.Serving.{desk_of, EndsWithReport, IsClosed, Prints};
 
+use crate::accepting::CloseHandles;
 use crate::actors::actors_of;
 use crate::fault::{ServeFault, Unprinted, not_gathered};
-use crate::taking::Closers;
 use crate::telling::{tell_listening, tell_no_thread, tell_not_listening};
-use crate::threads::{House, Intakes, run};
+use crate::threads::{Intakes, Shared, run};
 use ilp_accounts::Config;
 use ilp_book::Book;
 use ilp_desk::{Closed, Desk, End, Naming, Share, gather};
-use ilp_intake::{Closer, Intake, open_door};
+use ilp_intake::{CloseHandle, Intake, listen};
 use ilp_io::Sink;
 use ilp_links::{Links, Notices};
 use ilp_report::{Snapshot, print};
@@ -27,21 +27,21 @@ use std::time::Clock;
 
 /// Runs a connector of this configuration until it is asked to close, and prints the report of its
 /// book then.
-#[tactic(auto, using(crate::proofs::Printed::serves))]
+#[tactic(auto, using(crate::proofs::Printed::ends_with_report))]
 pub fn serve<R, L, W>(rt: &R, config: &Config, links: &L, writer: &mut W) -> Result<(), ServeFault>
 where
     R: Net<Listener = TcpListener, Stream = TcpStream> + Threads + Wait + Clock + Eprint + Sync,
     L: Links,
     W: Sink,
-    ensures { Serves (desk_of config.now) (W.contents writer.old) (W.contents writer.new) result }
+    ensures { EndsWithReport (desk_of config.now) (W.contents writer.old) (W.contents writer.new) result }
 {
-    let doors = open_sides(rt, config)?;
+    let sides = open_sides(rt, config)?;
     let book = match Book::new(config.allocator(), config) {
         Ok(book) => book,
         Err(_) => return Err(ServeFault::Unprinted(Unprinted::Memory)),
     };
     let blanks = Blank::new(u64::from(config.workers()) + 2);
-    let book = serve_desk::<Brand, R, L>(rt, config, book, blanks, links, doors)?;
+    let book = serve_desk::<Brand, R, L>(rt, config, book, blanks, links, sides)?;
     print_report(&book, writer)
 }
 
@@ -49,7 +49,7 @@ where
 #[derive(Drop)]
 struct Sides {
     intakes: Intakes,
-    closers: Closers,
+    close_handles: CloseHandles,
 }
 
 // Listens at both sides.
@@ -61,7 +61,7 @@ where
     let (engines, close_engines) = open_side(rt, config, Side::Engine, config.engine_listen())?;
     Ok(Sides {
         intakes: Intakes { peers, engines },
-        closers: Closers {
+        close_handles: CloseHandles {
             peers: close_peers,
             engines: close_engines,
         },
@@ -73,12 +73,12 @@ fn open_side<R>(
     config: &Config,
     side: Side,
     place: &str,
-) -> Result<(Intake, Closer), Unprinted>
+) -> Result<(Intake, CloseHandle), Unprinted>
 where
     R: Net<Listener = TcpListener, Stream = TcpStream> + Eprint,
 {
-    let opened = match open_door(rt, place) {
-        Ok(door) => Intake::new(rt, config.allocator(), door),
+    let opened = match listen(rt, place) {
+        Ok(listener) => Intake::new(rt, config.allocator(), listener),
         Err(error) => Err(error),
     };
     match opened {
@@ -136,15 +136,18 @@ where
 {
     let notices = Notices::new(desk.config().allocator(), desk.config())?;
     let actors = actors_of(desk, shares, links)?;
-    let Sides { intakes, closers } = sides;
+    let Sides {
+        intakes,
+        close_handles,
+    } = sides;
     tell_listening(rt, desk.config());
-    let house = House {
+    let shared = Shared {
         rt,
         desk,
-        closers: &closers,
+        close_handles: &close_handles,
         notices: &notices,
     };
-    let ends = run(house, actors, intakes, links.hurry());
+    let ends = run(shared, actors, intakes, links.hurry());
     if let Err(Unprinted::Spawn) = &ends {
         tell_no_thread(rt);
     }

@@ -1,13 +1,13 @@
 //! The threads of a running connector.
 ghost use denote.Param.Send.{IsSend, IsSync};
 
-use crate::actors::{Actors, Hand};
-use crate::answering::answer_all;
-use crate::ending::{Ending, GoOn, until_ended};
+use crate::accepting::{CloseHandles, Job, accept_all};
+use crate::actors::{Actors, Responder};
 use crate::fault::Unprinted;
-use crate::rounds::{settle, sweep};
-use crate::taking::{Caller, Closers, take_in};
+use crate::responding::serve_connections;
+use crate::shutdown::{KeepRunning, Shutdown, shutdown_pair};
 use crate::telling::tell_closing;
+use crate::turns::{settle, sweep};
 use crossbeam_channel::{Receiver, Sender, bounded};
 use ilp_desk::{Desk, End, Naming};
 use ilp_intake::Intake;
@@ -29,16 +29,16 @@ pub(crate) struct Intakes {
 
 /// What the threads of a connector work on.
 #[derive(Drop)]
-pub(crate) struct House<'h, J: Naming, R> {
-    pub(crate) rt: &'h R,
-    pub(crate) desk: &'h Desk<J>,
-    pub(crate) closers: &'h Closers,
-    pub(crate) notices: &'h Notices,
+pub(crate) struct Shared<'a, J: Naming, R> {
+    pub(crate) rt: &'a R,
+    pub(crate) desk: &'a Desk<J>,
+    pub(crate) close_handles: &'a CloseHandles,
+    pub(crate) notices: &'a Notices,
 }
 
 // The threads of the sweeper and the settler.
 #[derive(Drop)]
-struct Rounds<J: Naming> {
+struct TurnThreads<J: Naming> {
     sweeping: JoinHandle<End<J>>,
     settling: JoinHandle<End<J>>,
 }
@@ -46,9 +46,9 @@ struct Rounds<J: Naming> {
 // Starts a thread for each worker.
 fn start_workers<'s, S, J, C, U, E, R>(
     scope: &'s Scope<'s, S>,
-    house: &House<'s, J, R>,
-    hands: Vec<Hand<J, C, U, E>>,
-    callers: &Receiver<Caller>,
+    shared: &Shared<'s, J, R>,
+    responders: Vec<Responder<J, C, U, E>>,
+    jobs: &Receiver<Job>,
 ) -> Result<Vec<JoinHandle<End<J>>>, Unprinted>
 where
     J: Naming + Send + Sync + 's,
@@ -57,9 +57,9 @@ where
     E: EngineLink + Drop + Send + 's,
     R: Wait + time::Clock + Sync + 's,
 {
-    let mut threads = Vec::new(house.desk.config().allocator());
-    for hand in hands {
-        let thread = start_worker(scope, house, hand, callers)?;
+    let mut threads = Vec::new(shared.desk.config().allocator());
+    for responder in responders {
+        let thread = start_worker(scope, shared, responder, jobs)?;
         if threads.push(thread).is_err() {
             return Err(Unprinted::Memory);
         }
@@ -70,9 +70,9 @@ where
 // Starts the thread of a worker.
 fn start_worker<'s, S, J, C, U, E, R>(
     scope: &'s Scope<'s, S>,
-    house: &House<'s, J, R>,
-    hand: Hand<J, C, U, E>,
-    callers: &Receiver<Caller>,
+    shared: &Shared<'s, J, R>,
+    responder: Responder<J, C, U, E>,
+    jobs: &Receiver<Job>,
 ) -> Result<JoinHandle<End<J>>, Unprinted>
 where
     J: Naming + Send + Sync + 's,
@@ -81,58 +81,58 @@ where
     E: EngineLink + Drop + Send + 's,
     R: Wait + time::Clock + Sync + 's,
 {
-    let callers = callers.clone()?;
-    let (rt, desk, closers) = (house.rt, house.desk, house.closers);
-    match scope.spawn(move || answer_all(rt, desk, hand, callers, closers)) {
+    let jobs = jobs.clone()?;
+    let (rt, desk, close_handles) = (shared.rt, shared.desk, shared.close_handles);
+    match scope.spawn(move || serve_connections(rt, desk, responder, jobs, close_handles)) {
         Ok(thread) => Ok(thread),
         Err(_) => Err(Unprinted::Spawn),
     }
 }
 
 // Starts the threads of the sweeper and the settler.
-fn start_rounds<'s, S, J, C, E, R>(
+fn start_turns<'s, S, J, C, E, R>(
     scope: &'s Scope<'s, S>,
-    house: &House<'s, J, R>,
+    shared: &Shared<'s, J, R>,
     sweeper: Sweeper<J, C>,
     settler: Settler<J, C, E>,
-    ending: &Ending,
-) -> Result<Rounds<J>, Unprinted>
+    shutdown: &Shutdown,
+) -> Result<TurnThreads<J>, Unprinted>
 where
     J: Naming + Send + Sync + 's,
     C: Clock + Drop + Send + 's,
     E: EngineLink + Drop + Send + 's,
     R: Wait + time::Clock + Eprint + Sync + 's,
 {
-    let (rt, desk, notices) = (house.rt, house.desk, house.notices);
-    let (its, other) = (ending.try_clone()?, ending.try_clone()?);
-    let sweeping = scope.spawn(move || sweep(rt, desk, sweeper, its))?;
-    let settling = scope.spawn(move || settle(rt, desk, settler, notices, other))?;
-    Ok(Rounds { sweeping, settling })
+    let (rt, desk, notices) = (shared.rt, shared.desk, shared.notices);
+    let (sweeper_shutdown, settler_shutdown) = (shutdown.try_clone()?, shutdown.try_clone()?);
+    let sweeping = scope.spawn(move || sweep(rt, desk, sweeper, sweeper_shutdown))?;
+    let settling = scope.spawn(move || settle(rt, desk, settler, notices, settler_shutdown))?;
+    Ok(TurnThreads { sweeping, settling })
 }
 
-// Takes connections in at both sides, each in a thread, until both are closed.
-fn take_in_both<'s, S, J, R>(
+// Accepts connections at both sides, each in a thread, until both are closed.
+fn accept_at_both<'s, S, J, R>(
     scope: &'s Scope<'s, S>,
-    house: &House<'s, J, R>,
+    shared: &Shared<'s, J, R>,
     intakes: Intakes,
-    workers: Sender<Caller>,
+    jobs: Sender<Job>,
 ) -> Result<(), Unprinted>
 where
     J: Naming + Sync + 's,
     R: Threads + Wait + time::Clock + Sync + 's,
 {
-    let rt = house.rt;
+    let rt = shared.rt;
     let Intakes { peers, engines } = intakes;
-    let other = workers.clone()?;
-    let taking = scope.spawn(move || take_in(rt, peers, Side::Ilp, workers))?;
-    match scope.spawn(move || take_in(rt, engines, Side::Engine, other)) {
+    let engine_jobs = jobs.clone()?;
+    let peer_thread = scope.spawn(move || accept_all(rt, peers, Side::Ilp, jobs))?;
+    match scope.spawn(move || accept_all(rt, engines, Side::Engine, engine_jobs)) {
         Ok(thread) => thread.join(rt),
         Err(_) => {
-            house.closers.close();
+            shared.close_handles.close();
             return Err(Unprinted::Spawn);
         }
     }
-    taking.join(rt);
+    peer_thread.join(rt);
     Ok(())
 }
 
@@ -152,13 +152,13 @@ fn ends_of<J: Naming, R: Threads>(
 }
 
 // What the sweeper and the settler hand in, after what the workers did.
-fn with_rounds<J: Naming, R: Threads>(
+fn with_turns<J: Naming, R: Threads>(
     rt: &R,
-    rounds: Rounds<J>,
+    turns: TurnThreads<J>,
     workers: Vec<End<J>>,
 ) -> Result<Vec<End<J>>, Unprinted> {
     let mut ends = workers;
-    let Rounds { sweeping, settling } = rounds;
+    let TurnThreads { sweeping, settling } = turns;
     let (swept, settled) = (sweeping.join(rt), settling.join(rt));
     if ends.push(swept).is_err() || ends.push(settled).is_err() {
         return Err(Unprinted::Memory);
@@ -166,23 +166,23 @@ fn with_rounds<J: Naming, R: Threads>(
     Ok(ends)
 }
 
-// The threads of the actors, and what has them go on.
+// The threads of the actors, and what keeps the sweeper and the settler running.
 #[derive(Drop)]
-struct Crew<J: Naming> {
+struct ActorThreads<J: Naming> {
     workers: Vec<JoinHandle<End<J>>>,
-    rounds: Rounds<J>,
-    go_on: GoOn,
+    turns: TurnThreads<J>,
+    keep_running: KeepRunning,
     // Room for what they hand in.
     room: Vec<End<J>>,
 }
 
-// Starts the threads of all actors. The workers answer what is sent over the sender.
-fn start_crew<'s, S, J, C, U, E, R>(
+// Starts the threads of all actors. The workers serve the jobs that are sent.
+fn start_actors<'s, S, J, C, U, E, R>(
     scope: &'s Scope<'s, S>,
-    house: &House<'s, J, R>,
+    shared: &Shared<'s, J, R>,
     actors: Actors<J, C, U, E>,
-    callers: Receiver<Caller>,
-) -> Result<Crew<J>, Unprinted>
+    jobs: Receiver<Job>,
+) -> Result<ActorThreads<J>, Unprinted>
 where
     J: Naming + Send + Sync + 's,
     C: Clock + Drop + Send + 's,
@@ -191,48 +191,48 @@ where
     R: Wait + time::Clock + Eprint + Sync + 's,
 {
     let Actors {
-        hands,
+        responders,
         sweeper,
         settler,
     } = actors;
-    let alloc = house.desk.config().allocator();
-    let room = Vec::with_capacity(alloc, hands.len().saturating_add(2))?;
-    let workers = start_workers(scope, house, hands, &callers)?;
-    let (go_on, ending) = until_ended(alloc)?;
-    let rounds = start_rounds(scope, house, sweeper, settler, &ending)?;
-    Ok(Crew {
+    let alloc = shared.desk.config().allocator();
+    let room = Vec::with_capacity(alloc, responders.len().saturating_add(2))?;
+    let workers = start_workers(scope, shared, responders, &jobs)?;
+    let (keep_running, shutdown) = shutdown_pair(alloc)?;
+    let turns = start_turns(scope, shared, sweeper, settler, &shutdown)?;
+    Ok(ActorThreads {
         workers,
-        rounds,
-        go_on,
+        turns,
+        keep_running,
         room,
     })
 }
 
 // Ends the threads of the actors, once nothing more is sent to the workers, and gives what they hand
 // in.
-fn end_crew<J: Naming, R: Threads>(
+fn join_actors<J: Naming, R: Threads>(
     rt: &R,
-    crew: Crew<J>,
+    threads: ActorThreads<J>,
     hurry: &Hurry,
 ) -> Result<Vec<End<J>>, Unprinted> {
-    let Crew {
+    let ActorThreads {
         workers,
-        rounds,
-        go_on,
+        turns,
+        keep_running,
         room,
-    } = crew;
+    } = threads;
     let ends = ends_of(rt, workers, room);
     hurry.tell();
-    drop(go_on);
-    with_rounds(rt, rounds, ends?)
+    drop(keep_running);
+    with_turns(rt, turns, ends?)
 }
 
 /// Runs the actors of a desk, each in a thread, until the connector is closed and what was accepted
 /// is answered, and gives what they hand in. Where a thread can't be started those that run are ended
-/// and joined: workers end once nobody hands them connections, the sweeper and the settler once
-/// nobody has them go on, and an intake once it is closed.
+/// and joined: workers end once all senders of jobs are dropped, the sweeper and the settler once
+/// `KeepRunning` is, and an intake once it is closed.
 pub(crate) fn run<J, C, U, E, R>(
-    house: House<'_, J, R>,
+    shared: Shared<'_, J, R>,
     actors: Actors<J, C, U, E>,
     intakes: Intakes,
     hurry: &Hurry,
@@ -244,18 +244,18 @@ where
     E: EngineLink + Drop + Send,
     R: Threads + Wait + time::Clock + Eprint + Sync,
 {
-    let alloc = house.desk.config().allocator();
-    let (sender, receiver) = bounded(alloc, actors.hands.len())?;
+    let alloc = shared.desk.config().allocator();
+    let (sender, jobs) = bounded(alloc, actors.responders.len())?;
     thread::scope(
         thread::scope_env(),
-        house.rt,
+        shared.rt,
         move |scope| -> Result<Vec<End<J>>, Unprinted>
             requires { IsSend J.row × IsSync J.row × IsSend C.row × IsSend U.row × IsSend E.row × IsSync R.row }
         {
-            let crew = start_crew(scope, &house, actors, receiver)?;
-            take_in_both(scope, &house, intakes, sender)?;
-            tell_closing(house.rt);
-            end_crew(house.rt, crew, hurry)
+            let threads = start_actors(scope, &shared, actors, jobs)?;
+            accept_at_both(scope, &shared, intakes, sender)?;
+            tell_closing(shared.rt);
+            join_actors(shared.rt, threads, hurry)
         },
     )
 }

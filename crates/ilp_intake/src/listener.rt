@@ -7,29 +7,29 @@ use std::{io, net};
 
 /// A socket that listens.
 #[derive(Drop)]
-pub struct Door {
-    pub(crate) listener: TcpListener,
+pub struct Listener {
+    pub(crate) socket: TcpListener,
 }
 
-impl Door {
+impl Listener {
     /// The address at which it listens; where port 0 was asked for, with the port that was found.
     pub fn address(&self) -> io::Result<SocketAddr> {
-        self.listener.local_addr()
+        self.socket.local_addr()
     }
 }
 
-/// Listens at an address of the form `IP:PORT`. It is refused where the text names no place
+/// Listens at an address of the form `IP:PORT`. It is refused where the text is of another form
 /// (`InvalidInput`), and where the system refuses it.
-pub fn open_door<R: Net<Listener = net::TcpListener, Stream = net::TcpStream>>(
+pub fn listen<R: Net<Listener = net::TcpListener, Stream = net::TcpStream>>(
     rt: &R,
     place: &str,
-) -> io::Result<Door> {
+) -> io::Result<Listener> {
     let Ok(address) = place.parse::<SocketAddr>() else {
         return Err(io::Error::from(ErrorKind::InvalidInput));
     };
-    let listener = net::TcpListener::bind(rt, address)?;
-    listener.set_nonblocking(true)?;
-    Ok(Door {
-        listener: TcpListener::from_std(listener),
+    let socket = net::TcpListener::bind(rt, address)?;
+    socket.set_nonblocking(true)?;
+    Ok(Listener {
+        socket: TcpListener::from_std(socket),
     })
 }

@@ -1,19 +1,20 @@
 //! One request over a connection of its own.
 
-use crate::hurry::{HurriedReader, Hurry, connect};
+use crate::hurry::{HurriedReader, Hurry, connect_hurried};
 use crate::no_answer::NoAnswer;
-use crate::time_left::{left_until, moment_in};
+use crate::time_left::{instant_after, left_until};
 use crate::timed::{TimedReader, TimedWriter};
 use ilp_http::{Buffer, Outgoing, Response};
 use ilp_server::post;
 use std::io;
+use std::io::Read;
 use std::net::{Net, SocketAddr, TcpStream};
-use std::time::{Clock, Instant};
+use std::time::{Clock, Duration, Instant};
 
 /// Sends a request over a connection of its own, which is closed after, and reads the response. All
 /// of it ends in so many milliseconds. A place is `IP:PORT`: no name is looked up, which could take
 /// any time.
-pub(crate) fn ask<'b, R: Net<Stream = TcpStream> + Clock>(
+pub(crate) fn call<'b, R: Net<Stream = TcpStream> + Clock>(
     rt: &R,
     place: &str,
     milliseconds: u64,
@@ -22,24 +23,17 @@ pub(crate) fn ask<'b, R: Net<Stream = TcpStream> + Clock>(
     buffer: &'b mut Buffer,
 ) -> Result<Response<'b>, NoAnswer> {
     let (address, until) = destination(rt, place, milliseconds)?;
-    let stream = match connect_to(rt, address, until) {
+    let stream = match connect(rt, address, until) {
         Ok(stream) => stream,
         Err(error) => return Err(NoAnswer::NotReached(error.kind())),
     };
-    let mut sink = TimedWriter::new(rt, &stream, until);
     let mut source = TimedReader::new(rt, &stream, until);
-    match post(&mut sink, &mut source, head, body, buffer) {
-        Ok(response) => Ok(response),
-        Err(fault) => match left_until(rt, until) {
-            Ok(_) => Err(NoAnswer::NoResponse(fault)),
-            Err(_) => Err(NoAnswer::Late),
-        },
-    }
+    exchange(rt, &stream, &mut source, until, head, body, buffer)
 }
 
-/// Asks an engine, as `ask` does. Nor is its answer waited for, but for a second or two, once the
-/// connector ends.
-pub(crate) fn ask_hurried<'b, R: Net<Stream = TcpStream> + Clock>(
+/// Sends a request as `call` does. Once the connector ends, the response is waited for a second or two
+/// more at most.
+pub(crate) fn call_hurried<'b, R: Net<Stream = TcpStream> + Clock>(
     rt: &R,
     place: &str,
     milliseconds: u64,
@@ -49,19 +43,14 @@ pub(crate) fn ask_hurried<'b, R: Net<Stream = TcpStream> + Clock>(
     buffer: &'b mut Buffer,
 ) -> Result<Response<'b>, NoAnswer> {
     let (address, until) = destination(rt, place, milliseconds)?;
-    let stream = match connect(rt, address, until, hurry) {
+    let stream = match connect_hurried(rt, address, until, hurry) {
         Ok(stream) => stream,
         Err(error) => return Err(NoAnswer::NotReached(error.kind())),
     };
-    let mut sink = TimedWriter::new(rt, &stream, until);
     let mut source = HurriedReader::new(rt, &stream, until, hurry);
-    match post(&mut sink, &mut source, head, body, buffer) {
-        Ok(response) => Ok(response),
-        Err(_) if hurry.is_told() => Err(NoAnswer::Late),
-        Err(fault) => match left_until(rt, until) {
-            Ok(_) => Err(NoAnswer::NoResponse(fault)),
-            Err(_) => Err(NoAnswer::Late),
-        },
+    match exchange(rt, &stream, &mut source, until, head, body, buffer) {
+        Err(NoAnswer::NoResponse(_)) if hurry.is_told() => Err(NoAnswer::Late),
+        outcome => outcome,
     }
 }
 
@@ -74,14 +63,14 @@ fn destination(
     let Ok(address) = place.parse::<SocketAddr>() else {
         return Err(NoAnswer::NoPlace);
     };
-    match moment_in(rt, milliseconds) {
+    match instant_after(rt, Duration::from_millis(milliseconds)) {
         Ok(until) => Ok((address, until)),
         Err(error) => Err(NoAnswer::NotReached(error.kind())),
     }
 }
 
 // A connection that sends each piece at once.
-fn connect_to<R: Net<Stream = TcpStream> + Clock>(
+fn connect<R: Net<Stream = TcpStream> + Clock>(
     rt: &R,
     address: SocketAddr,
     until: Instant,
@@ -89,4 +78,25 @@ fn connect_to<R: Net<Stream = TcpStream> + Clock>(
     let stream = TcpStream::connect_timeout(rt, &address, left_until(rt, until)?)?;
     stream.set_nodelay(true)?;
     Ok(stream)
+}
+
+// Sends a request over a connection, and reads the response from the source. Whatever fails once the
+// time is over is late.
+fn exchange<'b, R: Clock, S: Read>(
+    rt: &R,
+    stream: &TcpStream,
+    source: &mut S,
+    until: Instant,
+    head: &Outgoing<'_>,
+    body: &[u8],
+    buffer: &'b mut Buffer,
+) -> Result<Response<'b>, NoAnswer> {
+    let mut sink = TimedWriter::new(rt, stream, until);
+    match post(&mut sink, source, head, body, buffer) {
+        Ok(response) => Ok(response),
+        Err(fault) => match left_until(rt, until) {
+            Ok(_) => Err(NoAnswer::NoResponse(fault)),
+            Err(_) => Err(NoAnswer::Late),
+        },
+    }
 }

@@ -1,39 +1,39 @@
-//! The sign that the connector ends.
+//! How the sweeper and the settler learn that the connector ends.
 
 use crossbeam_channel::{Receiver, RecvTimeoutError, Sender, TryRecvError, bounded};
 use std::alloc::{AllocError, Global};
 use std::sync::Wait;
 use std::time::{Clock, Duration};
 
-/// Lets the sweeper and the settler go on: they end once it is dropped, and are woken then where
-/// they rest.
+/// As long as it is kept the sweeper and the settler run. Once it is dropped they end, and are woken
+/// where they rest.
 #[derive(Drop)]
-pub(crate) struct GoOn {
+pub(crate) struct KeepRunning {
     _sender: Sender<()>,
 }
 
-/// What the sweeper and the settler have of it.
+/// By this the sweeper and the settler learn that it was dropped.
 #[derive(Drop)]
-pub(crate) struct Ending {
+pub(crate) struct Shutdown {
     receiver: Receiver<()>,
 }
 
-/// What lets go on, and what tells that it is no more.
-pub(crate) fn until_ended(alloc: Global) -> Result<(GoOn, Ending), AllocError> {
+/// What keeps the sweeper and the settler running, and by what they learn that it was dropped.
+pub(crate) fn shutdown_pair(alloc: Global) -> Result<(KeepRunning, Shutdown), AllocError> {
     let (_sender, receiver) = bounded(alloc, 1)?;
-    Ok((GoOn { _sender }, Ending { receiver }))
+    Ok((KeepRunning { _sender }, Shutdown { receiver }))
 }
 
-impl Ending {
+impl Shutdown {
     /// Another of the same.
-    pub(crate) fn try_clone(&self) -> Result<Ending, AllocError> {
-        Ok(Ending {
+    pub(crate) fn try_clone(&self) -> Result<Shutdown, AllocError> {
+        Ok(Shutdown {
             receiver: self.receiver.clone()?,
         })
     }
 
     /// Whether the connector ends.
-    pub(crate) fn has_come(&self, rt: &impl Wait) -> bool {
+    pub(crate) fn has_begun(&self, rt: &impl Wait) -> bool {
         match self.receiver.try_recv(rt) {
             Err(TryRecvError::Disconnected) => true,
             _ => false,

@@ -6,7 +6,7 @@ use std::time::Duration;
 /// A connection whose request has come whole or is refused as it stands, or whose client sends
 /// nothing more.
 #[derive(Drop)]
-pub struct Arrival {
+pub struct ReadyConnection {
     /// Reads and writes of it wait.
     pub stream: TcpStream,
     /// The octets that were read of it.

@@ -1,52 +1,50 @@
 //! The connections that wait at an intake.
 ghost use Rattle.std.specs.Prelude.{◌<◌, ◌≤◌, vec_len};
+ghost use Rattle.ilp_intake.specs.declared.limits.TheConstants.{MOST_WAITING};
 
-use crate::arrival::Arrival;
-use crate::guest::{Guest, Stage};
+use crate::connection::{Connection, Stage};
 use crate::limits::{ALLOWANCE_MS, GRACE_MS, MOST_WAITING};
+use crate::ready::ReadyConnection;
 use mio::net::TcpStream;
 use mio::{Interest, Registry, Token};
 use std::alloc::{AllocError, Global};
 use std::io;
 use std::time::Duration;
 
-/// The connections that wait, those that came first in front. There are 1,024 at most.
+/// The connections that wait, those that came first in front. There are `MOST_WAITING` at most.
 #[derive(Drop)]
-pub(crate) struct Guests {
-    waiting: Vec<Guest>,
+pub(crate) struct Connections {
+    waiting: Vec<Connection>,
     // The number of the next one.
     next: usize,
     // When the intake was closed.
     closed: Option<Duration>,
-    ghost few: { vec_len waiting ≤ 1024 },
+    ghost few: { vec_len waiting ≤ MOST_WAITING },
 }
 
-impl Guests {
-    pub(crate) fn new(alloc: Global) -> Result<Guests, AllocError> {
-        Ok(Guests {
+impl Connections {
+    /// None yet.
+    pub(crate) fn new(alloc: Global) -> Result<Connections, AllocError> {
+        Ok(Connections {
             waiting: Vec::with_capacity(alloc, MOST_WAITING)?,
             next: 0,
             closed: None,
         })
     }
 
+    /// Whether none waits.
     pub(crate) fn is_empty(&self) -> bool {
         self.waiting.is_empty()
     }
 
-    /// Has a connection wait that was accepted at this time. Where as many wait as may, the first of
-    /// them whose request has not come is closed, and else the first. One that can't be looked after is
-    /// closed.
-    pub(crate) fn enter(&mut self, registry: &Registry, stream: TcpStream, now: Duration) {
-        let _ = self.try_enter(registry, stream, now);
+    /// Adds a connection that was accepted at this time. Where as many wait as may, the first of them
+    /// whose request has not come is closed, and else the first. The added one is closed where the
+    /// system or want of memory refuses it.
+    pub(crate) fn add(&mut self, registry: &Registry, stream: TcpStream, now: Duration) {
+        let _ = self.try_add(registry, stream, now);
     }
 
-    fn try_enter(
-        &mut self,
-        registry: &Registry,
-        stream: TcpStream,
-        now: Duration,
-    ) -> io::Result<()> {
+    fn try_add(&mut self, registry: &Registry, stream: TcpStream, now: Duration) -> io::Result<()> {
         let mut stream = stream;
         stream.set_nodelay(true)?;
         registry.register(&mut stream, Token(self.next), Interest::READABLE)?;
@@ -55,9 +53,9 @@ impl Guests {
             drop(self.waiting.remove(oldest));
         }
         let alloc = *self.waiting.allocator();
-        let guest = Guest::new(alloc, self.next, stream, now);
+        let connection = Connection::new(alloc, self.next, stream, now);
         self.next = self.next.wrapping_add(1);
-        self.waiting.push(guest)?;
+        self.waiting.push(connection)?;
         Ok(())
     }
 
@@ -67,7 +65,7 @@ impl Guests {
         ensures { result < vec_len self.now.waiting }
     {
         let mut waiting = self.waiting.iter();
-        let oldest = waiting.position(|guest| guest.stage() == Stage::Waiting);
+        let oldest = waiting.position(|connection| connection.stage() == Stage::Waiting);
         oldest.unwrap_or(0)
     }
 
@@ -76,31 +74,35 @@ impl Guests {
         if let Some(place) = self
             .waiting
             .iter()
-            .position(|guest| guest.number() == number)
+            .position(|connection| connection.number() == number)
         {
             self.waiting[place].read();
         }
     }
 
     /// Closes the connections that are lost, and those whose time is up.
-    pub(crate) fn part(&mut self, now: Duration) {
+    pub(crate) fn drop_expired(&mut self, now: Duration) {
         let closed = self.closed;
-        self.waiting.retain(|guest| match guest.stage() {
-            Stage::Waiting => now < latest(guest.accepted(), closed),
+        self.waiting.retain(|connection| match connection.stage() {
+            Stage::Waiting => now < latest(connection.accepted(), closed),
             Stage::Ready => true,
             Stage::Lost => false,
         });
     }
 
-    /// The first connection that is to be given on, if one is.
-    pub(crate) fn leave(&mut self, registry: &Registry, now: Duration) -> Option<Arrival> {
+    /// Takes out the first connection that is to be given on, if one is.
+    pub(crate) fn take_ready(
+        &mut self,
+        registry: &Registry,
+        now: Duration,
+    ) -> Option<ReadyConnection> {
         for _ in 0..MOST_WAITING {
             let place = self
                 .waiting
                 .iter()
-                .position(|guest| guest.stage() == Stage::Ready)?;
-            if let Ok(arrival) = self.waiting.remove(place).leave(registry, now) {
-                return Some(arrival);
+                .position(|connection| connection.stage() == Stage::Ready)?;
+            if let Ok(ready) = self.waiting.remove(place).into_ready(registry, now) {
+                return Some(ready);
             }
         }
         None
@@ -111,8 +113,8 @@ impl Guests {
         self.closed = Some(now);
     }
 
-    /// How long nothing has to be done unless something comes: until the first one's time is up.
-    pub(crate) fn patience(&self, now: Duration) -> Option<Duration> {
+    /// How much time the first connection has left. Until then none is to be closed for its time.
+    pub(crate) fn time_left(&self, now: Duration) -> Option<Duration> {
         let first = self.waiting.first()?;
         Some(latest(first.accepted(), self.closed).saturating_sub(now))
     }

@@ -1,8 +1,9 @@
 //! A connection that waits until its request has come.
 ghost use Rattle.std.specs.Prelude.{◌≤◌, vec_len};
+ghost use Rattle.ilp_http.specs.declared.limits.TheConstants.{BUFFER_LENGTH};
 
-use crate::arrival::Arrival;
 use crate::limits::{ALLOWANCE_MS, PIECE};
+use crate::ready::ReadyConnection;
 use ilp_http::{BUFFER_LENGTH, Look, look_at};
 use mio::Registry;
 use mio::net::TcpStream;
@@ -13,14 +14,14 @@ use std::{io, net};
 
 /// A connection that waits. It has no more octets than the longest request.
 #[derive(Drop)]
-pub(crate) struct Guest {
-    // By this number it is told of as ready.
+pub(crate) struct Connection {
+    // The number by which an event names it.
     number: usize,
     stream: TcpStream,
     octets: Vec<u8>,
     accepted: Duration,
     stage: Stage,
-    ghost short: { vec_len octets ≤ 81920 },
+    ghost short: { vec_len octets ≤ BUFFER_LENGTH },
 }
 
 /// How far a connection is.
@@ -34,14 +35,15 @@ pub(crate) enum Stage {
     Lost,
 }
 
-impl Guest {
+impl Connection {
+    /// A connection of which nothing is read yet.
     pub(crate) fn new(
         alloc: Global,
         number: usize,
         stream: TcpStream,
         accepted: Duration,
-    ) -> Guest {
-        Guest {
+    ) -> Connection {
+        Connection {
             number,
             stream,
             octets: Vec::new(alloc),
@@ -50,14 +52,17 @@ impl Guest {
         }
     }
 
+    /// The number by which an event names it.
     pub(crate) fn number(&self) -> usize {
         self.number
     }
 
+    /// How far it is.
     pub(crate) fn stage(&self) -> Stage {
         self.stage
     }
 
+    /// When it was accepted.
     pub(crate) fn accepted(&self) -> Duration {
         self.accepted
     }
@@ -106,8 +111,12 @@ impl Guest {
     }
 
     /// The connection as it is given on, with what is left of its time.
-    pub(crate) fn leave(self, registry: &Registry, now: Duration) -> io::Result<Arrival> {
-        let Guest {
+    pub(crate) fn into_ready(
+        self,
+        registry: &Registry,
+        now: Duration,
+    ) -> io::Result<ReadyConnection> {
+        let Connection {
             number: _,
             mut stream,
             octets,
@@ -120,7 +129,7 @@ impl Guest {
         let left = accepted
             .saturating_add(Duration::from_millis(ALLOWANCE_MS))
             .saturating_sub(now);
-        Ok(Arrival {
+        Ok(ReadyConnection {
             stream,
             octets,
             left,

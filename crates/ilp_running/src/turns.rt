@@ -1,7 +1,7 @@
 //! What the sweeper's thread and the settler's do: turns, and rests between them.
 ghost use Rattle.std.specs.Prelude.{◌≡◌};
 
-use crate::ending::Ending;
+use crate::shutdown::Shutdown;
 use ilp_desk::{Desk, End, Naming};
 use ilp_links::Notices;
 use ilp_settler::{Settler, Sweeper, Turn};
@@ -17,12 +17,12 @@ pub(crate) fn sweep<J: Naming, C: Clock + Drop, R: Wait + time::Clock>(
     rt: &R,
     desk: &Desk<J>,
     sweeper: Sweeper<J, C>,
-    ending: Ending,
+    shutdown: Shutdown,
 ) -> End<J> {
     let mut sweeper = sweeper;
     let rest = Duration::from_millis(u64::from(desk.config().sweep_ms()));
     for _ in rt.forever() {
-        if sweeper.turn(rt, desk).is_none() && ending.rest(rt, rest) {
+        if sweeper.turn(rt, desk).is_none() && shutdown.rest(rt, rest) {
             break;
         }
     }
@@ -36,7 +36,7 @@ pub(crate) fn settle<J: Naming, C: Clock + Drop, E: EngineLink + Drop, R>(
     desk: &Desk<J>,
     settler: Settler<J, C, E>,
     notices: &Notices,
-    ending: Ending,
+    shutdown: Shutdown,
 ) -> End<J>
 where
     R: Wait + time::Clock + Eprint,
@@ -44,8 +44,8 @@ where
     let mut settler = settler;
     let rest = Duration::from_millis(u64::from(desk.config().settle_ms()));
     for _ in rt.forever() {
-        settle_all(rt, desk, &mut settler, notices, &ending);
-        if ending.rest(rt, rest) {
+        settle_all(rt, desk, &mut settler, notices, &shutdown);
+        if shutdown.rest(rt, rest) {
             break;
         }
     }
@@ -58,13 +58,13 @@ fn settle_all<J: Naming, C: Clock + Drop, E: EngineLink + Drop, R>(
     desk: &Desk<J>,
     settler: &mut Settler<J, C, E>,
     notices: &Notices,
-    ending: &Ending,
+    shutdown: &Shutdown,
 )
 where
     R: Wait + time::Clock + Eprint,
 {
     for peer in 0..desk.config().peers() {
-        if ending.has_come(rt) {
+        if shutdown.has_begun(rt) {
             return;
         }
         // Where memory is denied, a later turn tries again.

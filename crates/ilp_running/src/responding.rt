@@ -1,0 +1,107 @@
+//! What a worker's thread does: it serves connections.
+
+use crate::accepting::{CloseHandles, Job};
+use crate::actors::Responder;
+use crossbeam_channel::Receiver;
+use ilp_desk::{Desk, End, Naming};
+use ilp_intake::ReadyConnection;
+use ilp_links::{TimedReader, TimedWriter, instant_after};
+use ilp_server::{Handled, answer_connection};
+use ilp_workers::{Clock, EngineLink, Uplink};
+use std::io::{Read, Write};
+use std::net::{Shutdown, TcpStream};
+use std::sync::Wait;
+use std::time::{Duration, Instant};
+use std::{io, time};
+
+// How long a response may take to be written, in milliseconds.
+const RESPONSE_MS: u64 = 10_000;
+
+/// Serves connections until no more come. After a close both sides are told to accept no more.
+pub(crate) fn serve_connections<
+    J: Naming,
+    C: Clock + Drop,
+    U: Uplink + Drop,
+    E: EngineLink + Drop,
+    R: Wait + time::Clock,
+>(
+    rt: &R,
+    desk: &Desk<J>,
+    responder: Responder<J, C, U, E>,
+    jobs: Receiver<Job>,
+    close_handles: &CloseHandles,
+) -> End<J> {
+    let mut responder = responder;
+    for job in jobs.iter(rt) {
+        if let Ok(Handled::Close) = serve_connection(rt, desk, &mut responder, &job) {
+            close_handles.close();
+        }
+    }
+    let Responder { worker, buffer: _ } = responder;
+    worker.into_end()
+}
+
+// Serves a connection: its request is what was read, and what is still to be read in what is left
+// of its time.
+fn serve_connection<
+    J: Naming,
+    C: Clock + Drop,
+    U: Uplink + Drop,
+    E: EngineLink + Drop,
+    R: Wait + time::Clock,
+>(rt: &R, desk: &Desk<J>, responder: &mut Responder<J, C, U, E>, job: &Job) -> io::Result<Handled> {
+    let ReadyConnection {
+        stream,
+        octets,
+        left,
+    } = &job.connection;
+    let until = instant_after(rt, *left)?;
+    let mut source = octets.as_slice().chain(TimedReader::new(rt, stream, until));
+    let mut sink = ResponseSink::new(rt, stream);
+    let alloc = desk.config().allocator();
+    let handled = answer_connection(
+        rt,
+        alloc,
+        &mut responder.worker,
+        desk,
+        job.side,
+        &mut source,
+        &mut sink,
+        &mut responder.buffer,
+    );
+    let _ = stream.shutdown(Shutdown::Write);
+    Ok(handled)
+}
+
+// Where a response is written. Its time begins with its first octet.
+#[derive(Drop)]
+struct ResponseSink<'s, R> {
+    rt: &'s R,
+    stream: &'s TcpStream,
+    until: Option<Instant>,
+}
+
+impl<'s, R: time::Clock> ResponseSink<'s, R> {
+    fn new(rt: &'s R, stream: &'s TcpStream) -> ResponseSink<'s, R> {
+        ResponseSink {
+            rt,
+            stream,
+            until: None,
+        }
+    }
+}
+
+impl<R: time::Clock> Write for ResponseSink<'_, R> {
+    fn write(&mut self, octets: &[u8]) -> io::Result<usize> {
+        let until = match self.until {
+            Some(until) => until,
+            None => instant_after(self.rt, Duration::from_millis(RESPONSE_MS))?,
+        };
+        self.until = Some(until);
+        TimedWriter::new(self.rt, self.stream, until).write(octets)
+    }
+
+    fn flush(&mut self) -> io::Result<()> {
+        Ok(())
+    }
+}
