@@ -5,9 +5,9 @@
 #     scripts/build.sh
 #     scripts/build.sh ~/.local/bin
 #
-# It needs rt. In a fresh clone the proofs take minutes; what was proved is kept in crates/*/out, so
-# that a second build takes seconds. Where a proof fails, no program is built or installed, and one of
-# an earlier build stays as it was.
+# It needs rt and python3. In a fresh clone the proofs take minutes (prove.py has them run side by
+# side); what was proved is kept in crates/*/out, so that a second build takes seconds. Where a proof
+# fails, no program is built or installed, and one of an earlier build stays as it was.
 set -eu
 
 if [ $# -gt 1 ]; then
@@ -23,6 +23,7 @@ esac
 
 crate=$(CDPATH= cd -- "$(dirname -- "$0")/../crates/connector" && pwd)
 cd "$crate"
+../../scripts/prove.py connector
 told=$(mktemp)
 trap 'rm -f "$told"' EXIT
 trap 'exit 1' INT TERM

@@ -1,19 +1,26 @@
 #!/usr/bin/env python3
-"""Proves a crate with every crate that it stands on, and builds their libraries, each as soon as
-those below it are there: as many side by side as there are processors.
+"""Proves a crate's libraries, each as soon as those below it are there, as many side by side as there
+are processors.
 
     scripts/prove.py connector
 
-What was proved is kept in crates/*/out, so that a second run takes seconds. What a crate's proof says
-goes to standard error once it has ended; where one fails, no more are begun, and the exit status is 1.
+A command of the kit keeps all others out of the crates that its own stands on. So each proof runs in
+one of several copies of the sources, between which the kit shares what was proved, and the libraries
+of this repository are taken over from them in the end. What is proved already is not proved again. A
+line on standard error tells of each crate. Where a proof fails, what it said is printed, no more are
+begun, and the exit status is 1.
 """
 import concurrent.futures
 import os
+import queue
+import shutil
 import subprocess
 import sys
+import tempfile
 import time
 
 TOP = os.path.dirname(os.path.dirname(os.path.abspath(__file__)))
+LANES = os.cpu_count() or 1
 
 
 def crates():
@@ -27,44 +34,67 @@ def crates():
     return {name: [low for low in lows if low in below] for name, lows in below.items()}
 
 
-def wanted(below, name):
-    """The crate and all that it stands on."""
-    found, left = set(), [name]
+def libraries(below, name):
+    """All that the crate stands on."""
+    found, left = set(), list(below[name])
     while left:
-        name = left.pop()
-        if name not in found:
-            found.add(name)
-            left += below[name]
+        low = left.pop()
+        if low not in found:
+            found.add(low)
+            left += below[low]
     return found
 
 
-def prove(name):
-    """Proves one library whose own libraries are there. A program is proved and built by `rt run`."""
-    begun = time.monotonic()
-    proof = subprocess.run(["rt", "lib"], cwd=f"{TOP}/crates/{name}", capture_output=True, text=True)
+def lane(room, number):
+    """A copy of the sources."""
+    to = f"{room}/{number}"
+    shutil.copytree(f"{TOP}/crates", f"{to}/crates", ignore=shutil.ignore_patterns("out"), symlinks=True)
+    for name in ("crates.txt", "HANDLES"):
+        shutil.copy(f"{TOP}/{name}", to)
+    return to
+
+
+def prove(lanes, name):
+    """Proves one library, whose own libraries are there, in a lane that is free."""
+    place, begun = lanes.get(), time.monotonic()
+    try:
+        proof = subprocess.run(["rt", "lib"], cwd=f"{place}/crates/{name}", capture_output=True, text=True)
+    finally:
+        lanes.put(place)
     return proof, time.monotonic() - begun
 
 
-def main():
-    if len(sys.argv) != 2 or sys.argv[1] not in crates():
-        sys.exit("usage: scripts/prove.py CRATE")
-    below = crates()
-    left = wanted(below, sys.argv[1]) - {sys.argv[1]}
+def prove_all(below, left, lanes):
+    """Proves the libraries, lowest first."""
     done, running = set(), {}
-    with concurrent.futures.ThreadPoolExecutor(os.cpu_count()) as pool:
+    with concurrent.futures.ThreadPoolExecutor(LANES) as pool:
         while left or running:
             for name in sorted(name for name in left if done.issuperset(below[name])):
-                if len(running) < os.cpu_count():
-                    running[pool.submit(prove, name)] = name
-                    left.remove(name)
+                running[pool.submit(prove, lanes, name)] = name
+                left.remove(name)
             ended, _ = concurrent.futures.wait(running, return_when=concurrent.futures.FIRST_COMPLETED)
             for proof in ended:
                 name = running.pop(proof)
                 result, seconds = proof.result()
                 if result.returncode != 0:
                     sys.exit(f"{result.stdout}{result.stderr}prove.py: {name} is not proved")
-                print(f"{name} proved in {seconds:.0f} seconds", file=sys.stderr)
+                print(f"{name}: {seconds:.0f} seconds", file=sys.stderr)
                 done.add(name)
+
+
+def main():
+    below = crates()
+    if len(sys.argv) != 2 or sys.argv[1] not in below:
+        sys.exit("usage: scripts/prove.py CRATE")
+    left = libraries(below, sys.argv[1])
+    with tempfile.TemporaryDirectory(prefix="prove-") as room:
+        lanes = queue.Queue()
+        for number in range(min(LANES, len(left))):
+            lanes.put(lane(room, number))
+        prove_all(below, left, lanes)
+        # while the copies are there, their libraries are taken over
+        check = subprocess.run(["rt", "check"], cwd=f"{TOP}/crates/{sys.argv[1]}")
+    sys.exit(check.returncode)
 
 
 if __name__ == "__main__":

@@ -60,9 +60,9 @@ module _ (o : Order) (fault : HoldFault) (standing : standing_refusal o.desk.con
       elim refused.reason [
         | inl short ↦ record { reply = inr (subst (λ w. Spells after.reply (reject (local_reject o.desk.config w))) short.0 refused.told); holds = holds; answers = answers }
         | inr by_book ↦
-            let same : by_book.1 ≡ fault = err_is (replies by_book.0 before.share after.share (Err by_book.1) by_book.3) in
+            let same : by_book.fault ≡ fault = err_is (replies by_book.now before.share after.share (Err by_book.fault) by_book.refused) in
             record {
-              reply = inl (subst (λ w. Spells after.reply (reject (local_reject o.desk.config w))) (by_book.4 ∙ ap (reject_of_fault o.packet.amount) same) refused.told);
+              reply = inl (subst (λ w. Spells after.reply (reject (local_reject o.desk.config w))) (by_book.named ∙ ap (reject_of_fault o.packet.amount) same) refused.told);
               holds = holds;
               answers = answers;
             }

@@ -75,13 +75,20 @@ pub record IsHolding (o : Order) (moments moments' : Option (List ℤ)) (before 
   pub raised : after ≡ portion before.actor (before.entries + 1)
   pub terms : IsOnItsWay o now held
 
--- None is booked: memory was denied before a book was asked, or a book refused it at a moment that the clock gives.
+-- A book refused the hold at a moment that the clock gives, and this is the Reject of its refusal.
+pub record IsRefusedByBook (o : Order) (moments moments' : Option (List ℤ)) (before after : Portion) (why : LocalReject) : Type 0 where
+  pub now : ℤ
+  pub fault : HoldFault
+  pub asked : Tells moments now moments'
+  pub refused : IsHeldAt o now before after (Err fault)
+  pub named : why ≡ reject_of_fault o.packet.amount fault
+
+-- No hold is booked: memory was denied before a book was asked, or a book refused it.
 abbrev pub IsHoldRefusal : Order → Option (List ℤ) → Option (List ℤ) → Portion → Portion → LocalReject → Type 0
 IsHoldRefusal o moments moments' before after why =
-    ((why ≡ local.InternalError) × (moments' ≡ moments))
-    ⊎ ((now : ℤ) × (fault : HoldFault) × Tells moments now moments' × IsHeldAt o now before after (Err fault) × (why ≡ reject_of_fault o.packet.amount fault))
+    ((why ≡ local.InternalError) × (moments' ≡ moments)) ⊎ IsRefusedByBook o moments moments' before after why
 
--- ---- asking
+-- ---- handing on
 
 -- the Prepare that the next peer is handed
 abbrev pub onward : PlainPrepare → Held → PlainPrepare

@@ -1,4 +1,4 @@
-//! Of what a worker consists, and how it passes a Prepare on.
+//! Of what a worker consists, and the steps by which it passes a Prepare on.
 ghost use Rattle.std.specs.Prelude.{◌≡◌, ℕ, ◌+◌, ◌<◌, ◌≤◌, [], ◌++◌, ◌∷◌, length, Option, Some, Ok, List, Result, IfOk, IfErr, OnOk, MatchBool, ◌≢◌, vec_len, vec_capacity};
 ghost use Rattle.ilp_packet.specs.Packet.{PlainPacket, plain_prepare, prepare, IsPrepare, Spells};
 ghost use Rattle.ilp_packet.specs.Writing.{size};
@@ -8,12 +8,12 @@ ghost use Rattle.ilp_desk.specs.Desk.{PlainDesk};
 ghost use Rattle.ilp_desk.specs.Portion.{holding};
 ghost use Rattle.ilp_workers.specs.declared.links.LinkFault.{LinkFault};
 ghost use Rattle.ilp_workers.specs.Links.{came_of};
-ghost use Rattle.ilp_workers.specs.Worker.{worker, reply_of};
-ghost use Rattle.ilp_workers.specs.Forwarding.{order, onward, IsHoldRefusal, IsHolding, IsSentOn, IsEnded, IsForwardedBy, IsTold, effect_of, end_of, record_of_end};
+ghost use Rattle.ilp_workers.specs.Worker.{reply_of};
+ghost use Rattle.ilp_workers.specs.Forwarding.{order, onward, IsHoldRefusal, IsHolding, IsSentOn, IsEnded, IsTold, effect_of, end_of, record_of_end};
 
 use crate::links::{Clock, EngineLink, Uplink};
 use crate::rejects::{LONGEST_LOCAL_REJECT, LocalReject, put_local_reject};
-use crate::reply::{Buffer, Receipt};
+use crate::reply::Buffer;
 use crate::reply_effect::{ReplyEffect, Told, effect_by};
 use ilp_accounts::Config;
 use ilp_book::{Held, Outcome};
@@ -48,13 +48,6 @@ pub(crate) struct Parts<
     ghost room: { longest_local_reject ≤ length rejected.octets + rejected.spare },
 }
 
-// What the sender of a Prepare is told, and what was booked for it.
-#[derive(Clone, Copy)]
-pub(crate) struct Passed {
-    pub(crate) told: Told,
-    pub(crate) receipt: Receipt,
-}
-
 impl<J: Naming, C: Clock + Drop, U: Uplink + Drop, E: EngineLink + Drop, A: Allocator> Parts<
     J,
     C,
@@ -62,52 +55,9 @@ impl<J: Naming, C: Clock + Drop, U: Uplink + Drop, E: EngineLink + Drop, A: Allo
     E,
     A,
 > {
-    // Holds a Prepare of these octets, hands it on, and books what came back. The lock is free while
-    // the peer is asked.
-    pub(crate) fn pass_on(
-        &mut self,
-        rt: &impl Wait,
-        desk: &Desk<J>,
-        from: u32,
-        packet: &Prepare<'_>,
-        len: usize,
-    ) -> Passed
-        requires known { IsKnown J.desk.config from }
-        requires packet { IsPrepare (plain_prepare packet.now) }
-        requires len { len ≡ size (prepare (plain_prepare packet.now)) }
-        ensures { (octets : List ℕ)
-            → IsTold J.desk.config (Some self.new.incoming.octets) result.told octets
-            → IsForwardedBy (order J.desk from (plain_prepare packet.now))
-            (worker self.old.share self.old.records.items (C.told self.old.clock) (U.told self.old.uplink)
-            (E.told self.old.engine) (reply_of self.old.reply_in self.old.incoming.octets self.old.outgoing.octets
-            self.old.rejected.octets))
-            (worker self.new.share self.new.records.items (C.told self.new.clock) (U.told self.new.uplink)
-            (E.told self.new.engine) octets)
-            result.receipt.hold result.receipt.answer }
-    {
-        let held = match self.hold(rt, desk, from, packet, len) {
-            Ok(held) => held,
-            Err(why) => {
-                return Passed {
-                    told: Told::Rejected(why),
-                    receipt: Receipt::NONE,
-                };
-            }
-        };
-        let effect = self.send_on(packet, &held);
-        let ended = self.end(rt, desk, from, packet, &held, &effect);
-        Passed {
-            told: ended.told,
-            receipt: Receipt {
-                hold: Some(held.number),
-                answer: ended.entry,
-            },
-        }
-    }
-
     // Makes room for all that may come of the Prepare, and then has the desk hold it at the clock's
     // moment.
-    fn hold(
+    pub(crate) fn hold(
         &mut self,
         rt: &impl Wait,
         desk: &Desk<J>,
@@ -153,7 +103,7 @@ impl<J: Naming, C: Clock + Drop, U: Uplink + Drop, E: EngineLink + Drop, A: Allo
     }
 
     // Hands the Prepare on, and waits for what comes back.
-    fn send_on(&mut self, packet: &Prepare<'_>, held: &Held) -> ReplyEffect
+    pub(crate) fn send_on(&mut self, packet: &Prepare<'_>, held: &Held) -> ReplyEffect
         requires packet { IsPrepare (onward (plain_prepare packet.now) held.now) }
         requires cleared { self.old.outgoing.octets ≡ [] }
         requires room { size (prepare (onward (plain_prepare packet.now) held.now)) ≤ self.old.outgoing.spare }
@@ -187,7 +137,7 @@ impl<J: Naming, C: Clock + Drop, U: Uplink + Drop, E: EngineLink + Drop, A: Allo
     }
 
     // Has the desk book what came back, and keeps the record of how the hold ended by that.
-    fn end(
+    pub(crate) fn end(
         &mut self,
         rt: &impl Wait,
         desk: &Desk<J>,
@@ -280,9 +230,9 @@ impl<J: Naming, C: Clock + Drop, U: Uplink + Drop, E: EngineLink + Drop> Parts<J
 
 // What the sender is told of a hold that ended, and the entry that says so, if it is this one.
 #[derive(Clone, Copy)]
-struct Answered {
-    told: Told,
-    entry: Option<u32>,
+pub(crate) struct Answered {
+    pub(crate) told: Told,
+    pub(crate) entry: Option<u32>,
 }
 
 // How a hold ended, and the number of the entry that says so.

@@ -2,11 +2,13 @@
 ghost use Rattle.std.specs.Prelude.{◌≡◌, [], Some, unwrap_or, IfOk, IfErr};
 ghost use Rattle.ilp_book.specs.Configured.{IsKnown};
 ghost use Rattle.ilp_book.specs.SettleStep.{payment};
-ghost use Rattle.ilp_packet.specs.Packet.{plain_prepare, prepare, Spells};
+ghost use Rattle.ilp_packet.specs.Packet.{plain_prepare, prepare, IsPrepare, Spells};
+ghost use Rattle.ilp_packet.specs.Writing.{size};
 ghost use Rattle.ilp_desk.specs.Portion.{holding};
 ghost use Rattle.ilp_workers.specs.Worker.{worker};
 ghost use Rattle.ilp_workers.specs.Crediting.{Credits};
 ghost use Rattle.ilp_workers.specs.Messaging.{peer_answer_of, Messages};
+ghost use Rattle.ilp_workers.specs.Forwarding.{order, IsForwardedBy};
 ghost use Rattle.ilp_workers.specs.Arrivals.{arrival, IsBad, Forwards};
 
 use crate::links::{Clock, EngineLink, Uplink};
@@ -14,6 +16,7 @@ use crate::messaging::{MessageFault, is_for_engine, peer_answer_in};
 use crate::parts::Parts;
 use crate::rejects::LONGEST_LOCAL_REJECT;
 use crate::reply::{BadPacket, Buffer, Receipt};
+use crate::reply_effect::Told;
 use ilp_book::{CreditFault, Kept};
 use ilp_desk::{Desk, End, Naming, Record, Share};
 use ilp_journal::Key;
@@ -153,9 +156,39 @@ impl<J: Naming, C: Clock + Drop, U: Uplink + Drop, E: EngineLink + Drop, A: Allo
             self.parts.hand_over(desk.config(), from, &prepare);
             return Ok(Receipt::NONE);
         }
-        let passed = self.parts.pass_on(rt, desk, from, &prepare, octets.len());
-        self.parts.tell(desk.config(), passed.told);
-        Ok(passed.receipt)
+        Ok(self.pass_on(rt, desk, from, &prepare, octets.len()))
+    }
+
+    // Holds a Prepare of so many octets, hands it on, books what came back, and has the sender
+    // answered. The lock is free while the peer is asked.
+    fn pass_on(
+        &mut self,
+        rt: &impl Wait,
+        desk: &Desk<J>,
+        from: u32,
+        packet: &Prepare<'_>,
+        len: usize,
+    ) -> Receipt
+        requires known { IsKnown J.desk.config from }
+        requires packet { IsPrepare (plain_prepare packet.now) }
+        requires len { len ≡ size (prepare (plain_prepare packet.now)) }
+        ensures { IsForwardedBy (order J.desk from (plain_prepare packet.now)) self.old self.new
+            result.hold result.answer }
+    {
+        let held = match self.parts.hold(rt, desk, from, packet, len) {
+            Ok(held) => held,
+            Err(why) => {
+                self.parts.tell(desk.config(), Told::Rejected(why));
+                return Receipt::NONE;
+            }
+        };
+        let effect = self.parts.send_on(packet, &held);
+        let ended = self.parts.end(rt, desk, from, packet, &held, &effect);
+        self.parts.tell(desk.config(), ended.told);
+        Receipt {
+            hold: Some(held.number),
+            answer: ended.entry,
+        }
     }
 
     /// Credits a settlement that a peer's engine tells of (RFC 0038), once for each of the peer's

@@ -40,7 +40,13 @@ refused g c =
 
 pub returns-in-Err-clause-refused : goal.returns-in-Err-clause-refused
 returns-in-Err-clause-refused g c =
-    inr (c.now-now.result, c.in-Err.fault, subst (λ k. Tells (g.C.Clock.told k) c.now-now.result (g.C.Clock.told c.now-now.new.self)) c.make_room.ensures.clock c.now-now.ensures, refused g c, c.of_fault.ensures.value)
+    inr (record {
+      now = c.now-now.result;
+      fault = c.in-Err.fault;
+      asked = subst (λ k. Tells (g.C.Clock.told k) c.now-now.result (g.C.Clock.told c.now-now.new.self)) c.make_room.ensures.clock c.now-now.ensures;
+      refused = refused g c;
+      named = c.of_fault.ensures.value;
+    })
 
 pub returns-in-Err-clause-share : goal.returns-in-Err-clause-share
 returns-in-Err-clause-share g c =
