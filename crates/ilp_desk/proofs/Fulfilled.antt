@@ -65,7 +65,7 @@ module _ (front rest : Entries) (is : IsBase (front ++ rest) (length front)) whe
       by k None false closed = refl
       by k (Some h) b closed = rw (closed refl) refl
 
-      answered_hold : (k : ℕ) (e : Entry) → slice_get front k ≡ Some e → cond (is_unanswered front (0 + k)) (of_hold f e.what) 0 ≡ 0
+      ended : (k : ℕ) (e : Entry) → slice_get front k ≡ Some e → cond (is_unanswered front (0 + k)) (of_hold f e.what) 0 ≡ 0
       ended k e at =
           let same : 0 + k ≡ k = zero-add k in
           let stood : hold_at front k ≡ as_hold e.what = ap (option_and_then (λ (d : Entry). as_hold d.what)) at in
