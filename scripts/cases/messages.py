@@ -4,9 +4,9 @@ import socket
 import time
 from collections.abc import Iterable
 
-from packet_vectors import CONDITION
-from server_cases.case import Differs
-from server_vectors import JSON, OCTETS, head, prepare
+from cases.case import Differs
+from connections import JSON, OCTETS, head, prepare
+from packets import CONDITION
 
 HERE = "127.0.0.1"
 EPOCH = datetime.datetime(1970, 1, 1)

@@ -3,7 +3,7 @@ from collections.abc import Callable
 from typing import TYPE_CHECKING
 
 if TYPE_CHECKING:
-    from server_cases.laboratory import Laboratory
+    from cases.laboratory import Laboratory
 
 Case = Callable[["Laboratory"], None]
 

@@ -1,14 +1,14 @@
 """Settlements that the server asks of engines which answer late, wrongly, or not at all."""
 import time
 
-from server_cases.case import case, expect, expect_that
-from server_cases.laboratory import (Laboratory, close, credit, expect_served,
-                                     post_close)
-from server_cases.messages import created, seconds_since, sent
-from server_cases.program import Program, numbers_in
-from server_cases.stand_ins import (ACCEPTS, FULFILLS, Behaviour, answers, closes, engine_of,
-                                    in_turn, never_answers)
-from server_vectors import JSON, quantity
+from cases.case import case, expect, expect_that
+from cases.laboratory import (Laboratory, close, credit, expect_served,
+                              post_close)
+from cases.messages import created, seconds_since, sent
+from cases.program import Program, numbers_in
+from cases.stand_ins import (ACCEPTS, FULFILLS, Behaviour, answers, closes, engine_of,
+                             in_turn, never_answers)
+from connections import JSON, quantity
 
 SETTLEMENTS = "/accounts/bob/settlements"
 ACCOUNTS = "/accounts"

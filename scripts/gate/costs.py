@@ -2,8 +2,8 @@
 """Runs the gate on a clean clone of what is committed, and prints what each part of it cost: the
 table of docs/GATE.md, in processor seconds, which depend less on what else runs than minutes do.
 
-    scripts/gate_costs.py             one row a crate
-    scripts/gate_costs.py --edits     each wrong body as well, dearest first
+    scripts/gate/costs.py             one row a crate
+    scripts/gate/costs.py --edits     each wrong body as well, dearest first
 
 It watches the prover's processes in /proc while the gate runs, so that what a process spent in its
 last half second is missed, and what a copy of it spent that ended then; the line of the whole is what
@@ -109,7 +109,7 @@ def edits(clone, seen):
 
 
 def main():
-    top = os.path.dirname(os.path.dirname(os.path.abspath(__file__)))
+    top = os.path.dirname(os.path.dirname(os.path.dirname(os.path.abspath(__file__))))
     with tempfile.TemporaryDirectory() as room:
         clone = f"{room}/clone"
         subprocess.run(["git", "clone", "-q", top, clone], check=True)

@@ -3,11 +3,11 @@
 # turn: it ends with want of memory, until no growth is left to deny. TOML is read, and a book
 # copies its configuration, on the global heap alone, so no allocator of a test can deny these.
 #
-# scripts/denied_growths.sh check|replay [FIRST [STEP]]
+# scripts/gate/denied_growths.sh check|replay [FIRST [STEP]]
 set -eu
-cd "$(dirname "$0")/../crates/connector"
+cd "$(dirname "$0")/../../crates/connector"
 
-command=${1:?usage: scripts/denied_growths.sh check|replay [FIRST [STEP]]}
+command=${1:?usage: scripts/gate/denied_growths.sh check|replay [FIRST [STEP]]}
 growth=${2:-1}
 step=${3:-1}
 denied=0

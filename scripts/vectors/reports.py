@@ -17,7 +17,7 @@ import tomllib
 from pathlib import Path
 from typing import NamedTuple
 
-CRATES = Path(__file__).resolve().parent.parent / "crates"
+CRATES = Path(__file__).resolve().parents[2] / "crates"
 ROWS = CRATES / "test_rows"
 CONNECTOR = CRATES / "connector"
 
@@ -243,7 +243,7 @@ def main():
             lines, rest = fill(configuration_in(configuration), lines_in(script), lines_in(printed))
             print("\n".join(lines + rest), end="")
         case _:
-            sys.exit("report_vectors.py check | write | fill CONFIGURATION SCRIPT PRINTED")
+            sys.exit("reports.py check | write | fill CONFIGURATION SCRIPT PRINTED")
 
 
 if __name__ == "__main__":

@@ -76,7 +76,7 @@ def lines():
 
 def main():
     if sys.argv[1:] not in (["rows"], ["lines"]):
-        sys.exit("route_vectors.py rows | lines")
+        sys.exit("routes.py rows | lines")
     for line in rows() if sys.argv[1] == "rows" else lines():
         print(line)
 

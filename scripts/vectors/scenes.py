@@ -3,12 +3,13 @@
 
 Packets are those of RFC 0027 over the octet strings of RFC 0030; what comes of them is by
 docs/PROTOCOL.md and the rules of a worker. With the argument `scenes` it prints
-crates/test_workers/data/scenes.txt, in which `<N DIGITS>` stands for N times the digits, and with
-`lines` what the program is to print. It shares nothing with the crates.
+crates/test_scenes/data/workers.txt, in which `<N DIGITS>` stands for N times the digits, and with
+`lines` what the program is to print of them: the first part of crates/test_scenes/stdout, to which
+connections.py makes the second. It shares nothing with the crates.
 """
 import sys
 
-from packet_vectors import CONDITION, ZEROS, reject, string
+from packets import CONDITION, ZEROS, reject, string
 
 START = 1_735_689_600_000  # 2025-01-01T00:00:00Z
 DEADLINE = START + 29_000  # of the hold of a Prepare that expires 30 seconds after the start
@@ -59,15 +60,15 @@ def receipt(*numbers):
     return f"Receipt {{ hold: {hold}, answer: {answer} }}"
 
 
-def ending(why):
+def verdict(why):
     return "Fulfilled" if why is None else f"Released({why})"
 
 
-def ended(number, hold, why=None, amount=100, condition=CONDITION):
-    """The record of an entry that ends a hold: it is fulfilled, or released for this cause."""
-    return (f"Record {{ number: {number}, what: Ended(EndedHold {{ hold: {hold}, from: 0, to: 1, "
+def answered(number, hold, why=None, amount=100, condition=CONDITION):
+    """The record of an entry that answers a hold: it is fulfilled, or released for this cause."""
+    return (f"Record {{ number: {number}, what: Answered(AnsweredHold {{ hold: {hold}, from: 0, to: 1, "
             f"amount: {amount}, out: {amount}, condition: {listed(condition)}, "
-            f"ending: {ending(why)} }}) }}")
+            f"verdict: {verdict(why)} }}) }}")
 
 
 def held(number, actor=0, amount=100, condition=CONDITION, at=START):
@@ -125,7 +126,7 @@ def forward(name, reply, amount=100, condition=CONDITION, came=FULFILL, row=None
     """A packet that is held, handed to bob, and ends as `why` says."""
     packet = prepare(amount, condition=condition)
     told = clock(START) + asked(prepare(amount, HANDED, condition)) + clock(later)
-    kept = [] if why == "Late" else [ended(1, 0, why, amount, condition)]
+    kept = [] if why == "Late" else [answered(1, 0, why, amount, condition)]
     told += [receipt(0, 1), answer(reply)] + actor(0, 2, *kept)
     told += held(0, amount=amount, condition=condition) + closed(1, 0, why, at=later)
     told += balances(amount if why is None else 0)
@@ -187,9 +188,9 @@ def denied():
     for number in (1, 2):
         told += [receipt(), answer(T00)] + actor(number, 0)
         told += ["asked: 0", "denied: true"]
-    told += [receipt(0, 1), answer(T01)] + actor(3, 2, ended(1, 0, "NoReply"))
+    told += [receipt(0, 1), answer(T01)] + actor(3, 2, answered(1, 0, "NoReply"))
     told += ["asked: 1", "denied: true"]
-    told += [receipt(2, 3), answer(FULFILL)] + actor(4, 2, ended(3, 2))
+    told += [receipt(2, 3), answer(FULFILL)] + actor(4, 2, answered(3, 2))
     told += ["asked: 1", "denied: false"]
     told += held(0, 3) + closed(1, 0, "NoReply", actor=3)
     return told + held(2, 4) + closed(3, 2, actor=4) + balances(100)
@@ -198,7 +199,7 @@ def denied():
 def forwarded(hold, answer):
     """What one of two workers comes to."""
     return (f"Some(Forwarded {{ receipt: Some({receipt(hold, answer)}), passed: true, entries: 2, "
-            f"records: 1, record: Some({ended(answer, hold, amount=50)}) }})")
+            f"records: 1, record: Some({answered(answer, hold, amount=50)}) }})")
 
 
 TWO = scene(
@@ -237,7 +238,7 @@ def many(workers, packets):
 def gathered(name, act, first=(), entries=(), kept=True):
     """A desk that is closed once its worker has booked two entries."""
     told = ["asked: 1"] if kept else []
-    told += actor(0, 2, *([ended(1, 0)] if kept else [])) + actor(1, 0) + actor(2, 0)
+    told += actor(0, 2, *([answered(1, 0)] if kept else [])) + actor(1, 0) + actor(2, 0)
     return scene(name, told + list(first) + list(entries), act=act, alice=prepare(),
                  other=prepare(expires=HANDED), bob=FULFILL)
 
@@ -268,6 +269,8 @@ TEXTS = [
 ]
 
 if __name__ == "__main__":
+    if sys.argv[1:] not in (["scenes"], ["lines"]):
+        sys.exit("scenes.py scenes | lines")
     for name, given, told in SCENES:
         print("== " + name, *(given if sys.argv[1] == "scenes" else told), sep="\n")
     if sys.argv[1] == "lines":

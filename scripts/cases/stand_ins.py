@@ -5,10 +5,10 @@ import time
 from collections.abc import Callable
 from dataclasses import dataclass
 
-from packet_vectors import reject
-from scene_vectors import FULFILL
-from server_cases.case import Differs
-from server_cases.messages import HERE, response
+from cases.case import Differs
+from cases.messages import HERE, response
+from packets import reject
+from scenes import FULFILL
 
 
 @dataclass(frozen=True)

@@ -304,6 +304,8 @@ def lines():
 
 
 def main():
+    if sys.argv[1:] not in (["requests"], ["responses"], ["lines"]):
+        sys.exit("http.py requests | responses | lines")
     what = sys.argv[1]
     if what == "lines":
         print("\n".join(lines()))

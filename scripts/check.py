@@ -1,8 +1,9 @@
 #!/usr/bin/env python3
 """Runs the connector's server as an operator would, beside stand-ins for peers and engines.
 
-    scripts/server_check.py PATH/TO/connector [CASE ..]
-    scripts/server_check.py --list
+    scripts/check.py PATH/TO/connector [CASE ..]
+    scripts/check.py --list
+    scripts/check.py --help
 
 Each case has a configuration, ports and tokens of its own, runs `connector serve` over real sockets
 on 127.0.0.1, and is told as `ok` or by what differed from the rules (docs/PROTOCOL.md,
@@ -15,9 +16,9 @@ import sys
 import time
 from pathlib import Path
 
-from server_cases import clients, conversations, engines, links, operating
-from server_cases.case import CASES, Case, Differs
-from server_cases.laboratory import Laboratory
+from cases import clients, conversations, engines, links, operating
+from cases.case import CASES, Case, Differs
+from cases.laboratory import Laboratory
 
 # Each of them lists its cases as it is read.
 PARTS = (conversations, links, engines, clients, operating)
@@ -62,6 +63,9 @@ def play_all(binary: Path, names: list[str]) -> int:
 
 
 def main(arguments: list[str]) -> int:
+    if arguments == ["--help"]:
+        print(__doc__)
+        return 0
     if arguments == ["--list"]:
         for name, one in CASES.items():
             print(f"{name}: {(one.__doc__ or '').strip()}")
@@ -69,7 +73,7 @@ def main(arguments: list[str]) -> int:
     names = arguments[1:] or list(CASES)
     unknown = [name for name in names if name not in CASES]
     if not arguments or unknown or not operating.is_program(Path(arguments[0])):
-        print("usage: server_check.py PATH/TO/connector [CASE ..], server_check.py --list",
+        print("usage: check.py PATH/TO/connector [CASE ..], check.py --list, check.py --help",
               file=sys.stderr)
         return 2
     operating.raise_own_limit()

@@ -56,7 +56,7 @@ def rows():
 
 def main():
     if sys.argv[1:] not in (["rows"], ["lines"]):
-        sys.exit("quantity_vectors.py rows | lines")
+        sys.exit("quantities.py rows | lines")
     for given in rows():
         row = " ".join(str(number) for number in given)
         print(row if sys.argv[1] == "rows" else f"{row}: {brought(*given)}")

@@ -6,15 +6,15 @@ import time
 from concurrent.futures import ThreadPoolExecutor
 from pathlib import Path
 
-from scene_vectors import FULFILL, T01
-from server_cases.case import case, expect, expect_that, expect_within
-from server_cases.laboratory import (END, Laboratory, close, credit, expect_end, expect_packet,
-                                     expect_served, packet_request, post_close, send_packet)
-from server_cases.messages import (HERE, bearer, connect, created, post, read_to_end, request,
-                                   response, seconds_since, soon)
-from server_cases.program import Program, Setup, secret
-from server_cases.stand_ins import FULFILLS, answers_packet, engine_of
-from server_vectors import F02, quantity
+from cases.case import case, expect, expect_that, expect_within
+from cases.laboratory import (END, Laboratory, close, credit, expect_end, expect_packet,
+                              expect_served, packet_request, post_close, send_packet)
+from cases.messages import (HERE, bearer, connect, created, post, read_to_end, request,
+                            response, seconds_since, soon)
+from cases.program import Program, Setup, secret
+from cases.stand_ins import FULFILLS, answers_packet, engine_of
+from connections import F02, quantity
+from scenes import FULFILL, T01
 
 
 # ---- the start

@@ -191,7 +191,7 @@ def main():
     elif sys.argv[1:] == ["strings"]:
         strings()
     else:
-        sys.exit("packet_vectors.py rows | lines | strings")
+        sys.exit("packets.py rows | lines | strings")
 
 
 if __name__ == "__main__":

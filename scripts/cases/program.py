@@ -9,9 +9,9 @@ import time
 from dataclasses import dataclass, field
 from pathlib import Path
 
-from server_cases.case import Differs, expect, expect_that
-from server_cases.messages import HERE
-from server_cases.stand_ins import free_port
+from cases.case import Differs, expect, expect_that
+from cases.messages import HERE
+from cases.stand_ins import free_port
 
 DESCRIPTORS = 4096
 RUN = "r1"

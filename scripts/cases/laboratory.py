@@ -6,12 +6,12 @@ import time
 from pathlib import Path
 from typing import Self
 
-from scene_vectors import FULFILL
-from server_cases.case import expect, expect_that
-from server_cases.messages import bearer, connect, post, request, response, seconds_since, soon
-from server_cases.program import DESCRIPTORS, Program, Setup, numbers_in
-from server_cases.stand_ins import Behaviour, FullHouse, StandIn
-from server_vectors import quantity
+from cases.case import expect, expect_that
+from cases.messages import bearer, connect, post, request, response, seconds_since, soon
+from cases.program import DESCRIPTORS, Program, Setup, numbers_in
+from cases.stand_ins import Behaviour, FullHouse, StandIn
+from connections import quantity
+from scenes import FULFILL
 
 # In seconds: what is served at once, and the end after the last answer, each with what this machine
 # may take beside other work.

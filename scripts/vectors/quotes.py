@@ -47,7 +47,7 @@ def rows():
 
 def main():
     if sys.argv[1:] not in (["rows"], ["lines"]):
-        sys.exit("quote_vectors.py rows | lines")
+        sys.exit("quotes.py rows | lines")
     for given in rows():
         row = " ".join(str(number) for number in given)
         print(row if sys.argv[1] == "rows" else f"{row}: {quote(*given)}")

@@ -1,15 +1,15 @@
 """Peers' servers that answer late, wrongly, or not at all."""
 import time
 
-from scene_vectors import F99, FULFILL, R00, T01
-from server_cases.case import case, expect, expect_that, expect_within
-from server_cases.laboratory import (Laboratory, close, expect_packet, expect_served, post_close,
-                                     send_packet)
-from server_cases.messages import response, seconds_since, soon
-from server_cases.program import Program
-from server_cases.stand_ins import (FULFILLS, Behaviour, answers, closes, drips, in_turn,
-                                    never_answers)
-from server_vectors import prepare
+from cases.case import case, expect, expect_that, expect_within
+from cases.laboratory import (Laboratory, close, expect_packet, expect_served, post_close,
+                              send_packet)
+from cases.messages import response, seconds_since, soon
+from cases.program import Program
+from cases.stand_ins import (FULFILLS, Behaviour, answers, closes, drips, in_turn,
+                             never_answers)
+from connections import prepare
+from scenes import F99, FULFILL, R00, T01
 
 # Of a packet that expires in three seconds, the hold ends after two, by the window.
 SHORT = 3000

@@ -3,16 +3,17 @@
 
 Connections carry HTTP messages (RFC 9110, RFC 9112) with packets (RFC 0035), settlements and
 messages of settlement engines (RFC 0038); what comes of them, and of a settler's turns, is by
-docs/PROTOCOL.md. With the argument `scenes` it prints crates/test_server/data/scenes.txt, in which
-`<N DIGITS>` stands for N times the digits, and with `lines` what the program is to print. It shares
-nothing with the crates.
+docs/PROTOCOL.md. With the argument `scenes` it prints crates/test_scenes/data/connections.txt, in
+which `<N DIGITS>` stands for N times the digits, and with `lines` what the program is to print of
+them: the second part of crates/test_scenes/stdout, behind that of scenes.py. It shares nothing with
+the crates.
 """
 import sys
 from itertools import groupby
 
-from packet_vectors import CONDITION, string
-from scene_vectors import (ALICE, BOB, F99, FULFILL, HANDED, ONES, R00, START, T00, T01, actor, asked,
-                           balances, clock, closed, ended, fulfill, held, own_reject, report_lines)
+from packets import CONDITION, string
+from scenes import (ALICE, BOB, F99, FULFILL, HANDED, ONES, R00, START, T00, T01, actor, answered,
+                    asked, balances, clock, closed, fulfill, held, own_reject, report_lines)
 
 F02 = own_reject(b"F02", b"unreachable")
 F03 = own_reject(b"F03", b"invalid amount")
@@ -197,7 +198,7 @@ def scene(name, steps, booked, act="both", over="two_peers.toml", **given):
 
 P1 = prepare()
 HELD = clock(START) + asked(prepare(expires=HANDED)) + clock(START)
-ONE_PACKET = (actor(0, 2, ended(1, 0)) + actor(2, 0) + held(0) + closed(1, 0) + balances(100))
+ONE_PACKET = (actor(0, 2, answered(1, 0)) + actor(2, 0) + held(0) + closed(1, 0) + balances(100))
 A_TOKEN = "Authorization: Bearer a-token"
 
 
@@ -253,7 +254,7 @@ PEERS = [
            packet(clock(START), prepare(1), scheme="BEARER", reply=T04)],
           ONE_PACKET, bob=FULFILL),
     scene("a packet that bob rejects", [packet(HELD, P1, reply=F99)],
-          actor(0, 2, ended(1, 0, "Peer([70, 57, 57])")) + actor(2, 0) + held(0)
+          actor(0, 2, answered(1, 0, "Peer([70, 57, 57])")) + actor(2, 0) + held(0)
           + closed(1, 0, "Peer([70, 57, 57])") + balances(0), bob=F99),
     scene("what is refused at the side of the peers", REFUSED_PACKETS, NOTHING, bob=FULFILL,
           replies=ANSWER),
@@ -338,7 +339,7 @@ ENGINES = [
            packet(HELD, P1, reply=FULFILL),
            settled([], ROW, credited=199),
            report(99, 100, 100, 199, 3, 1, body=MESSAGE)],
-          actor(0, 3, ended(1, 0), credit_record(2, 199)) + actor(2, 0) + held(0) + closed(1, 0)
+          actor(0, 3, answered(1, 0), credit_record(2, 199)) + actor(2, 0) + held(0) + closed(1, 0)
           + credited(2, 199) + balance(99, 100), bob=FULFILL),
     scene("the end that is asked for",
           [at_engines(response(200, handled="Close"), "/close"),
@@ -440,5 +441,7 @@ MEMORY = [
 SCENES = PEERS + ENGINES + SETTLER + MEMORY
 
 if __name__ == "__main__":
+    if sys.argv[1:] not in (["scenes"], ["lines"]):
+        sys.exit("connections.py scenes | lines")
     for name, given, told in SCENES:
         print("== " + name, *(given if sys.argv[1] == "scenes" else told), sep="\n")

@@ -1,17 +1,17 @@
 """What peers and engines say to the server, and what it answers and sends."""
 from concurrent.futures import ThreadPoolExecutor
 
-from packet_vectors import reject
-from scene_vectors import F99, FULFILL, LONGEST, ONES, R00, T01, fulfill
-from server_cases.case import case, expect, expect_that, expect_within
-from server_cases.laboratory import (Laboratory, close, credit, expect_packet, expect_served,
-                                     packet_request, send_packet)
-from server_cases.messages import (bearer, created, moment_of, now, packet, post, request, response,
-                                   sent, soon)
-from server_cases.program import Program, numbers_in, secret
-from server_cases.stand_ins import (FULFILLS, answers, answers_packet, closes, engine_of,
-                                    never_answers, together)
-from server_vectors import ANSWER, F02, F03, F05, JSON, MESSAGE, OCTETS, TEXT, quantity
+from cases.case import case, expect, expect_that, expect_within
+from cases.laboratory import (Laboratory, close, credit, expect_packet, expect_served,
+                              packet_request, send_packet)
+from cases.messages import (bearer, created, moment_of, now, packet, post, request, response,
+                            sent, soon)
+from cases.program import Program, numbers_in, secret
+from cases.stand_ins import (FULFILLS, answers, answers_packet, closes, engine_of,
+                             never_answers, together)
+from connections import ANSWER, F02, F03, F05, JSON, MESSAGE, OCTETS, TEXT, quantity
+from packets import reject
+from scenes import F99, FULFILL, LONGEST, ONES, R00, T01, fulfill
 
 
 @case

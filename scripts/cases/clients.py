@@ -5,15 +5,15 @@ import threading
 import time
 from concurrent.futures import ThreadPoolExecutor
 
-from scene_vectors import FULFILL
-from server_cases.case import Differs, case, expect, expect_that, expect_within
-from server_cases.laboratory import (AT_ONCE, Laboratory, close, credit, expect_end, expect_served,
-                                     packet_request, post_close, send_packet)
-from server_cases.messages import (connect, created, post, read_to_end, request, response,
-                                   seconds_since, soon)
-from server_cases.program import Program
-from server_cases.stand_ins import FULFILLS, answers_packet
-from server_vectors import quantity
+from cases.case import Differs, case, expect, expect_that, expect_within
+from cases.laboratory import (AT_ONCE, Laboratory, close, credit, expect_end, expect_served,
+                              packet_request, post_close, send_packet)
+from cases.messages import (connect, created, post, read_to_end, request, response,
+                            seconds_since, soon)
+from cases.program import Program
+from cases.stand_ins import FULFILLS, answers_packet
+from connections import quantity
+from scenes import FULFILL
 
 # A request has 10 seconds; what is measured here may begin before its acceptance, and end after it
 # was dropped.
