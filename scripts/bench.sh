@@ -52,7 +52,7 @@ if [ "$rounds" -gt 0 ]; then
         "$work/baseline" <"$work/input" | sed 's/^/rust /'
     done >"$work/rows"
     echo "Nanoseconds of a turn, the least of $rounds rounds."
-    python3 "$top/scripts/bench_table.py" "$work/rows"
+    python3 "$top/scripts/benching/table.py" "$work/rows"
     if [ "$name" = desk ]; then
         echo "Forwards a second, the most of $rounds rounds."
         awk '{ row = $1 " " $2; rate = $3 * 1e9 / $4; if (!(row in most)) rows[++n] = row
@@ -62,5 +62,5 @@ if [ "$rounds" -gt 0 ]; then
 fi
 if [ -s "$work/input" ] && command -v valgrind >/dev/null; then
     echo "Instructions of a turn, by callgrind."
-    python3 "$top/scripts/bench_instructions.py" "$work/input" "out/bench_$name" "$work/baseline"
+    python3 "$top/scripts/benching/instructions.py" "$work/input" "out/bench_$name" "$work/baseline"
 fi

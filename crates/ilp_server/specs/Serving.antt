@@ -22,7 +22,7 @@ use Rattle.ilp_workers.specs.declared.messaging.MessageFault.{MessageFault}
 use Rattle.ilp_workers.specs.Worker.{PlainWorker}
 use Rattle.ilp_workers.specs.Arrivals.{arrival, Forwards}
 use Rattle.ilp_workers.specs.Crediting.{Credits}
-use Rattle.ilp_workers.specs.Messaging.{peer_peer_answer_of, Messages}
+use Rattle.ilp_workers.specs.Messaging.{peer_answer_of, Messages}
 use Rattle.ilp_server.specs.declared.target.Side.{Side}
 use Rattle.ilp_server.specs.declared.target.Target.{Target}
 use Rattle.ilp_server.specs.declared.target.Target.TheVariants as target

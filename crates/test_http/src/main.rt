@@ -1,5 +1,5 @@
 //! Rows of HTTP messages: what goes in lies in `data/`, and what is to be printed of it in `stdout`.
-//! Both are made by `scripts/http_vectors.py`, from the standards and the rules and never from what
+//! Both are made by `scripts/vectors/http.py`, from the standards and the rules and never from what
 //! the program prints, and the stored run compares them.
 #![tactic(auto)]
 

@@ -41,7 +41,7 @@ fn counted(alloc: Global, len: usize) -> Result<Vec<u8>, AllocError> {
     Ok(octets)
 }
 
-// The heads and tails are those of `scripts/packet_vectors.py`.
+// The heads and tails are those of `scripts/vectors/packets.py`.
 #[test]
 fn writes_and_reads_each_length(rt: HostRuntime) -> Result<(), Fail> {
     let known: [(usize, usize, &[u8], &[u8]); 6] = [

@@ -16,4 +16,4 @@ returns-in-Ok-Settlement-clause-written g c =
 
 pub returns-in-Ok-Message-clause-written : goal.returns-in-Ok-Message-clause-written
 returns-in-Ok-Message-clause-written g c =
-    written_by c.args.worker.now c.args.outcome _ _ _ c.send-in-Ok-Message.result _ (c.in-Ok-Message.is ∙ ap Ok c.in-Ok-Message.field-0-is) (ap (reply status.Created kind.OctetStream) c.answer.ensures) refl c.send-in-Ok-Message.ensures.written
+    written_by c.args.worker.now c.args.outcome _ _ _ c.send-in-Ok-Message.result _ (c.in-Ok-Message.is ∙ ap Ok c.in-Ok-Message.field-0-is) (ap (reply status.Created kind.OctetStream) c.message_answer.ensures) refl c.send-in-Ok-Message.ensures.written

@@ -1,0 +1,172 @@
+//! Growths of memory that are denied, in turn.
+
+use super::Given;
+use super::answering::answer;
+use super::playing::{bob, engine};
+use super::steps::Step;
+use super::turns::settle;
+use crate::links::clocks::Still;
+use crate::peers::START;
+use crate::told::{print_actor, print_book};
+use ilp_desk::{Desk, Naming, Share};
+use ilp_http::Buffer;
+use ilp_settler::{NoSettler, Settler};
+use ilp_workers::{Clock, EngineLink, Uplink, Worker};
+use std::alloc::Allocator;
+use std::io;
+use std::sync::Wait;
+use test_allocator::DenyingAllocator;
+
+/// Has each worker of a desk take the steps: the first without its first growth, the second without
+/// its second, and so on.
+pub(crate) fn deny_workers<J: Naming, R: Print + Wait>(
+    rt: &R,
+    desk: &Desk<J>,
+    shares: Vec<Share<J>>,
+    given: &Given<'_>,
+) -> io::Result<()> {
+    let workers = desk.lock(rt).workers();
+    for share in shares {
+        if share.actor() < workers {
+            work_denied(rt, desk, share, given)?;
+        }
+    }
+    print_book(rt, desk.lock(rt).book())
+}
+
+// Denies a worker the growth of its own number, from 0.
+fn work_denied<J: Naming, R: Print + Wait>(
+    rt: &R,
+    desk: &Desk<J>,
+    share: Share<J>,
+    given: &Given<'_>,
+) -> io::Result<()> {
+    let granted = u64::from(share.actor());
+    let heap = DenyingAllocator::after(desk.config().allocator(), granted);
+    work_over(rt, desk, share, &heap, given)?;
+    println!(rt; "denied: {}", heap.has_denied())
+}
+
+fn work_over<J: Naming, R: Print + Wait, A: Allocator + Copy>(
+    rt: &R,
+    desk: &Desk<J>,
+    share: Share<J>,
+    heap: A,
+    given: &Given<'_>,
+) -> io::Result<()> {
+    let uplink = bob(rt, desk, given);
+    match Worker::new(heap, share, Still(START), uplink, engine(rt, desk, given)) {
+        Ok(mut worker) => answer_each(rt, desk, &mut worker, given),
+        Err(_) => println!(rt; "no worker"),
+    }
+}
+
+fn answer_each<J: Naming, C: Clock + Drop, U: Uplink + Drop, E: EngineLink + Drop, A: Allocator>(
+    rt: &(impl Print + Wait),
+    desk: &Desk<J>,
+    worker: &mut Worker<J, C, U, E, A>,
+    given: &Given<'_>,
+) -> io::Result<()> {
+    let mut buffer = Buffer::new(desk.config().allocator())?;
+    for step in given.steps.split("-- ").skip(1) {
+        if let Some(Step::Connection(connection)) = Step::of(step) {
+            answer(rt, desk, worker, &mut buffer, &connection)?;
+        }
+    }
+    print_actor(rt, worker.share(), worker.records())
+}
+
+/// Has the worker of a desk take its steps, and then the settler: first without its first growth,
+/// which hands its share back, and then without its second.
+pub(crate) fn deny_settler<J: Naming, R: Print + Wait>(
+    rt: &R,
+    desk: &Desk<J>,
+    shares: Vec<Share<J>>,
+    given: &Given<'_>,
+) -> io::Result<()> {
+    let mut shares = shares.into_iter();
+    let worker = shares.next();
+    let _sweeper = shares.next();
+    match (worker, shares.next()) {
+        (Some(worker), Some(settler)) => {
+            work_over(rt, desk, worker, desk.config().allocator(), given)?;
+            deny_each(rt, desk, settler, given)?;
+            print_book(rt, desk.lock(rt).book())
+        }
+        _ => println!(rt; "no shares"),
+    }
+}
+
+fn deny_each<J: Naming, R: Print + Wait>(
+    rt: &R,
+    desk: &Desk<J>,
+    share: Share<J>,
+    given: &Given<'_>,
+) -> io::Result<()> {
+    match deny_making(rt, desk, share, given) {
+        Some(share) => settle_denied(rt, desk, share, given),
+        None => println!(rt; "a settler without its first growth"),
+    }
+}
+
+// Denies a settler its first growth. What it hands back is its share.
+fn deny_making<J: Naming, R: Print>(
+    rt: &R,
+    desk: &Desk<J>,
+    share: Share<J>,
+    given: &Given<'_>,
+) -> Option<Share<J>> {
+    let heap = DenyingAllocator::after(desk.config().allocator(), 0);
+    match Settler::new(&heap, share, Still(START), engine(rt, desk, given)) {
+        Ok(_) => None,
+        Err(
+            NoSettler {
+                share,
+                clock,
+                engine: _,
+            },
+        ) => {
+            let _ = println!(rt; "no settler; its clock as given: {}", clock.0 == START);
+            Some(share)
+        }
+    }
+}
+
+// Denies a settler its second growth.
+fn settle_denied<J: Naming, R: Print + Wait>(
+    rt: &R,
+    desk: &Desk<J>,
+    share: Share<J>,
+    given: &Given<'_>,
+) -> io::Result<()> {
+    let heap = DenyingAllocator::after(desk.config().allocator(), 1);
+    settle_over(rt, desk, share, &heap, given)?;
+    println!(rt; "denied: {}", heap.has_denied())
+}
+
+fn settle_over<J: Naming, R: Print + Wait, B: Allocator>(
+    rt: &R,
+    desk: &Desk<J>,
+    share: Share<J>,
+    heap: &DenyingAllocator<B>,
+    given: &Given<'_>,
+) -> io::Result<()> {
+    match Settler::new(heap, share, Still(START), engine(rt, desk, given)) {
+        Ok(mut settler) => settle_each(rt, desk, &mut settler, given),
+        Err(_) => println!(rt; "no settler"),
+    }
+}
+
+fn settle_each<J: Naming, C: Clock + Drop, E: EngineLink + Drop, A: Allocator>(
+    rt: &(impl Print + Wait),
+    desk: &Desk<J>,
+    settler: &mut Settler<J, C, E, A>,
+    given: &Given<'_>,
+) -> io::Result<()> {
+    for step in given.steps.split("-- ").skip(1) {
+        if let Some(Step::Turn { peer }) = Step::of(step) {
+            settle(rt, desk, settler, peer)?;
+        }
+    }
+    print_actor(rt, settler.share(), settler.records())
+}

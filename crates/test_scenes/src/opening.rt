@@ -1,0 +1,67 @@
+//! Desks that are opened over new books.
+
+ghost use Rattle.std.specs.Prelude.{◌≡◌};
+ghost use Rattle.ilp_desk.specs.Desk.{actors_of, base_of};
+
+use crate::row::said;
+use ilp_accounts::Config;
+use ilp_book::Book;
+use ilp_desk::{Desk, Naming, Share};
+use std::marker::Brand;
+use std::rt::Files;
+use std::sync::ledger::Blank;
+use std::{fs, io};
+
+/// What is done with a desk.
+pub(crate) trait Play<R> {
+    /// Does it with a desk that was opened, and with the shares of its actors.
+    fn play<J: Naming + Send + Sync>(
+        &self,
+        rt: &R,
+        desk: Desk<J>,
+        shares: Vec<Share<J>>,
+    ) -> io::Result<()>;
+}
+
+/// Plays over the configuration that these lines name, at a desk with as many workers as they say.
+pub(crate) fn open_desk<R: Files + Print + AllocGlobal, P: Play<R>>(
+    rt: &R,
+    lines: &str,
+    scene: &P,
+) -> io::Result<()> {
+    let octets = fs::read(rt, said(lines, "over").unwrap_or(""))?;
+    let workers = said(lines, "workers").unwrap_or("1");
+    let workers = workers.parse::<u32>().unwrap_or(1);
+    match Config::read(rt.alloc(), &octets) {
+        Ok(config) => play(rt, &config, workers, scene),
+        Err(fault) => println!(rt; "no configuration: {fault}"),
+    }
+}
+
+// Plays at a desk with so many workers, over a book of no entries.
+fn play<R: Print, P: Play<R>>(rt: &R, config: &Config, workers: u32, scene: &P) -> io::Result<()> {
+    let book = Book::new(config.allocator(), config)?;
+    let blanks = Blank::new(u64::from(workers) + 2);
+    play_on::<Brand, R, P>(rt, config, book, workers, blanks, scene)
+}
+
+// Opens a desk over this book, and plays there.
+fn play_on<J: Naming + Send + Sync, R: Print, P: Play<R>>(
+    rt: &R,
+    config: &Config,
+    book: Book,
+    workers: u32,
+    blanks: Blank,
+    scene: &P,
+) -> io::Result<()>
+    requires config { (config.now ≡ J.desk.config) × (book.config ≡ J.desk.config) }
+    requires workers { workers ≡ J.desk.workers }
+    requires opening { (book.entries ≡ J.desk.opening) × (book.base ≡ base_of J.desk) }
+    requires ledger { (blanks.name ≡ J.name) × (blanks.parts ≡ J.parts) }
+    requires parts { J.parts ≡ actors_of J.desk }
+{
+    match Desk::<J>::open(config.allocator(), config, book, workers, blanks) {
+        Ok((desk, shares)) => scene.play(rt, desk, shares),
+        Err(_) => println!(rt; "no desk"),
+    }
+}

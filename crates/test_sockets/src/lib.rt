@@ -1,0 +1,5 @@
+//! Tests over real sockets: the links, and the running connector.
+#![tactic(auto)]
+
+#[cfg(test)]
+mod tests;

@@ -1,0 +1,399 @@
+//! What comes of calls of links, by what stand-ins do. The requests' octets are those of
+//! `docs/PROTOCOL.md`, written out by hand.
+
+mod calls;
+mod hearing;
+mod stage;
+mod stand_in;
+
+use super::sockets::accept;
+use super::{FULFILL, START, Still};
+use calls::{Scene, answer_of, reply_of};
+use hearing::{At, Hearing};
+use ilp_accounts::Config;
+use ilp_links::{Links, Notices, SystemClock, TcpLinks, TimedReader, TimedWriter, instant_after};
+use ilp_workers::{Clock, EngineLink, EngineReply, Uplink};
+use stage::{Play, stage};
+use stand_in::Does;
+use std::alloc::Global;
+use std::io;
+use std::io::{Eprint, ErrorKind, Read, Write};
+use std::net::{Net, TcpListener, TcpStream};
+use std::process::Abort;
+use std::test::*;
+use std::thread::Threads;
+use std::time::Duration;
+
+const CREATED: &[u8] = b"HTTP/1.1 201 Created\r\nContent-Length: 0\r\n\r\n";
+
+const NOT_FOUND: &[u8] = b"HTTP/1.1 404 Not Found\r\nContent-Length: 0\r\n\r\n";
+
+const CONFLICT: &[u8] = b"HTTP/1.1 409 Conflict\r\nContent-Length: 0\r\n\r\n";
+
+// A 200 with that Fulfill.
+fn fulfilled(alloc: Global) -> io::Result<Vec<u8>> {
+    let mut octets = Vec::new(alloc);
+    octets.extend_from_slice(b"HTTP/1.1 200 OK\r\nContent-Length: 35\r\n\r\n")?;
+    octets.extend_from_slice(FULFILL)?;
+    Ok(octets)
+}
+
+// A 200 with 100,000 octets, which are more than a body may have.
+fn too_long(alloc: Global) -> io::Result<Vec<u8>> {
+    let mut octets = Vec::new(alloc);
+    octets.extend_from_slice(b"HTTP/1.1 200 OK\r\n\r\n")?;
+    octets.resize(100_019, b'x')?;
+    Ok(octets)
+}
+
+// Alice answers with the Fulfill.
+fn fulfill<R: Threads + std::time::Clock + Abort + Sync, U: Uplink>(
+    scene: Scene<'_, R>,
+    link: &mut U,
+    request: &[u8],
+) -> io::Result<()> {
+    let response = fulfilled(scene.alloc)?;
+    scene.replies(link, request, &response, FULFILL)
+}
+
+// Alice answers with more than may come.
+fn flood<R: Threads + std::time::Clock + Abort + Sync, U: Uplink>(
+    scene: Scene<'_, R>,
+    link: &mut U,
+    count: usize,
+) -> io::Result<()> {
+    let response = too_long(scene.alloc)?;
+    scene.fails(link, Does::Answers(count, &response))
+}
+
+// What else alice may do with a packet.
+fn fail<R: Threads + std::time::Clock + Abort + Sync, U: Uplink>(
+    scene: Scene<'_, R>,
+    link: &mut U,
+    count: usize,
+) -> io::Result<()> {
+    let rubbish = b"rubbish, and no response at all\r\n\r\n";
+    let failed = b"HTTP/1.1 500 Internal Server Error\r\nContent-Length: 0\r\n\r\n";
+    let going_on = b"HTTP/1.1 100 Continue\r\nContent-Length: 0\r\n\r\n";
+    scene.fails(link, Does::Answers(count, rubbish))?;
+    scene.fails(link, Does::Answers(count, failed))?;
+    scene.fails(link, Does::Answers(count, going_on))?;
+    scene.fails(link, Does::Closes)?;
+    scene.runs_out(link, Does::Waits)?;
+    scene.runs_out(link, Does::Drips)
+}
+
+// The request that a packet to alice is.
+fn packet_request<R>(scene: Scene<'_, R>) -> io::Result<String> {
+    let place = scene.place;
+    let text = format!(in scene.alloc;
+        "POST /ilp HTTP/1.1\r\nHost: {place}\r\nContent-Type: application/octet-stream\r\nContent-Length: 6\r\nAuthorization: Bearer to-alice\r\nConnection: close\r\n\r\npacket"
+    )?;
+    Ok(text)
+}
+
+// What alice may do with a packet, and what comes of it.
+fn send_to_alice<R: Threads + std::time::Clock + Abort + Copy + Sync, U: Uplink>(
+    scene: Scene<'_, R>,
+    link: &mut U,
+) -> io::Result<()> {
+    let request = packet_request(scene)?;
+    fulfill(scene, link, request.as_bytes())?;
+    flood(scene, link, request.len())?;
+    fail(scene, link, request.len())
+}
+
+fn play_packets<R>(scene: Scene<'_, R>) -> io::Result<()>
+where
+    R: Net<Stream = TcpStream, Listener = TcpListener>
+        + Threads
+        + std::time::Clock
+        + Eprint
+        + Abort
+        + Copy
+        + Send
+        + Sync,
+{
+    let mut link = TcpLinks::new(
+        *scene.rt,
+        scene.config,
+        Still,
+        scene.notices,
+        scene.hurry,
+    ).uplink()?;
+    send_to_alice(scene, &mut link)
+}
+
+#[test]
+fn packets_to_alice(rt: HostRuntime) -> Result<(), Fail> {
+    stage(&rt, rt.alloc(), Play::Packets)?;
+    Ok(())
+}
+
+// Packets for which no connection is made.
+fn send_to_nobody<U: Uplink>(rt: &impl Abort, alloc: Global, link: &mut U) {
+    // Nothing is left, or less than nothing.
+    assert!(rt; reply_of(link, alloc, 0, START).is_none());
+    assert!(rt; reply_of(link, alloc, 0, i64::MIN).is_none());
+    // Bob listens nowhere, carol's host is no place, and there is no other peer.
+    assert!(rt; reply_of(link, alloc, 1, i64::MAX).is_none());
+    assert!(rt; reply_of(link, alloc, 2, i64::MAX).is_none());
+    assert!(rt; reply_of(link, alloc, 3, i64::MAX).is_none());
+}
+
+fn play_nobody<R>(scene: Scene<'_, R>) -> io::Result<()>
+where
+    R: Net<Stream = TcpStream, Listener = TcpListener>
+        + Threads
+        + std::time::Clock
+        + Eprint
+        + Abort
+        + Copy
+        + Send
+        + Sync,
+{
+    let hearing = Hearing::new(*scene.rt, scene.alloc);
+    heard_of_nobody(scene, &hearing)?;
+    assert!(scene.rt;
+        hearing.wrote_only(
+            "peer bob at 127.0.0.1:0: not reached: connection refused\npeer carol at localhost:7001: it has no IP:PORT\n"
+        )
+    );
+    // Nobody connected.
+    scene.listener.set_nonblocking(true)?;
+    assert!(scene.rt; scene.listener.accept().is_err());
+    Ok(())
+}
+
+// Sends them, and has what is told of them heard.
+fn heard_of_nobody<R, H>(scene: Scene<'_, R>, hearing: &H) -> io::Result<()>
+where
+    R: Abort,
+    H: Net<Stream = TcpStream> + std::time::Clock + Eprint + Sync,
+{
+    let mut link = TcpLinks::new(
+        hearing,
+        scene.config,
+        Still,
+        scene.notices,
+        scene.hurry,
+    ).uplink()?;
+    send_to_nobody(scene.rt, scene.alloc, &mut link);
+    Ok(())
+}
+
+#[test]
+fn packets_to_nobody(rt: HostRuntime) -> Result<(), Fail> {
+    stage(&rt, rt.alloc(), Play::Nobody)?;
+    Ok(())
+}
+
+// Whether bob's engine has his account.
+fn ask_for_accounts<R: Threads + std::time::Clock + Abort + Sync, E: EngineLink>(
+    scene: Scene<'_, R>,
+    link: &mut E,
+) -> io::Result<()> {
+    let place = scene.place;
+    let text = format!(in scene.alloc;
+        "POST /accounts HTTP/1.1\r\nHost: {place}\r\nContent-Type: application/json\r\nContent-Length: 12\r\nConnection: close\r\n\r\n{{\"id\":\"bob\"}}"
+    )?;
+    assert!(scene.rt; scene.account(link, text.as_bytes(), CREATED)?);
+    assert!(scene.rt; scene.account(link, text.as_bytes(), CONFLICT)?);
+    assert!(scene.rt; !scene.account(link, text.as_bytes(), NOT_FOUND)?);
+    Ok(())
+}
+
+// What it says of a settlement.
+fn ask_for_settlements<R: Threads + std::time::Clock + Abort + Sync, E: EngineLink>(
+    scene: Scene<'_, R>,
+    link: &mut E,
+) -> io::Result<()> {
+    let place = scene.place;
+    let text = format!(in scene.alloc;
+        "POST /accounts/bob/settlements HTTP/1.1\r\nHost: {place}\r\nContent-Type: application/json\r\nContent-Length: 26\r\nIdempotency-Key: r1-7\r\nConnection: close\r\n\r\n{{\"amount\":\"250\",\"scale\":2}}"
+    )?;
+    let accepted = scene.settle(link, text.as_bytes(), CREATED)?;
+    let refused = scene.settle(link, text.as_bytes(), NOT_FOUND)?;
+    let unknown = scene.settle(link, text.as_bytes(), CONFLICT)?;
+    assert_eq!(scene.rt; accepted, EngineReply::Accepted);
+    assert_eq!(scene.rt; refused, EngineReply::Refused);
+    assert_eq!(scene.rt; unknown, EngineReply::Unknown);
+    Ok(())
+}
+
+// What it answers to a message.
+fn send_messages<R: Threads + std::time::Clock + Abort + Sync, E: EngineLink>(
+    scene: Scene<'_, R>,
+    link: &mut E,
+) -> io::Result<()> {
+    let place = scene.place;
+    let text = format!(in scene.alloc;
+        "POST /accounts/bob/messages HTTP/1.1\r\nHost: {place}\r\nContent-Type: application/octet-stream\r\nContent-Length: 7\r\nConnection: close\r\n\r\nmessage"
+    )?;
+    let response = b"HTTP/1.1 201 Created\r\nContent-Length: 6\r\n\r\nanswer";
+    scene.answers(link, text.as_bytes(), response, b"answer")
+}
+
+// Alice has no engine, and there is no fourth peer: nobody is asked.
+fn ask_no_engine<E: EngineLink>(rt: &impl Abort, alloc: Global, link: &mut E) {
+    for peer in [0, 3] {
+        assert!(rt; !link.account(peer));
+        assert_eq!(rt; link.settle(peer, "r1-7", 250, 2), EngineReply::Unknown);
+        assert!(rt; answer_of(link, alloc, peer).is_none());
+    }
+}
+
+fn play_engines<R>(scene: Scene<'_, R>) -> io::Result<()>
+where
+    R: Net<Stream = TcpStream, Listener = TcpListener>
+        + Threads
+        + std::time::Clock
+        + Eprint
+        + Abort
+        + Copy
+        + Send
+        + Sync,
+{
+    let hearing = Hearing::new(*scene.rt, scene.alloc);
+    heard_of_engines(scene, &hearing)?;
+    // Bob's engine was not told of before, and then at most once a second.
+    assert!(scene.rt; hearing.wrote("engine of bob at 127.0.0.1:"));
+    Ok(())
+}
+
+// Asks them, and has what is told of them heard.
+fn heard_of_engines<R, H>(scene: Scene<'_, R>, hearing: &H) -> io::Result<()>
+where
+    R: Threads + std::time::Clock + Abort + Copy + Sync,
+    H: Net<Stream = TcpStream> + std::time::Clock + Eprint + Sync,
+{
+    let mut link = TcpLinks::new(
+        hearing,
+        scene.config,
+        Still,
+        scene.notices,
+        scene.hurry,
+    ).engine()?;
+    ask_no_engine(scene.rt, scene.alloc, &mut link);
+    ask_for_accounts(scene, &mut link)?;
+    ask_for_settlements(scene, &mut link)?;
+    send_messages(scene, &mut link)?;
+    scene.hurries(&mut link)
+}
+
+#[test]
+fn calls_of_engines(rt: HostRuntime) -> Result<(), Fail> {
+    stage(&rt, rt.alloc(), Play::Engines)?;
+    Ok(())
+}
+
+// Whether this is told of a settlement with a peer that stays open at this time.
+fn tells(
+    alloc: Global,
+    notices: &Notices,
+    config: &Config,
+    (time, peer): (u64, u32),
+    text: &str,
+) -> bool {
+    let hearing = Hearing::new(At(time), alloc);
+    notices.kept_open(&hearing, config, peer, 7);
+    hearing.wrote_only(text)
+}
+
+fn play_limits<R>(scene: Scene<'_, R>) -> io::Result<()>
+where
+    R: Net<Stream = TcpStream, Listener = TcpListener>
+        + Threads
+        + std::time::Clock
+        + Eprint
+        + Abort
+        + Copy
+        + Send
+        + Sync,
+{
+    let rows = [
+        ((0, 1), "settlement 7 with bob is kept open\n"),
+        ((0, 1), ""),
+        ((1, 1), ""),
+        ((999, 1), ""),
+        ((999, 0), "settlement 7 with alice is kept open\n"),
+        (
+            (1_000, 1),
+            "settlement 7 with bob is kept open (3 more since the last line)\n",
+        ),
+        ((1_001, 3), ""),
+    ];
+    for (at, text) in rows {
+        assert!(scene.rt; tells(scene.alloc, scene.notices, scene.config, at, text));
+    }
+    Ok(())
+}
+
+#[test]
+fn lines_are_limited(rt: HostRuntime) -> Result<(), Fail> {
+    stage(&rt, rt.alloc(), Play::Limits)?;
+    Ok(())
+}
+
+// Writes to a connection that was closed fail, and don't end the process.
+fn write_until_closed<R: std::time::Clock + Abort>(rt: &R, stream: &TcpStream) -> io::Result<()> {
+    let mut sink = TimedWriter::new(rt, stream, instant_after(rt, Duration::from_secs(30))?);
+    for _ in 0..10_000 {
+        if let Err(error) = sink.write(b"octets") {
+            assert!(rt; error.kind() != ErrorKind::TimedOut);
+            return Ok(());
+        }
+    }
+    Err(io::Error::from(ErrorKind::Other))
+}
+
+// A read has what is left of the time, and none when that is over.
+fn read_until_late<R: std::time::Clock + Abort>(rt: &R, stream: &TcpStream) -> io::Result<()> {
+    let mut source = TimedReader::new(rt, stream, instant_after(rt, Duration::from_millis(50))?);
+    let mut room = [0; 8];
+    let first = source.read(&mut room);
+    assert!(rt; first.is_err_and(|error| error.kind() == ErrorKind::WouldBlock));
+    let second = source.read(&mut room);
+    assert!(rt; second.is_err_and(|error| error.kind() == ErrorKind::TimedOut));
+    Ok(())
+}
+
+// The other side of a connection is open, and then closed.
+fn read_and_write<R: std::time::Clock + Abort>(
+    rt: &R,
+    listener: &TcpListener,
+    stream: &TcpStream,
+) -> io::Result<()> {
+    let theirs = accept(rt, listener)?;
+    read_until_late(rt, stream)?;
+    drop(theirs);
+    write_until_closed(rt, stream)
+}
+
+fn play_timed<R>(scene: Scene<'_, R>) -> io::Result<()>
+where
+    R: Net<Stream = TcpStream, Listener = TcpListener>
+        + Threads
+        + std::time::Clock
+        + Eprint
+        + Abort
+        + Copy
+        + Send
+        + Sync,
+{
+    let stream = TcpStream::connect(scene.rt, scene.place)?;
+    read_and_write(scene.rt, scene.listener, &stream)
+}
+
+#[test]
+fn timed_streams(rt: HostRuntime) -> Result<(), Fail> {
+    stage(&rt, rt.alloc(), Play::Timed)?;
+    Ok(())
+}
+
+// The clock tells milliseconds since 1970.
+#[test]
+fn clocks(rt: HostRuntime) {
+    assert!(rt; SystemClock::new(rt).now() > START);
+    assert_eq!(rt; SystemClock::new(At(START as u64)).now(), START);
+}

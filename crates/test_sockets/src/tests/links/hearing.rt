@@ -1,0 +1,102 @@
+//! A runtime that keeps what is written to standard error.
+
+use std::alloc::Global;
+use std::fmt::Display;
+use std::io;
+use std::io::Eprint;
+use std::net::{Net, SocketAddr};
+use std::sync::Mutex;
+use std::time::{Clock, Duration};
+
+/// The network and the clock of another runtime. What is written to standard error stands in its
+/// text.
+#[derive(Drop)]
+pub(super) struct Hearing<R: Copy> {
+    rt: R,
+    alloc: Global,
+    text: Mutex<String>,
+}
+
+impl<R: Copy> Hearing<R> {
+    pub(super) fn new(rt: R, alloc: Global) -> Hearing<R> {
+        Hearing {
+            rt,
+            alloc,
+            text: Mutex::new(String::new(alloc)),
+        }
+    }
+
+    /// Whether what was written begins so.
+    pub(super) fn wrote(&self, text: &str) -> bool {
+        match self.text.try_lock() {
+            Some(written) => written.as_str().starts_with(text),
+            None => false,
+        }
+    }
+
+    /// Whether this was written, and nothing else.
+    pub(super) fn wrote_only(&self, text: &str) -> bool {
+        match self.text.try_lock() {
+            Some(written) => written.as_str() == text,
+            None => false,
+        }
+    }
+}
+
+impl<R: Copy> Eprint for Hearing<R> {
+    fn eprint<D: Display + Drop>(&self, value: D) -> io::Result<()> {
+        let more = format!(in self.alloc; "{value}")?;
+        let Some(mut text) = self.text.try_lock() else {
+            return Err(io::Error::from(io::ErrorKind::ResourceBusy));
+        };
+        text.push_str(more.as_str())?;
+        Ok(())
+    }
+
+    fn eprintln<D: Display + Drop>(&self, value: D) -> io::Result<()> {
+        self.eprint(value)?;
+        self.eprint("\n")
+    }
+}
+
+impl<R: Clock + Copy> Clock for Hearing<R> {
+    fn monotonic(&self) -> io::Result<Duration> {
+        self.rt.monotonic()
+    }
+
+    fn since_1970(&self) -> io::Result<Duration> {
+        self.rt.since_1970()
+    }
+}
+
+impl<R: Net + Copy> Net for Hearing<R> {
+    type Stream = R::Stream;
+
+    type Listener = R::Listener;
+
+    fn bind(&self, addr: SocketAddr) -> io::Result<R::Listener> {
+        self.rt.bind(addr)
+    }
+
+    fn connect(&self, addr: SocketAddr) -> io::Result<R::Stream> {
+        self.rt.connect(addr)
+    }
+
+    fn connect_timeout(&self, addr: SocketAddr, timeout: Duration) -> io::Result<R::Stream> {
+        self.rt.connect_timeout(addr, timeout)
+    }
+}
+
+/// A clock that stands at so many milliseconds.
+#[derive(Clone, Copy)]
+pub(super) struct At(pub(super) u64);
+
+impl Clock for At {
+    fn monotonic(&self) -> io::Result<Duration> {
+        Ok(Duration::from_millis(self.0))
+    }
+
+    fn since_1970(&self) -> io::Result<Duration> {
+        Ok(Duration::from_millis(self.0))
+    }
+}

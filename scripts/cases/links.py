@@ -1,0 +1,119 @@
+"""Peers' servers that answer late, wrongly, or not at all."""
+import time
+
+from cases.case import case, expect, expect_that, expect_within
+from cases.laboratory import (Laboratory, close, expect_packet, expect_served, post_close,
+                              send_packet)
+from cases.messages import response, seconds_since, soon
+from cases.program import Program
+from cases.stand_ins import (FULFILLS, Behaviour, answers, closes, drips, in_turn,
+                             never_answers)
+from connections import prepare
+from scenes import F99, FULFILL, R00, T01
+
+# Of a packet that expires in three seconds, the hold ends after two, by the window.
+SHORT = 3000
+LEAST_HOLD, MOST_HOLD = 1.7, 3.2
+
+OK = "HTTP/1.1 200 OK\r\n"
+FAULTS: list[tuple[str, Behaviour]] = [
+    ("100,000 octets", answers(f"{OK}Content-Length: 100000\r\n\r\n".encode() + bytes(100_000))),
+    ("100,000 octets without a length", answers(f"{OK}\r\n".encode() + bytes(100_000))),
+    ("a head without an end", answers(OK.encode() + b"X: " + b"a" * 20_000)),
+    ("65 fields", answers((OK + "X: a\r\n" * 65 + "\r\n").encode())),
+    ("rubbish", answers(b"hello")),
+    ("nothing", closes),
+    ("status 500", answers(b"HTTP/1.1 500 No\r\nContent-Length: 35\r\n\r\n" + FULFILL)),
+    ("status 201", answers(b"HTTP/1.1 201 Made\r\nContent-Length: 35\r\n\r\n" + FULFILL)),
+    ("status 100", answers(b"HTTP/1.1 100 Go on\r\n\r\n" + response(200, FULFILL))),
+    ("status 302", answers(b"HTTP/1.1 302 Found\r\nLocation: /\r\nContent-Length: 0\r\n\r\n")),
+    ("chunks", answers(f"{OK}Transfer-Encoding: chunked\r\n\r\n23\r\n".encode() + FULFILL
+                       + b"\r\n0\r\n\r\n")),
+    ("an end in the body", answers(f"{OK}Content-Length: 36\r\n\r\n".encode() + FULFILL)),
+    ("two lengths", answers((OK + "Content-Length: 35\r\n" * 2 + "\r\n").encode() + FULFILL)),
+    ("a body that is no packet", answers(response(200, b"\x0c"))),
+    ("a Prepare", answers(response(200, prepare()))),
+    ("an empty body", answers(response(200))),
+]
+
+
+@case
+def faults_of_a_peer(laboratory: Laboratory) -> None:
+    """What is no answer is T01 at once, and the hold is released."""
+    behaviours = [behaviour for _, behaviour in FAULTS]
+    program = laboratory.serve(in_turn(*behaviours, FULFILLS))
+    for what, _ in FAULTS:
+        start = time.monotonic()
+        expect_packet(what, program, soon(), T01)
+        took = seconds_since(start)
+        expect_that(f"{what}: it took {took:.2f} seconds", took < 2.0)
+    expect_served(program, amount=50)
+    close(program, alice=-50, bob=50)
+
+
+@case
+def odd_answers_of_a_peer(laboratory: Laboratory) -> None:
+    """Answers that count: with octets after the body, with no length, in small letters."""
+    rows = [("octets after the body", response(200, FULFILL) + b"hello"),
+            ("no length", f"{OK}\r\n".encode() + FULFILL),
+            ("small letters", f"{OK}content-length:  35  \r\n\r\n".encode() + FULFILL),
+            ("HTTP/1.0 and line feeds", b"HTTP/1.0 200 OK\nContent-Length: 35\n\n" + FULFILL)]
+    program = laboratory.serve(in_turn(*(answers(octets) for _, octets in rows)))
+    for what, _ in rows:
+        expect_packet(what, program, soon(), FULFILL)
+    close(program, alice=-200, bob=200)
+
+
+@case
+def peer_that_is_not_there(laboratory: Laboratory) -> None:
+    """A peer at whose port nobody listens is T01 at once."""
+    program = laboratory.serve()
+    for _ in range(3):
+        start = time.monotonic()
+        expect_packet("a packet", program, soon(), T01)
+        took = seconds_since(start)
+        expect_that(f"it took {took:.2f} seconds", took < 1.0)
+    told = [line for line in program.error_lines()[1:] if "bob" in line]
+    expect_that(f"no line says that bob isn't reached: {program.errors()!r}", len(told) >= 1)
+    close(program)
+
+
+def expect_late(program: Program, what: str) -> None:
+    """A packet comes back as timed out, when its hold is late and no later."""
+    start = time.monotonic()
+    octets = soon(milliseconds=SHORT)
+    expect(what, send_packet(program, octets, 10.0), response(200, R00))
+    expect_within(f"{what}: seconds", seconds_since(start), LEAST_HOLD, MOST_HOLD)
+
+
+@case
+def late_peers(laboratory: Laboratory) -> None:
+    """A peer that never answers, or drips, or takes no connection, is R00 at the deadline."""
+    rows = [("never answers", never_answers), ("drips", drips(response(200, F99)))]
+    for what, behaviour in rows:
+        program = laboratory.serve(behaviour)
+        expect_late(program, what)
+        close(program)
+    program = laboratory.serve(laboratory.full_house().port)
+    expect_late(program, "takes no connection")
+    close(program)
+
+
+@case
+def longest_hold(laboratory: Laboratory) -> None:
+    """A packet that expires late is held for the longest hold, though the sweeper rests."""
+    program = laboratory.serve(never_answers, max_hold_ms=2000, sweep_ms=60_000)
+    start = time.monotonic()
+    expect("a packet", send_packet(program, soon(), 10.0), response(200, R00))
+    expect_within("seconds", seconds_since(start), LEAST_HOLD, MOST_HOLD)
+    close(program)
+
+
+@case
+def peer_that_comes_late(laboratory: Laboratory) -> None:
+    """What a peer answers after the deadline is not booked, and it ends soon after a close."""
+    program = laboratory.serve(answers(response(200, FULFILL), after=4.0), sweep_ms=60_000)
+    expect_late(program, "an answer after the deadline")
+    post_close(program)
+    expect("the exit status", program.end(2.5), 0)
+    laboratory.check_secrets()

@@ -1,0 +1,185 @@
+"""The connector's program as a child: its configuration, what it prints, and how it ends."""
+import os
+import re
+import resource
+import secrets
+import signal
+import subprocess
+import time
+from dataclasses import dataclass, field
+from pathlib import Path
+
+from cases.case import Differs, expect, expect_that
+from cases.messages import HERE
+from cases.stand_ins import free_port
+
+DESCRIPTORS = 4096
+RUN = "r1"
+
+
+def secret() -> str:
+    """A text that stands nowhere by chance."""
+    return secrets.token_urlsafe(24)
+
+
+@dataclass
+class Setup:
+    """A configuration of two peers, alice and bob, as the built-in one: ports, tokens, levels."""
+
+    bob: int = field(default_factory=free_port)
+    alice: int = field(default_factory=free_port)
+    engine: int | None = None
+    levels: bool = True
+    top: dict[str, int | str] = field(default_factory=dict)
+    listen: str = field(default_factory=lambda: f"{HERE}:{free_port()}")
+    engine_listen: str = field(default_factory=lambda: f"{HERE}:{free_port()}")
+    token: str = field(default_factory=secret)
+    bob_token: str = field(default_factory=secret)
+    to_alice: str = field(default_factory=secret)
+    to_bob: str = field(default_factory=secret)
+    key: str = field(default_factory=secret)
+    out_path: str = "/ilp"
+    least: int = -1_000_000
+
+    @property
+    def peers_port(self) -> int:
+        """Where peers reach the connector."""
+        return int(self.listen.rpartition(":")[2])
+
+    @property
+    def engines_port(self) -> int:
+        """Where settlement engines reach it."""
+        return int(self.engine_listen.rpartition(":")[2])
+
+    @property
+    def secrets(self) -> list[str]:
+        """What is never on standard error."""
+        return [self.token, self.bob_token, self.to_alice, self.to_bob, self.key]
+
+    def peer(self, name: str, token: str, out_token: str, port: int) -> list[str]:
+        """The table of a peer."""
+        return ["[[peer]]", f'name = "{name}"', 'asset = "USD/2"', f'token = "{token}"',
+                f'out_token = "{out_token}"', f'host = "{HERE}:{port}"',
+                f'out_path = "{self.out_path}"', f"least = {self.least}"]
+
+    def text(self) -> str:
+        """The configuration as TOML."""
+        top = {"address": "test.hub", "run": RUN, "listen": self.listen,
+               "engine_listen": self.engine_listen, **self.top}
+        lines = [f'{name} = "{value}"' if isinstance(value, str) else f"{name} = {value}"
+                 for name, value in top.items()]
+        lines += ["[[asset]]", 'code = "USD"', "scale = 2"]
+        lines += self.peer("alice", self.token, self.to_alice, self.alice)
+        lines += self.peer("bob", self.bob_token, self.to_bob, self.bob)
+        if self.engine is not None:
+            lines.append(f'engine = "{HERE}:{self.engine}"')
+            lines += ["threshold = 1000", "settle_to = 200"] if self.levels else []
+        for name in ("alice", "bob"):
+            lines += ["[[route]]", f'prefix = "test.{name}"', f'peer = "{name}"']
+        return "\n".join(lines) + "\n"
+
+
+# The labels and names of a report of alice and bob, line by line.
+REPORT = (("balance", "alice"), ("balance", "bob"), ("open", "alice"), ("open", "bob"),
+          ("held", "USD/2"), ("fees", "USD/2"), ("bought", "USD/2"), ("sold", "USD/2"),
+          ("settled", "USD/2"), ("entries", ""), ("fulfilled", ""))
+
+
+def numbers_in(text: str) -> list[int]:
+    """The numbers of a report of alice and bob."""
+    numbers = [int(number) for number in re.findall(r"-?\d+$", text, re.MULTILINE)]
+    lines = [f"{label:<10}{name:<20}{number:>30}\n"
+             for (label, name), number in zip(REPORT, numbers)]
+    expect("the report", text.splitlines(keepends=True), lines)
+    expect("the lines of the report", len(lines), len(REPORT))
+    return numbers
+
+
+class Program:
+    """`connector serve` over a configuration, or with another argument that is given."""
+
+    def __init__(self, binary: Path, folder: Path, setup: Setup, descriptors: int = DESCRIPTORS,
+                 errors: int | None = None, argument: str | None = None) -> None:
+        self.setup = setup
+        self.folder = folder
+        configuration = folder / "connector.toml"
+        configuration.write_text(setup.text())
+
+        def limit() -> None:
+            resource.setrlimit(resource.RLIMIT_NOFILE, (descriptors, descriptors))
+
+        with open(folder / "stdout", "wb") as output, open(folder / "stderr", "wb") as told:
+            self.child = subprocess.Popen(
+                [str(binary), "serve", argument or str(configuration)], stdin=subprocess.DEVNULL,
+                stdout=output, stderr=told if errors is None else errors, preexec_fn=limit)
+
+    def output(self) -> str:
+        """Standard output so far."""
+        return (self.folder / "stdout").read_text(errors="replace")
+
+    def errors(self) -> str:
+        """Standard error so far."""
+        return (self.folder / "stderr").read_text(errors="replace")
+
+    def error_lines(self) -> list[str]:
+        """The lines on standard error so far."""
+        return self.errors().splitlines()
+
+    def await_listening(self, within: float = 10.0) -> None:
+        """Waits for the line that says that it listens."""
+        end = time.monotonic() + within
+        while "\n" not in self.errors():
+            if self.child.poll() is not None:
+                raise Differs(f"it ended with status {self.child.returncode} before it listened; "
+                              f"it printed {self.output()!r} and {self.errors()!r}")
+            if time.monotonic() > end:
+                raise Differs(f"no line on standard error within {within} seconds")
+            time.sleep(0.005)
+        expect_that(f"the first line does not name {self.setup.listen}: {self.errors()!r}",
+                    self.setup.listen in self.errors())
+
+    def end(self, within: float) -> int:
+        """The status with which it ends, which it must do within so many seconds."""
+        try:
+            return self.child.wait(within)
+        except subprocess.TimeoutExpired:
+            raise Differs(f"it has not ended within {within} seconds") from None
+
+    def has_ended(self) -> bool:
+        """Whether it has ended, or does within a moment: its sockets close before it is gone."""
+        try:
+            self.child.wait(0.2)
+            return True
+        except subprocess.TimeoutExpired:
+            return False
+
+    def terminate(self) -> None:
+        """Sends SIGTERM."""
+        self.child.send_signal(signal.SIGTERM)
+
+    def kill(self) -> None:
+        """Ends it, whatever it does."""
+        if self.child.poll() is None:
+            self.child.kill()
+        self.child.wait()
+
+    def expect_running(self) -> None:
+        """Refuses a program that has ended."""
+        if self.has_ended():
+            raise Differs(f"it ended with status {self.child.returncode}, and was to run on")
+
+    def memory(self) -> int:
+        """What it has in memory, in KiB (VmRSS)."""
+        for line in Path(f"/proc/{self.child.pid}/status").read_text().splitlines():
+            if line.startswith("VmRSS:"):
+                return int(line.split()[1])
+        raise Differs("the program has no memory: it ended")
+
+    def descriptors(self) -> int:
+        """How many descriptors it has open."""
+        return len(os.listdir(f"/proc/{self.child.pid}/fd"))
+
+    def processor_seconds(self) -> float:
+        """The processor time that it used."""
+        fields = Path(f"/proc/{self.child.pid}/stat").read_text().rpartition(")")[2].split()
+        return (int(fields[11]) + int(fields[12])) / os.sysconf("SC_CLK_TCK")

@@ -1,0 +1,85 @@
+#!/usr/bin/env python3
+"""Runs the connector's server as an operator would, beside stand-ins for peers and engines.
+
+    scripts/check.py PATH/TO/connector [CASE ..]
+    scripts/check.py --list
+    scripts/check.py --help
+
+Each case has a configuration, ports and tokens of its own, runs `connector serve` over real sockets
+on 127.0.0.1, and is told as `ok` or by what differed from the rules (docs/PROTOCOL.md,
+docs/OPERATING.md). The exit status is 1 where one differs, and 2 where the arguments are not
+understood. Without names all cases are played, which takes some four minutes. It needs Linux and
+Python 3.11, and shares nothing with the crates.
+"""
+import signal
+import sys
+import time
+from pathlib import Path
+
+from cases import clients, conversations, engines, links, operating
+from cases.case import CASES, Case, Differs
+from cases.laboratory import Laboratory
+
+# Each of them lists its cases as it is read.
+PARTS = (conversations, links, engines, clients, operating)
+
+# In seconds; the longest case takes some 20.
+MOST_OF_A_CASE = 90
+
+
+def too_long(*_: object) -> None:
+    """What the alarm of a case does."""
+    raise Differs(f"the case took longer than {MOST_OF_A_CASE} seconds")
+
+
+def play(binary: Path, case: Case) -> tuple[str | None, list[str]]:
+    """What differed, if anything did, and what its programs had said and come to then."""
+    signal.alarm(MOST_OF_A_CASE)
+    with Laboratory(binary) as laboratory:
+        try:
+            case(laboratory)
+            laboratory.check_secrets()
+            return None, []
+        except (Differs, OSError) as differs:
+            what = str(differs) if isinstance(differs, Differs) else f"a connection: {differs!r}"
+            return what, laboratory.told()
+        finally:
+            signal.alarm(0)
+
+
+def play_all(binary: Path, names: list[str]) -> int:
+    """Plays the cases, prints a line of each, and answers how many differed."""
+    differed = 0
+    for name in names:
+        start = time.monotonic()
+        what, told = play(binary, CASES[name])
+        took = time.monotonic() - start
+        print(f"{name}: {'ok' if what is None else what} ({took:.1f} s)", flush=True)
+        for line in told:
+            print(f"    {line}", flush=True)
+        differed += what is not None
+    print(f"{len(names) - differed} ok, {differed} differ")
+    return differed
+
+
+def main(arguments: list[str]) -> int:
+    if arguments == ["--help"]:
+        print(__doc__)
+        return 0
+    if arguments == ["--list"]:
+        for name, one in CASES.items():
+            print(f"{name}: {(one.__doc__ or '').strip()}")
+        return 0
+    names = arguments[1:] or list(CASES)
+    unknown = [name for name in names if name not in CASES]
+    if not arguments or unknown or not operating.is_program(Path(arguments[0])):
+        print("usage: check.py PATH/TO/connector [CASE ..], check.py --list, check.py --help",
+              file=sys.stderr)
+        return 2
+    operating.raise_own_limit()
+    signal.signal(signal.SIGALRM, too_long)
+    return 1 if play_all(Path(arguments[0]).resolve(), names) else 0
+
+
+if __name__ == "__main__":
+    sys.exit(main(sys.argv[1:]))

@@ -1,0 +1,317 @@
+#!/usr/bin/env python3
+"""Rows for the tests of HTTP messages, made from the standards alone.
+
+Writes requests and responses (RFC 9110, RFC 9112) and mistakes in them, each with what a reader is
+to answer by docs/PROTOCOL.md. With the argument `requests` or `responses` it prints the rows of
+crates/test_http/data, in which `%XX` is an octet, and `<N PART>` stands for N times the part; with
+`lines` it prints the program's whole output. It shares nothing with the crates.
+"""
+import sys
+
+HEAD, FIELDS, BODY = 16_384, 64, 65_536
+PREPARE = bytes.fromhex(
+    "0c430000000000000064323032353031303130303030333030303066687aadf862bd776c8fc18b8e9f8e20089714856e"
+    "e233b3902a591d0d5f292508746573742e626f6200")
+FULFILL = bytes.fromhex("0d21" + "00" * 33)
+TOKEN = set(b"!#$%&'*+-.^_`|~0123456789abcdefghijklmnopqrstuvwxyzABCDEFGHIJKLMNOPQRSTUVWXYZ")
+
+
+def escaped(octets):
+    """An octet that is no visible ASCII, and each that a row gives a meaning, as `%XX`."""
+    return "".join(chr(o) if 32 < o < 127 and o not in b"%<>" else " " if o == 32 else f"%{o:02X}"
+                   for o in octets)
+
+
+class Row:
+    """Octets in parts; a part is octets, or a count with octets that stand so often."""
+
+    def __init__(self, *parts):
+        self.parts = parts
+
+    def text(self):
+        text = "".join(f"<{p[0]} {escaped(p[1])}>" if isinstance(p, tuple) else escaped(p)
+                       for p in self.parts)
+        return "%20" + text[1:] if text.startswith(" ") else text
+
+    def octets(self):
+        return b"".join(p[1] * p[0] if isinstance(p, tuple) else p
+                        for p in self.parts)
+
+
+def request(line=b"POST /ilp HTTP/1.1", fields=(b"Host: h", b"Content-Length: 3"), body=b"abc",
+            end=b"\r\n", parts=()):
+    head = line + end + b"".join(f + end for f in fields)
+    return Row(head, *parts, end + body)
+
+
+def sized(value, body=b"abc"):
+    return request(fields=(b"Host: h", b"Content-Length: " + value), body=body)
+
+
+def told(target, values, length):
+    return f"{target}, {values} values, a body of {length}"
+
+
+BAD, METHOD, LENGTH, LARGE, FIELDS_LARGE = (
+    "a bad request", "the method is not POST", "no length of the body", "the body is too long",
+    "the head is too long")
+OK = told("/ilp", 2, 3)
+
+
+def long_head(size):
+    """A request whose head has so many octets."""
+    start = b"POST /ilp HTTP/1.1\r\nContent-Length: 3\r\nX: "
+    return Row(start, (size - len(start) - 4, b"a"), b"\r\n\r\nabc")
+
+
+def many_fields(count):
+    """A request with so many fields."""
+    return Row(b"POST /ilp HTTP/1.1\r\nContent-Length: 3\r\n", (count - 1, b"a: b\r\n"), b"\r\nabc")
+
+
+def with_field(field, answer=OK):
+    return request(fields=(field, b"Content-Length: 3")), answer
+
+
+def requests():
+    fields = (b"Host: h", b"Authorization: Bearer a-token", b"Content-Length: 69")
+    yield request(fields=fields, body=PREPARE), told("/ilp", 3, 69)
+    yield request(fields=fields, body=PREPARE + b"POST / HTTP/1.1\r\n"), told("/ilp", 3, 69)
+    yield request(), OK
+    # the request line
+    for method in (b"GET", b"HEAD", b"PUT", b"DELETE", b"OPTIONS", b"TRACE", b"CONNECT", b"PATCH",
+                   b"post", b"Post", b"POSTS", b"POS", b"!#$%&'*+-.^_`|~"):
+        yield request(line=method + b" /ilp HTTP/1.1"), METHOD
+    for line in (b"", b"POST", b"POST /ilp", b"POST  /ilp HTTP/1.1", b"POST /ilp  HTTP/1.1",
+                 b"POST /ilp HTTP/2.0", b"POST /ilp HTTP/1.2", b"POST /ilp http/1.1",
+                 b"POST /ilp HTTP/1.1 ", b" POST /ilp HTTP/1.1", b"PO(ST /ilp HTTP/1.1",
+                 b"POST\t/ilp HTTP/1.1", b"POST /i\0lp HTTP/1.1", b"POST /i\x7flp HTTP/1.1",
+                 b"POST /i\tlp HTTP/1.1", b"POST /ilp HTTP/1", b"POST /ilp HTTP/11",
+                 b"POST /ilp HTTP/1.", b"POST /ilp ", b"@ /ilp HTTP/1.1",
+                 b"POST /i\xfflp HTTP/1.1", b"POST /i\xc3 HTTP/1.1"):
+        if line:
+            yield request(line=line), BAD
+    yield request(line=b"POST /ilp HTTP/1.0"), OK
+    for target in (b"/", b"*", b"/accounts/bob/settlements", b"http://h/ilp", b"/ilp?x=1", b"/%20",
+                   b"/a//b/../c", b"\xc3\xa9", b"/~!$&'()+,;=:@", b"\"<>[]^`{|}"):
+        yield request(line=b"POST " + target + b" HTTP/1.1"), told(target.decode(), 2, 3)
+    # empty lines before it, and line ends
+    yield Row(b"\r\nPOST /ilp HTTP/1.1\r\nContent-Length: 3\r\n\r\nabc"), told("/ilp", 1, 3)
+    yield Row(b"\n\r\n\nPOST /ilp HTTP/1.1\r\nContent-Length: 3\r\n\r\nabc"), told("/ilp", 1, 3)
+    yield Row(b"\rPOST /ilp HTTP/1.1\r\nContent-Length: 3\r\n\r\nabc"), BAD
+    yield request(end=b"\n"), OK
+    yield request(end=b"\r"), BAD
+    yield request(end=b"\r\r\n"), BAD
+    yield request(end=b"\n\r"), BAD
+    # field names: tokens, and no blank before the colon
+    for octet in range(256):
+        if octet in (9, 10, 13, 32, 58) or octet > 127 and octet not in (128, 255):
+            continue
+        if octet in TOKEN and octet not in b"!#~0z":
+            continue
+        if octet not in TOKEN and octet not in b"\0\x01\x1f\"(),/;<=>?@[\\]{}\x7f\x80\xff":
+            continue
+        yield with_field(b"X" + bytes([octet]) + b": a", OK if octet in TOKEN else BAD)
+    for field in (b"X : a", b"X\t: a", b" X: a", b"\tX: a", b": a", b"X", b"X Y: a", b"X: a\r\n b",
+                  b"X: a\r\n\tb", b"Content-Length : 3"):
+        yield with_field(field, BAD)
+    # field values: anything but the controls, and blanks at both ends are dropped
+    for value in (b"", b" ", b"\t \t", b"a", b" a ", b"a b", b"a\tb", b"\xff", b"\x80\x9f", b"a:b:c",
+                  b"\"q\"", b"~"):
+        yield with_field(b"X:" + value)
+    for value in (b"a\0b", b"a\x01", b"a\x1f", b"a\x7f", b"a\rb", b"\x0b", b"a\x08"):
+        yield with_field(b"X: " + value, BAD)
+    # Content-Length: digits, however many
+    for value in (b"3", b"03", b"00000000000000000000000000000000000000003", b" 3 ", b"\t3\t",
+                  b"  3", b"3  "):
+        yield sized(value), OK
+    for value in (b"", b" ", b"+3", b"-3", b"-0", b"3.0", b"3e0", b"0x3", b"3 3", b"3,3", b"3, 3",
+                  b"a", b"3a", b"\xb3", b"3;", b"\"3\"", b"3\t3", b"+", b"65537a", b"99999999999999999999 "
+                  b"1"):
+        yield sized(value), BAD
+    for value in (b"65537", b"65540", b"70000", b"99999", b"065537", b"4294967299",
+                  b"18446744073709551616", b"18446744073709551619",
+                  b"340282366920938463463374607431768211459", b"9" * 80):
+        yield sized(value), LARGE
+    yield sized(b"0", b""), told("/ilp", 2, 0)
+    yield sized(b"0", b"abc"), told("/ilp", 2, 0)
+    yield sized(b"2", b"abc"), told("/ilp", 2, 2)
+    yield sized(b"4", b"abc"), BAD
+    yield Row(b"POST /ilp HTTP/1.1\r\nContent-Length: 65536\r\n\r\n", (BODY, b"a")), told("/ilp", 1, BODY)
+    yield Row(b"POST /ilp HTTP/1.1\r\nContent-Length: 65536\r\n\r\n", (BODY - 1, b"a")), BAD
+    yield Row(b"POST /ilp HTTP/1.1\r\nContent-Length: 65537\r\n\r\n", (BODY + 1, b"a")), LARGE
+    # which field counts
+    for name in (b"content-length", b"CONTENT-LENGTH", b"cOnTeNt-LeNgTh"):
+        yield request(fields=(b"Host: h", name + b":3")), OK
+    yield request(fields=(b"Host: h",)), LENGTH
+    yield request(fields=()), LENGTH
+    yield request(fields=(b"Content-Lengt: 3", b"Content-Lengthh: 3")), LENGTH
+    for two in ((b"3", b"3"), (b"3", b"4"), (b"4", b"3"), (b"", b"3"), (b"3", b"x"),
+                (b"65537", b"3"), (b"3", b"65537")):
+        yield request(fields=tuple(b"Content-Length: " + v for v in two)), BAD
+    yield request(fields=(b"Content-Length: 3", b"content-length: 3")), BAD
+    for coding in (b"chunked", b"identity", b"gzip, chunked", b"", b"x"):
+        yield request(fields=(b"Transfer-Encoding: " + coding, b"Content-Length: 3")), LENGTH
+        yield request(fields=(b"transfer-encoding: " + coding,)), LENGTH
+    yield request(fields=(b"Content-Length: 3", b"TRANSFER-ENCODING: chunked")), LENGTH
+    yield request(fields=(b"Content-Length: 3", b"Content-Length: 3", b"Transfer-Encoding: x")), LENGTH
+    yield request(fields=(b"Transfer-Encoding : chunked", b"Content-Length: 3")), BAD
+    # what comes first
+    yield request(line=b"GET /ilp HTTP/1.1", fields=()), METHOD
+    yield request(line=b"GET /ilp HTTP/1.1", fields=(b"Content-Length: x",)), METHOD
+    yield request(line=b"GET /ilp HTTP/1.1", fields=(b"Content-Length: 65537",)), METHOD
+    yield request(line=b"GET /ilp HTTP/1.1", fields=(b"X : a",)), BAD
+    # how long a head may be
+    yield long_head(HEAD), told("/ilp", 2, 3)
+    yield long_head(HEAD + 1), FIELDS_LARGE
+    yield many_fields(FIELDS), told("/ilp", FIELDS, 3)
+    yield many_fields(FIELDS + 1), FIELDS_LARGE
+    yield Row((HEAD - 1, b"A")), BAD
+    yield Row((HEAD, b"A")), FIELDS_LARGE
+    yield Row((HEAD // 2 + 1, b"\r\n")), FIELDS_LARGE
+    yield Row(b"POST /", (HEAD, b"a")), FIELDS_LARGE
+    yield Row((HEAD, b"A"), b"\0"), FIELDS_LARGE
+    yield Row((HEAD - 1, b"A"), b"\0"), BAD
+    # octets that are no request
+    for octets in (b"\0", b"hello", b"\x16\x03\x01\x02\x00\x01\x00\x01\xfc\x03\x03",
+                   b"PRI * HTTP/2.0\r\n\r\nSM\r\n\r\n", b"HTTP/1.1 200 OK\r\n\r\n", b"\r\n", b"\r\n\r\n"):
+        yield Row(octets), BAD
+
+
+def response(line=b"HTTP/1.1 200 OK", fields=(b"Content-Length: 3",), body=b"abc", end=b"\r\n"):
+    return Row(line + end + b"".join(f + end for f in fields) + end + body)
+
+
+def answered(code, length):
+    return f"{code}, a body of {length}"
+
+
+BAD_RESPONSE, LONG_RESPONSE = "a bad response", "the response is too long"
+
+
+def responses():
+    yield response(fields=(b"Content-Type: application/octet-stream", b"Content-Length: 35",
+                           b"Connection: close"), body=FULFILL), answered(200, 35)
+    yield response(line=b"HTTP/1.1 201 Created", fields=(), body=b"x"), answered(201, 1)
+    yield Row(b"hello"), BAD_RESPONSE
+    yield response(), answered(200, 3)
+    yield response(body=b"abcdef"), answered(200, 3)
+    yield response(body=b"ab"), BAD_RESPONSE
+    yield response(fields=()), answered(200, 3)
+    yield response(fields=(), body=b""), answered(200, 0)
+    for code in (b"100", b"101", b"103", b"199", b"204", b"304", b"404", b"409", b"500", b"599",
+                 b"000", b"999"):
+        yield response(line=b"HTTP/1.1 " + code + b" x"), answered(int(code), 3)
+    for line in (b"HTTP/1.1 200", b"HTTP/1.1 200 ", b"HTTP/1.0 200 OK", b"HTTP/1.1 200 a b\tc",
+                 b"HTTP/1.1 200 \xff"):
+        yield response(line=line), answered(200, 3)
+    for line in (b"HTTP/2.0 200 OK", b"HTTP/1.1 20 OK", b"HTTP/1.1 2000 OK", b"HTTP/1.1  200 OK",
+                 b"HTTP/1.1 20a OK", b"HTTP/1.1 -20 OK", b"http/1.1 200 OK", b"HTTP/1.1", b" HTTP/1.1 200 OK",
+                 b"HTTP/1.1 200 \0"):
+        yield response(line=line), BAD_RESPONSE
+    for value in (b"+3", b"", b"3 3", b"x", b"3,3"):
+        yield response(fields=(b"Content-Length: " + value,)), BAD_RESPONSE
+    yield response(fields=(b"Content-Length: 3", b"Content-Length: 3")), BAD_RESPONSE
+    yield response(fields=(b"content-LENGTH:\t003 ",)), answered(200, 3)
+    yield response(fields=(b"Content-Length: 65537",)), LONG_RESPONSE
+    yield response(fields=(b"Content-Length: 99999999999999999999999",)), LONG_RESPONSE
+    for coding in (b"chunked", b"identity", b""):
+        yield response(fields=(b"Transfer-Encoding: " + coding,)), answered(200, 0)
+    yield response(fields=(b"Transfer-Encoding: chunked", b"Content-Length: 65537")), answered(200, 0)
+    yield Row(b"HTTP/1.1 200 OK\r\nContent-Length: 65536\r\n\r\n", (BODY, b"a")), answered(200, BODY)
+    yield Row(b"HTTP/1.1 200 OK\r\n\r\n", (BODY, b"a")), answered(200, BODY)
+    yield Row(b"HTTP/1.1 200 OK\r\n\r\n", (BODY + 1, b"a")), LONG_RESPONSE
+    start = b"HTTP/1.1 200 OK\r\nX: "
+    for size in (HEAD, HEAD + 1):
+        tail = b"\r\n\r\n"
+        answer = answered(200, BODY) if size == HEAD else LONG_RESPONSE
+        yield Row(start, (size - len(start) - 4, b"a"), tail, (BODY, b"b")), answer
+    yield Row(start, (HEAD - len(start) - 4, b"a"), b"\r\n\r\n", (BODY + 1, b"b")), LONG_RESPONSE
+    for count in (FIELDS, FIELDS + 1):
+        answer = answered(200, 3) if count == FIELDS else LONG_RESPONSE
+        yield Row(b"HTTP/1.1 200 OK\r\n", (count, b"a: b\r\n"), b"\r\nabc"), answer
+    yield response(fields=(b"X : a",)), BAD_RESPONSE
+    yield response(fields=(b"X: a\r\n b",)), BAD_RESPONSE
+    yield response(fields=(b"X: a\0",)), BAD_RESPONSE
+    yield response(end=b"\n"), answered(200, 3)
+    yield response(end=b"\r"), BAD_RESPONSE
+
+
+STATUSES = (
+    ("200 OK", ""), ("201 Created", ""), ("400 Bad Request", ""),
+    ("401 Unauthorized", "WWW-Authenticate: Bearer\r\n"), ("404 Not Found", ""),
+    ("405 Method Not Allowed", "Allow: POST\r\n"), ("409 Conflict", ""), ("411 Length Required", ""),
+    ("413 Content Too Large", ""), ("431 Request Header Fields Too Large", ""), ("502 Bad Gateway", ""),
+    ("503 Service Unavailable", ""))
+KINDS = ("application/octet-stream", "application/json", "text/plain")
+BODIES = (b"", b'{"amount":"199","scale":2}')
+LONG = b"a" * 1024
+
+
+def written_response(status, own, kind, body):
+    typed = f"Content-Type: {kind}\r\n" if body else ""
+    return (f"HTTP/1.1 {status}\r\n{own}{typed}Content-Length: {len(body)}\r\n"
+            f"Connection: close\r\n\r\n").encode() + body
+
+
+def written_request(own, kind, body):
+    return (f"POST /ilp HTTP/1.1\r\nHost: 127.0.0.1:7001\r\nContent-Type: {kind}\r\n"
+            f"Content-Length: {len(body)}\r\n{own}Connection: close\r\n\r\n").encode() + body
+
+
+def written():
+    for status, own in STATUSES:
+        for kind in KINDS:
+            yield from (written_response(status, own, kind, body) for body in BODIES)
+    for own in ("", "Authorization: Bearer to-bob\r\n", "Idempotency-Key: r1-5\r\n"):
+        for kind in KINDS:
+            yield from (written_request(own, kind, body) for body in BODIES)
+    yield written_response(*STATUSES[0], KINDS[2], LONG)
+    yield written_request("", KINDS[0], LONG)
+
+
+def shown(octets):
+    """The octets as a line: a long body as its length."""
+    head, _, body = octets.partition(b"\r\n\r\n")
+    tail = f"<{len(body)} octets>" if len(body) > 64 else body.decode()
+    return head.decode().replace("\r\n", "|") + "||" + tail
+
+
+def cut_lines():
+    """A whole message of L octets, read in each prefix and with a read that fails at each octet."""
+    whole = request(fields=(b"Host: h", b"Authorization: Bearer a-token", b"Content-Length: 69"),
+                    body=PREPARE).octets()
+    size = len(whole)
+    yield (f"of a request of {size} octets {size} proper prefixes are a bad request and look "
+           f"unfinished, and {size} reads that fail are told")
+    whole = response(fields=(b"Content-Type: application/octet-stream", b"Content-Length: 35",
+                             b"Connection: close"), body=FULFILL).octets()
+    size = len(whole)
+    yield (f"of a response of {size} octets {size} proper prefixes are a bad response, and {size} reads "
+           f"that fail are told")
+
+
+def lines():
+    for row, answer in requests():
+        yield f"{row.text()}: {answer}"
+    for row, answer in responses():
+        yield f"{row.text()}: {answer}"
+    for octets in written():
+        yield f"{shown(octets)}: stopped at each of {len(octets)} octets"
+    yield from cut_lines()
+    yield "4096 reads of one octet: /ilp, 2 values, a body of 3"
+    yield "4097 reads of one octet: too many reads"
+
+
+def main():
+    if sys.argv[1:] not in (["requests"], ["responses"], ["lines"]):
+        sys.exit("http.py requests | responses | lines")
+    what = sys.argv[1]
+    if what == "lines":
+        print("\n".join(lines()))
+    else:
+        rows = {"requests": requests, "responses": responses}[what]
+        print("\n".join(row.text() for row, _ in rows()))
+
+
+main()
