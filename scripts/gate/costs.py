@@ -2,7 +2,8 @@
 """Runs the gate on a clean clone of what is committed, and prints what each part of it cost: the
 table of docs/GATE.md, in processor seconds, which depend less on what else runs than minutes do.
 
-    scripts/gate/costs.py             one row a crate
+    scripts/gate/costs.py             one row a crate, of what was not kept from earlier gates
+    scripts/gate/costs.py --anew      from nothing, and what a change of each crate costs
     scripts/gate/costs.py --edits     each wrong body as well, dearest first
 
 It watches the prover's processes in /proc while the gate runs, so that what a process spent in its
@@ -64,7 +65,7 @@ def watch(gate):
 
 
 def kind_of(line, folder):
-    if "/rt-edit-" in folder:
+    if "/rt-edit" in folder:
         return "edit"
     return "tests" if " --test" in line else "proof"
 
@@ -90,6 +91,27 @@ def table(clone, seen):
     told = whole["proof"], whole["tests"], whole["count"], whole["edit"]
     sums = whole["proof"] + whole["tests"] + whole["edit"]
     print("| all | {:.0f} | {:.0f} | {} | {:.0f} | {:.0f} |".format(*told, sums))
+    return {crate: sum(sum(spent) for spent in kinds.values()) for crate, kinds in costs.items()}
+
+
+def crates_below(clone):
+    """What each crate stands on, by crates.txt."""
+    with open(f"{clone}/crates.txt", encoding="utf-8") as lines:
+        parts = [line.partition("#")[0].partition(":") for line in lines]
+    below = {head.split()[0]: set(rest.split()) for head, colon, rest in parts if colon}
+    for _ in below:
+        for lows in below.values():
+            lows.update(*(below.get(low, ()) for low in list(lows)))
+    return below
+
+
+def changes(clone, costs):
+    """A change of a crate costs its own row and those of all crates above it."""
+    below = crates_below(clone)
+    print("\n| A change of | processor minutes |\n|---|---:|")
+    for crate in costs:
+        seconds = sum(spent for other, spent in costs.items() if other == crate or crate in below.get(other, ()))
+        print(f"| {crate} | {seconds / 60:.0f} |")
 
 
 def edits(clone, seen):
@@ -114,14 +136,18 @@ def main():
         clone = f"{room}/clone"
         subprocess.run(["git", "clone", "-q", top, clone], check=True)
         began = time.time()
-        gate = subprocess.Popen([".ci/run"], cwd=clone, stdout=sys.stderr, start_new_session=True)
+        is_anew = "--anew" in sys.argv[1:]
+        command = ["rt", "ci", "--anew"] if is_anew else [".ci/run"]
+        gate = subprocess.Popen(command, cwd=clone, stdout=sys.stderr, start_new_session=True)
         try:
             seen = watch(gate)
         finally:
             gate.terminate()
             gate.wait()
         spent = resource.getrusage(resource.RUSAGE_CHILDREN)
-        table(clone, seen)
+        costs = table(clone, seen)
+        if is_anew:
+            changes(clone, costs)
         minutes = (spent.ru_utime + spent.ru_stime) / 60
         print(f"\n{minutes:.1f} processor minutes in {(time.time() - began) / 60:.1f} minutes, on {os.cpu_count()} cores.")
         if "--edits" in sys.argv[1:]:

@@ -104,6 +104,7 @@ fn know<J: Naming>(ends: &Vec<End<J>>)
     ensures { All (λ (h : Holding). IsActor J.desk h.share.actor) ends.now.items }
 {
     for end in ends {
+        // Called for what its contract tells: the actor is one of the desk's.
         let _ = end.actor();
     }
 }

@@ -60,6 +60,7 @@ impl<J: Naming> LockedBook<J> {
         requires workers { (workers ≡ J.desk.workers) × (workers ≤ most_workers) }
         ensures { result ≡ book }
     {
+        // Called for what its contract tells: the journal is lawful.
         let _ = book.entry(0);
         LockedBook {
             book,

@@ -2,7 +2,7 @@
 
 use ilp_journal::Cause;
 
-/// What the books say of an entry, as the actor that booked it keeps it: of each that answered_hold a hold
+/// What the books say of an entry, as the actor that booked it keeps it: of each that ended a hold
 /// in time, credited a peer or closed a settlement.
 #[derive(Clone, Copy, Debug, PartialEq, Eq)]
 pub struct Record {

@@ -211,8 +211,8 @@ impl<J: Naming, C: Clock + Drop, U: Uplink + Drop, E: EngineLink + Drop, A: Allo
 
     /// Sends a message of the settlement engine here to that of a peer (RFC 0038): a Prepare of
     /// amount 0 to `peer.settle`, which expires after the longest hold and books nothing. After an
-    /// `Ok`, `answer` has what the peer's engine answered. A message of more than 32,767 octets is
-    /// refused, and leaves all as it was. After another fault `reply` and `answer` are empty.
+    /// `Ok`, `message_answer` has what the peer's engine answered. A message of more than 32,767 octets
+    /// is refused, and leaves all as it was. After another fault `reply` and `message_answer` are empty.
     pub fn message(&mut self, desk: &Desk<J>, peer: u32, octets: &[u8]) -> Result<(), MessageFault>
         ensures { Messages J.desk.config peer octets.now self.old self.new result }
     {
