@@ -33,13 +33,18 @@ pub(crate) fn open_desk<R: Files + Print + AllocGlobal, P: Play<R>>(
     let workers = said(lines, "workers").unwrap_or("1");
     let workers = workers.parse::<u32>().unwrap_or(1);
     match Config::read(rt.alloc(), &octets) {
-        Ok(config) => play(rt, &config, workers, scene),
+        Ok(config) => play_over(rt, &config, workers, scene),
         Err(fault) => println!(rt; "no configuration: {fault}"),
     }
 }
 
 // Plays at a desk with so many workers, over a book of no entries.
-fn play<R: Print, P: Play<R>>(rt: &R, config: &Config, workers: u32, scene: &P) -> io::Result<()> {
+fn play_over<R: Print, P: Play<R>>(
+    rt: &R,
+    config: &Config,
+    workers: u32,
+    scene: &P,
+) -> io::Result<()> {
     let book = Book::new(config.allocator(), config)?;
     let blanks = Blank::new(u64::from(workers) + 2);
     play_on::<Brand, R, P>(rt, config, book, workers, blanks, scene)

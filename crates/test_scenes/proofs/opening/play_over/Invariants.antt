@@ -1,4 +1,4 @@
-use Rattle.test_scenes.proofs.opening.play.Given as goal
+use Rattle.test_scenes.proofs.opening.play_over.Given as goal
 
 abbrev pub ghosts-play_on-J-Ledger : goal.ghosts-play_on-J-Ledger
 ghosts-play_on-J-Ledger g a = record { name = a.blanks.name; parts = a.blanks.parts }
