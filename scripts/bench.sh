@@ -1,8 +1,8 @@
 #!/bin/sh
 # Runs the benchmark bench/NAME: main.rt.in, a Rattle program over this repository's crates, and
-# baseline.rs, the same work in plain Rust. Prints the nanoseconds of a turn and their ratio, and then
-# the instructions of a turn, which don't move with the machine (but for `book` and `desk`, whose rows
-# are no input). For `desk` it prints forwards a second too.
+# bench/baselines/NAME.rs, the same work in plain Rust. Prints the nanoseconds of a turn and their
+# ratio, and then the instructions of a turn, which don't move with the machine (but for `book` and
+# `desk`, whose rows are no input). For `desk` it prints forwards a second too.
 #
 #     scripts/bench.sh packets
 #     scripts/bench.sh quote
@@ -43,7 +43,7 @@ echo "proves and builds the Rattle program (rt run) ..." >&2
 cd "$copy/crates/bench_$name"
 rt run <"$work/input" >"$work/first" 2>"$work/log" || { cat "$work/log" >&2; exit 1; }
 cpu=$(sed -n 's/^logic=.* cpu=\([^ ]*\).*/\1/p' "$work/log" | tail -n 1)
-rustc --edition 2024 -O -C "target-cpu=$cpu" "$bench/baseline.rs" -o "$work/baseline"
+rustc --edition 2024 -O -C "target-cpu=$cpu" "$top/bench/baselines/$name.rs" -o "$work/baseline"
 
 echo "Rattle: proved and built by rt run, for $cpu. Rust: rustc -O for $cpu, std alone."
 if [ "$rounds" -gt 0 ]; then

@@ -1,5 +1,8 @@
 //! What a journal consists of, as in the book.
 
+// Not each program uses all.
+#![allow(dead_code)]
+
 pub struct Entry {
     pub moment: i64,
     pub actor: u32,

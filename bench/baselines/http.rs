@@ -1,4 +1,5 @@
 //! The work of `main.rt.in` in plain Rust over std alone.
+#[path = "parts/http_messages.rs"]
 mod messages;
 
 use messages::{Fault, Pieces, ROOM, Request, read_request, write_response};

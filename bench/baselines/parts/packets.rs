@@ -1,7 +1,6 @@
-//! Packets in plain Rust, read and written as `ilp_packet` does.
-
-// A packet has more kinds of faults than these are looked at.
-#![allow(dead_code)]
+// Packets in plain Rust, read and written as `ilp_packet` does. The program `packets.rs` includes this
+// file, since a module of its own would cost it calls that are not inlined; the others have it as a
+// module.
 
 #[derive(Clone, Copy, PartialEq, Eq)]
 pub enum Fault {
@@ -253,6 +252,14 @@ impl Octets {
     }
 }
 
+pub fn write(out: &mut Octets, packet: &Packet<'_>) {
+    match packet {
+        Packet::Prepare(found) => write_prepare(out, found),
+        Packet::Fulfill(found) => write_fulfill(out, found),
+        Packet::Reject(found) => write_reject(out, found),
+    }
+}
+
 pub fn write_prepare(out: &mut Octets, packet: &Prepare<'_>) {
     let expiry = expiry_write(packet.expires);
     begin(out, 12, 57 + octets_len(packet.destination) + octets_len(packet.payload));
@@ -261,6 +268,21 @@ pub fn write_prepare(out: &mut Octets, packet: &Prepare<'_>) {
     out.append(packet.condition);
     write_string(out, packet.destination);
     write_string(out, packet.payload);
+}
+
+fn write_fulfill(out: &mut Octets, packet: &Fulfill<'_>) {
+    begin(out, 13, 32 + octets_len(packet.payload));
+    out.append(packet.preimage);
+    write_string(out, packet.payload);
+}
+
+fn write_reject(out: &mut Octets, packet: &Reject<'_>) {
+    let fields = [packet.triggered_by, packet.message, packet.payload];
+    begin(out, 14, 3 + fields.into_iter().map(octets_len).sum::<usize>());
+    out.append(packet.code);
+    for field in fields {
+        write_string(out, field);
+    }
 }
 
 // Makes room for the packet, and appends its type and the prefix of its content.

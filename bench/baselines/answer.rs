@@ -1,19 +1,18 @@
 //! The work of `main.rt.in` in plain Rust, over std alone: the same steps in the same order, round one
 //! `Mutex`, over the same walks. Prints what the Rattle program does.
 
-#[path = "../book/entries.rs"]
-#[allow(dead_code)]
-mod entries;
-#[path = "../book/sha256.rs"]
-mod sha256;
-
-#[path = "../desk/book.rs"]
+#[path = "parts/book.rs"]
 mod book;
-#[path = "../http/messages.rs"]
+#[path = "parts/entries.rs"]
+mod entries;
+#[path = "parts/http_messages.rs"]
 mod messages;
-#[path = "../desk/packets.rs"]
+#[path = "parts/packets.rs"]
+#[allow(dead_code)]
 mod packets;
-#[path = "../desk/worker.rs"]
+#[path = "parts/sha256.rs"]
+mod sha256;
+#[path = "parts/worker.rs"]
 mod worker;
 
 use book::{Book, Outcome, PeerReply, lending};
@@ -47,15 +46,15 @@ const ALICE: u32 = 0;
 // ---- a server
 
 // What requests are looked up in, which needs no lock.
-struct Doors {
+struct Endpoint {
     path: Vec<u8>,
     tokens: HashMap<Vec<u8>, u32>,
 }
 
-impl Doors {
-    fn new() -> Doors {
+impl Endpoint {
+    fn new() -> Endpoint {
         let tokens = [(b"a-token".to_vec(), 0), (b"b-token".to_vec(), 1)].into();
-        Doors { path: b"/ilp".to_vec(), tokens }
+        Endpoint { path: b"/ilp".to_vec(), tokens }
     }
 
     // The peer whose token the one Authorization field shows.
@@ -71,13 +70,13 @@ impl Doors {
 }
 
 struct Desk {
-    doors: Doors,
+    endpoint: Endpoint,
     book: Mutex<Book>,
 }
 
 impl Desk {
     fn new() -> Desk {
-        Desk { doors: Doors::new(), book: Mutex::new(Book::new(lending())) }
+        Desk { endpoint: Endpoint::new(), book: Mutex::new(Book::new(lending())) }
     }
 }
 
@@ -115,10 +114,10 @@ fn answer_connection(
 
 // The status by which a request is answered, whose packet is forwarded if it carries one.
 fn serve(worker: &mut Wired, desk: &Desk, request: &Request<'_>) -> u16 {
-    if request.path != desk.doors.path {
+    if request.path != desk.endpoint.path {
         return 404;
     }
-    let Some(peer) = desk.doors.sender_of(&request.headers) else {
+    let Some(peer) = desk.endpoint.sender_of(&request.headers) else {
         return 401;
     };
     match worker.forward(&desk.book, peer, request.body) {
@@ -179,12 +178,12 @@ fn read_one(room: &mut Room, turn: u32) -> u64 {
     fields as u64 + octet_of(request.body, turn)
 }
 
-fn find_one(doors: &Doors, room: &mut Room, turn: u32) -> u64 {
+fn find_one(endpoint: &Endpoint, room: &mut Room, turn: u32) -> u64 {
     let octets = request_of(turn);
     let mut source = Pieces { rest: &octets, piece: WHOLE };
     let Ok(request) = read_request(&mut source, &mut room.buffer) else { panic!("no request") };
-    assert!(request.path == doors.path);
-    let sender = doors.sender_of(&request.headers).expect("a sender");
+    assert!(request.path == endpoint.path);
+    let sender = endpoint.sender_of(&request.headers).expect("a sender");
     u64::from(sender) + octet_of(request.body, turn)
 }
 
@@ -332,12 +331,12 @@ fn main() {
         let desks: u32 = desks.parse().expect("desks");
         let mut room =
             Room { buffer: vec![0; ROOM], sink: Vec::new(), outgoing: Octets::with_capacity(0) };
-        let doors = black_box(Doors::new());
+        let endpoint = black_box(Endpoint::new());
         let done = match name {
             "head" => run_part(&mut room, turns, |_, turn| look_at_one(turn)),
             "request" => run_part(&mut room, turns, read_one),
             "request_and_sender" => {
-                run_part(&mut room, turns, |room, turn| find_one(&doors, room, turn))
+                run_part(&mut room, turns, |room, turn| find_one(&endpoint, room, turn))
             }
             "packet" => run_part(&mut room, turns, pass_one),
             "digests" => run_part(&mut room, turns, |_, turn| digest_one(turn)),

@@ -1,14 +1,16 @@
 //! The same forwards in plain Rust, over std alone: the same steps in the same order round one
 //! `Mutex`, over the same walks. Prints what the Rattle program does.
 
-#[path = "../book/entries.rs"]
-#[allow(dead_code)]
-mod entries;
-#[path = "../book/sha256.rs"]
-mod sha256;
-
+#[path = "parts/book.rs"]
 mod book;
+#[path = "parts/entries.rs"]
+mod entries;
+#[path = "parts/packets.rs"]
+#[allow(dead_code)]
 mod packets;
+#[path = "parts/sha256.rs"]
+mod sha256;
+#[path = "parts/worker.rs"]
 mod worker;
 
 use book::{Book, Outcome, PeerReply, lending};

@@ -68,11 +68,11 @@ struct Record {
     amount: u64,
     out: u64,
     condition: [u8; 32],
-    ending: Ending,
+    verdict: Verdict,
 }
 
 #[derive(Clone, Copy)]
-enum Ending {
+enum Verdict {
     Fulfilled,
     Released(Cause),
 }
@@ -85,9 +85,9 @@ enum Told {
     Rejected,
 }
 
-struct Closing {
+struct ReplyEffect {
     answer: PeerReply,
-    ending: Ending,
+    verdict: Verdict,
     told: Told,
 }
 
@@ -150,11 +150,11 @@ impl<C: Clock, U: Uplink> Worker<C, U> {
             return Told::Rejected;
         };
         self.entries += 1;
-        let closing = self.ask(packet, &held);
-        self.end(desk, from, packet, &held, closing)
+        let effect = self.send_on(packet, &held);
+        self.end(desk, from, packet, &held, effect)
     }
 
-    fn ask(&mut self, packet: &Prepare<'_>, held: &Held) -> Closing {
+    fn send_on(&mut self, packet: &Prepare<'_>, held: &Held) -> ReplyEffect {
         let onward = Prepare {
             amount: held.out,
             expires: held.deadline,
@@ -170,7 +170,7 @@ impl<C: Clock, U: Uplink> Worker<C, U> {
             held.deadline,
             &mut self.incoming,
         );
-        closing_by(packet.condition, came, self.incoming.as_slice())
+        effect_by(packet.condition, came, self.incoming.as_slice())
     }
 
     fn end(
@@ -179,17 +179,17 @@ impl<C: Clock, U: Uplink> Worker<C, U> {
         from: u32,
         packet: &Prepare<'_>,
         held: &Held,
-        closing: Closing,
+        effect: ReplyEffect,
     ) -> Told {
         let later = self.clock.now();
-        let outcome = desk.lock().unwrap().answer(self.actor, held.number, closing.answer, later);
-        let (number, ending) = match outcome {
-            Ok(Outcome::Fulfilled { entry }) => (entry, Ending::Fulfilled),
-            Ok(Outcome::Released { entry, cause }) => (entry, Ending::Released(cause)),
+        let outcome = desk.lock().unwrap().answer(self.actor, held.number, effect.answer, later);
+        let (number, verdict) = match outcome {
+            Ok(Outcome::Fulfilled { entry }) => (entry, Verdict::Fulfilled),
+            Ok(Outcome::Released { entry, cause }) => (entry, Verdict::Released(cause)),
             Err(_) => return Told::Rejected,
         };
         self.entries += 1;
-        if !are_same(&ending, &closing.ending) {
+        if !are_same(&verdict, &effect.verdict) {
             return Told::Rejected;
         }
         self.records.push(Record {
@@ -200,16 +200,16 @@ impl<C: Clock, U: Uplink> Worker<C, U> {
             amount: packet.amount,
             out: held.out,
             condition: *packet.condition,
-            ending,
+            verdict,
         });
-        closing.told
+        effect.told
     }
 }
 
-fn are_same(one: &Ending, other: &Ending) -> bool {
+fn are_same(one: &Verdict, other: &Verdict) -> bool {
     match (one, other) {
-        (Ending::Fulfilled, Ending::Fulfilled) => true,
-        (Ending::Released(one), Ending::Released(other)) => match (one, other) {
+        (Verdict::Fulfilled, Verdict::Fulfilled) => true,
+        (Verdict::Released(one), Verdict::Released(other)) => match (one, other) {
             (Cause::Late, Cause::Late) => true,
             (Cause::WrongPreimage, Cause::WrongPreimage) => true,
             (Cause::NoReply, Cause::NoReply) => true,
@@ -220,40 +220,40 @@ fn are_same(one: &Ending, other: &Ending) -> bool {
     }
 }
 
-fn closing_by(condition: &[u8; 32], came: Result<(), LinkFault>, reply: &[u8]) -> Closing {
+fn effect_by(condition: &[u8; 32], came: Result<(), LinkFault>, reply: &[u8]) -> ReplyEffect {
     if came.is_ok() {
         match read(reply) {
             Ok(Packet::Fulfill(fulfill)) => {
-                return closing_by_fulfill(condition, fulfill.preimage);
+                return effect_by_fulfill(condition, fulfill.preimage);
             }
             Ok(Packet::Reject(reject)) => {
-                return Closing {
+                return ReplyEffect {
                     answer: PeerReply::Reject(*reject.code),
-                    ending: Ending::Released(Cause::Peer(*reject.code)),
+                    verdict: Verdict::Released(Cause::Peer(*reject.code)),
                     told: Told::Passed,
                 };
             }
             Ok(Packet::Prepare(_)) | Err(_) => {}
         }
     }
-    Closing {
+    ReplyEffect {
         answer: PeerReply::NoReply,
-        ending: Ending::Released(Cause::NoReply),
+        verdict: Verdict::Released(Cause::NoReply),
         told: Told::Rejected,
     }
 }
 
-fn closing_by_fulfill(condition: &[u8; 32], preimage: &[u8; 32]) -> Closing {
+fn effect_by_fulfill(condition: &[u8; 32], preimage: &[u8; 32]) -> ReplyEffect {
     if sha256(preimage) == *condition {
-        Closing {
+        ReplyEffect {
             answer: PeerReply::Fulfill(*preimage),
-            ending: Ending::Fulfilled,
+            verdict: Verdict::Fulfilled,
             told: Told::Passed,
         }
     } else {
-        Closing {
+        ReplyEffect {
             answer: PeerReply::BadFulfill,
-            ending: Ending::Released(Cause::WrongPreimage),
+            verdict: Verdict::Released(Cause::WrongPreimage),
             told: Told::Rejected,
         }
     }
