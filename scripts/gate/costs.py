@@ -3,8 +3,9 @@
 table of docs/GATE.md, in processor seconds, which depend less on what else runs than minutes do.
 
     scripts/gate/costs.py             one row a crate, of what was not kept from earlier gates
-    scripts/gate/costs.py --anew      from nothing, and what a change of each crate costs
+    scripts/gate/costs.py --anew      from nothing
     scripts/gate/costs.py --edits     each wrong body as well, dearest first
+    scripts/gate/costs.py NAME ..     of these crates and those below them alone
 
 It watches the prover's processes in /proc while the gate runs, so that what a process spent in its
 last half second is missed, and what a copy of it spent that ended then; the line of the whole is what
@@ -136,9 +137,8 @@ def main():
         clone = f"{room}/clone"
         subprocess.run(["git", "clone", "-q", top, clone], check=True)
         began = time.time()
-        is_anew = "--anew" in sys.argv[1:]
-        command = ["rt", "ci", "--anew"] if is_anew else [".ci/run"]
-        gate = subprocess.Popen(command, cwd=clone, stdout=sys.stderr, start_new_session=True)
+        passed_on = [word for word in sys.argv[1:] if word != "--edits"]
+        gate = subprocess.Popen(["rt", "ci", *passed_on], cwd=clone, stdout=sys.stderr, start_new_session=True)
         try:
             seen = watch(gate)
         finally:
@@ -146,8 +146,7 @@ def main():
             gate.wait()
         spent = resource.getrusage(resource.RUSAGE_CHILDREN)
         costs = table(clone, seen)
-        if is_anew:
-            changes(clone, costs)
+        changes(clone, costs)
         minutes = (spent.ru_utime + spent.ru_stime) / 60
         print(f"\n{minutes:.1f} processor minutes in {(time.time() - began) / 60:.1f} minutes, on {os.cpu_count()} cores.")
         if "--edits" in sys.argv[1:]:
