@@ -5,7 +5,7 @@
 #     scripts/build.sh
 #     scripts/build.sh ~/.local/bin
 #
-# It needs rt and python3. In a fresh clone the proofs take minutes (prove.py has them run side by
+# It needs rt and python3. In a fresh clone the proofs take minutes (building/prove.py has them run side by
 # side); what was proved is kept in crates/*/out, so that a second build takes seconds. Where a proof
 # fails, no program is built or installed, and one of an earlier build stays as it was.
 set -eu
@@ -23,7 +23,7 @@ esac
 
 crate=$(CDPATH= cd -- "$(dirname -- "$0")/../crates/connector" && pwd)
 cd "$crate"
-../../scripts/prove.py connector
+../../scripts/building/prove.py connector
 told=$(mktemp)
 trap 'rm -f "$told"' EXIT
 trap 'exit 1' INT TERM

@@ -2,7 +2,7 @@
 """Proves a crate's libraries, each as soon as those below it are there, as many side by side as there
 are processors.
 
-    scripts/prove.py connector
+    scripts/building/prove.py connector
 
 A command of the kit keeps all others out of the crates that its own stands on. So each proof runs in
 one of several copies of the sources, between which the kit shares what was proved, and the libraries
@@ -19,7 +19,7 @@ import sys
 import tempfile
 import time
 
-TOP = os.path.dirname(os.path.dirname(os.path.abspath(__file__)))
+TOP = os.path.dirname(os.path.dirname(os.path.dirname(os.path.abspath(__file__))))
 LANES = os.cpu_count() or 1
 
 
@@ -85,7 +85,7 @@ def prove_all(below, left, lanes):
 def main():
     below = crates()
     if len(sys.argv) != 2 or sys.argv[1] not in below:
-        sys.exit("usage: scripts/prove.py CRATE")
+        sys.exit("usage: scripts/building/prove.py CRATE")
     left = libraries(below, sys.argv[1])
     with tempfile.TemporaryDirectory(prefix="prove-") as room:
         lanes = queue.Queue()
