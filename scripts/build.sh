@@ -5,9 +5,9 @@
 #     scripts/build.sh
 #     scripts/build.sh ~/.local/bin
 #
-# It needs rt and python3. In a fresh clone the proofs take minutes (building/prove.py has them run side by
-# side); what was proved is kept in crates/*/out, so that a second build takes seconds. Where a proof
-# fails, no program is built or installed, and one of an earlier build stays as it was.
+# It needs rt and python3. In a fresh clone the proofs take minutes; building/prove.py has them run
+# side by side. What was proved is kept in crates/*/out, so that a second build takes seconds. Where a
+# proof fails, no program is built or installed, and one of an earlier build stays as it was.
 set -eu
 
 if [ $# -gt 1 ]; then
