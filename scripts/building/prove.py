@@ -20,7 +20,7 @@ import tempfile
 import time
 
 TOP = os.path.dirname(os.path.dirname(os.path.dirname(os.path.abspath(__file__))))
-LANES = os.cpu_count() or 1
+LANES = len(os.sched_getaffinity(0))
 
 
 def crates():
