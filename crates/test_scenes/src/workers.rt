@@ -1,5 +1,8 @@
 //! Scenes of desks whose actors pass packets between alice and bob.
 
+ghost use Rattle.std.specs.Prelude.{◌≡◌};
+ghost use Rattle.ilp_desk.specs.Desk.{actors_of, base_of};
+
 mod at_once;
 mod forwards;
 mod gathering;
@@ -9,18 +12,21 @@ mod quiet;
 mod reporting;
 mod sweeping;
 
-use crate::opening::{Play, open_desk};
 use crate::row::{moments_of, octets_of, said};
 use at_once::forward_two;
 use forwards::forward_one;
 use gathering::{Missing, close};
+use ilp_accounts::Config;
+use ilp_book::Book;
 use ilp_desk::{Desk, Naming, Share};
 use many::forward_all;
 use memory::deny_each;
-use std::io;
+use std::marker::Brand;
 use std::rt::Files;
 use std::sync::Wait;
+use std::sync::ledger::Blank;
 use std::thread::Threads;
+use std::{fs, io};
 use sweeping::forward_slowly;
 
 /// What is done with a desk.
@@ -73,11 +79,12 @@ pub(crate) struct Given<'a> {
 #[derive(Clone, Copy)]
 struct Scene<'a> {
     act: Act,
+    workers: u32,
     given: Given<'a>,
 }
 
-impl<R: Print + Threads + Wait + Sync> Play<R> for Scene<'_> {
-    fn play<J: Naming + Send + Sync>(
+impl Scene<'_> {
+    fn play<J: Naming + Send + Sync, R: Print + Threads + Wait + Sync>(
         &self,
         rt: &R,
         desk: Desk<J>,
@@ -103,14 +110,74 @@ pub(crate) fn print_scene<R: Files + Print + AllocGlobal + Threads + Wait + Sync
     let packet = octets_of(alloc, said(lines, "alice").unwrap_or(""))?;
     let other = octets_of(alloc, said(lines, "other").unwrap_or(""))?;
     let reply = octets_of(alloc, said(lines, "bob").unwrap_or(""))?;
-    let Some(act) = Act::of(said(lines, "act").unwrap_or("")) else {
-        return println!(rt; "no act");
-    };
     let given = Given {
         moments: moments_of(said(lines, "clock").unwrap_or("")).unwrap_or((0, 0)),
         packet: &packet,
         other: &other,
         came: said(lines, "bob").map(|_| reply.as_slice()),
     };
-    open_desk(rt, lines, &Scene { act, given })
+    print_given(rt, lines, given)
+}
+
+fn print_given<R: Files + Print + AllocGlobal + Threads + Wait + Sync>(
+    rt: &R,
+    lines: &str,
+    given: Given<'_>,
+) -> io::Result<()> {
+    let Some(act) = Act::of(said(lines, "act").unwrap_or("")) else {
+        return println!(rt; "no act");
+    };
+    let workers = said(lines, "workers").unwrap_or("1");
+    let scene = Scene {
+        act,
+        workers: workers.parse::<u32>().unwrap_or(1),
+        given,
+    };
+    print_over(rt, said(lines, "over").unwrap_or(""), &scene)
+}
+
+// Plays the scene over a configuration.
+fn print_over<R: Files + Print + AllocGlobal + Threads + Wait + Sync>(
+    rt: &R,
+    name: &str,
+    scene: &Scene<'_>,
+) -> io::Result<()> {
+    let octets = fs::read(rt, name)?;
+    match Config::read(rt.alloc(), &octets) {
+        Ok(config) => play_over(rt, &config, scene),
+        Err(fault) => println!(rt; "no configuration: {fault}"),
+    }
+}
+
+// Plays the scene at a desk over a book of no entries.
+fn play_over<R: Print + Threads + Wait + Sync>(
+    rt: &R,
+    config: &Config,
+    scene: &Scene<'_>,
+) -> io::Result<()> {
+    let book = Book::new(config.allocator(), config)?;
+    let blanks = Blank::new(u64::from(scene.workers) + 2);
+    play_on::<Brand, R>(rt, config, book, scene.workers, blanks, scene)
+}
+
+// Opens a desk over this book, and plays the scene there. It stands apart from `opening`, since what is
+// sent to threads may not rest on a bound of a trait's method.
+fn play_on<J: Naming + Send + Sync, R: Print + Threads + Wait + Sync>(
+    rt: &R,
+    config: &Config,
+    book: Book,
+    workers: u32,
+    blanks: Blank,
+    scene: &Scene<'_>,
+) -> io::Result<()>
+    requires config { (config.now ≡ J.desk.config) × (book.config ≡ J.desk.config) }
+    requires workers { workers ≡ J.desk.workers }
+    requires opening { (book.entries ≡ J.desk.opening) × (book.base ≡ base_of J.desk) }
+    requires ledger { (blanks.name ≡ J.name) × (blanks.parts ≡ J.parts) }
+    requires parts { J.parts ≡ actors_of J.desk }
+{
+    match Desk::<J>::open(config.allocator(), config, book, workers, blanks) {
+        Ok((desk, shares)) => scene.play(rt, desk, shares),
+        Err(_) => println!(rt; "no desk"),
+    }
 }
