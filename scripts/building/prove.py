@@ -1,6 +1,6 @@
 #!/usr/bin/env python3
-"""Proves a crate's libraries, each as soon as those below it are there, as many side by side as there
-are processors.
+"""Proves a crate's libraries, each as soon as those below it are there, side by side on all processors.
+First come those with the longest chain of others above them, and what stands alone gets all processors.
 
     scripts/building/prove.py connector
 
@@ -45,6 +45,25 @@ def libraries(below, name):
     return found
 
 
+def chains(below, names):
+    """How many lines are to be proved in the longest chain of these that begins with each."""
+    def lines(name):
+        return sum(
+            len(open(f"{folder}/{file}", "rb").readlines())
+            for part in ("src", "specs", "proofs")
+            for folder, _, files in os.walk(f"{TOP}/crates/{name}/{part}")
+            for file in files
+        )
+
+    lengths = {}
+    while len(lengths) < len(names):
+        for name in names - lengths.keys():
+            above = {high for high in names if name in below[high]}
+            if above <= lengths.keys():
+                lengths[name] = lines(name) + max((lengths[high] for high in above), default=0)
+    return lengths
+
+
 def lane(room, number):
     """A copy of the sources."""
     to = f"{room}/{number}"
@@ -54,11 +73,12 @@ def lane(room, number):
     return to
 
 
-def prove(lanes, name):
-    """Proves one library, whose own libraries are there, in a lane that is free."""
+def prove(lanes, name, jobs):
+    """Proves one library, whose own libraries are there, in a lane that is free, on so many processors."""
     place, begun = lanes.get(), time.monotonic()
+    words = ["rt", "lib", "--jobs", str(jobs)]
     try:
-        proof = subprocess.run(["rt", "lib"], cwd=f"{place}/crates/{name}", capture_output=True, text=True)
+        proof = subprocess.run(words, cwd=f"{place}/crates/{name}", capture_output=True, text=True)
     finally:
         lanes.put(place)
     return proof, time.monotonic() - begun
@@ -66,15 +86,19 @@ def prove(lanes, name):
 
 def prove_all(below, left, lanes):
     """Proves the libraries, lowest first."""
-    done, running = set(), {}
+    chain, done, running, idle = chains(below, left), set(), {}, LANES
     with concurrent.futures.ThreadPoolExecutor(LANES) as pool:
         while left or running:
-            for name in sorted(name for name in left if done.issuperset(below[name])):
-                running[pool.submit(prove, lanes, name)] = name
+            ready = sorted((name for name in left if done.issuperset(below[name])), key=lambda name: -chain[name])
+            for place, name in enumerate(ready[:idle]):
+                jobs = max(1, idle // (len(ready) - place))
+                running[pool.submit(prove, lanes, name, jobs)] = name, jobs
                 left.remove(name)
+                idle -= jobs
             ended, _ = concurrent.futures.wait(running, return_when=concurrent.futures.FIRST_COMPLETED)
             for proof in ended:
-                name = running.pop(proof)
+                name, jobs = running.pop(proof)
+                idle += jobs
                 result, seconds = proof.result()
                 if result.returncode != 0:
                     sys.exit(f"{result.stdout}{result.stderr}prove.py: {name} is not proved")

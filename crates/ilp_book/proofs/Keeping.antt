@@ -7,10 +7,11 @@ use Rattle.ilp_journal.specs.declared.entry.Entry.{Entry}
 use Rattle.ilp_journal.specs.declared.entry.What.{What}
 use Rattle.ilp_journal.specs.declared.entry.What.TheVariants as what
 use Rattle.ilp_journal.specs.Booked.{Booked}
-use Rattle.ilp_journal.specs.Journal.{Entries, AnswersOnce, ClosesOnce, open_count, opening, closing, last_moment}
+use Rattle.ilp_journal.specs.Journal.{Entries, AnswersHold, ClosesAsk, AnswersOnce, ClosesOnce, open_count, opening, closing, last_moment}
 use Rattle.ilp_journal.proofs.Sums.{Each-parts}
 use Rattle.ilp_journal.proofs.Growth.{open_count-push}
 use Rattle.ilp_journal.proofs.Bases.{base_zero, base-push}
+use Rattle.ilp_journal.proofs.Closers.{AnswersHold-once, ClosesAsk-once}
 use Rattle.ilp_book.specs.Book.{PlainBook, pushed}
 use Rattle.ilp_book.specs.Lawful.{IsLawful}
 use Rattle.ilp_book.specs.Parts.{AreParts, book_of}
@@ -46,6 +47,16 @@ last_entry_stands (x ∷ xs) none = absurd (from x xs (length (x ∷ xs) - 1) (o
   from y [] (suc k) size none = omega arith
   from y (z ∷ zs) zero size none = omega arith
   from y (z ∷ zs) (suc k) size none = from z zs k (omega arith) none
+
+-- ---- what is named
+
+-- a lawful entry answers a hold that stands before it
+pub names_hold : (book : PlainBook) (e : Entry) → IsLawful (pushed book e) → AnswersHold book.entries e
+names_hold book e after = AnswersHold-once book.entries e (Each-parts AnswersOnce book.entries e after.answers).1
+
+-- and closes a settlement that stands before it
+pub names_ask : (book : PlainBook) (e : Entry) → IsLawful (pushed book e) → ClosesAsk book.entries e
+names_ask book e after = ClosesAsk-once book.entries e (Each-parts ClosesOnce book.entries e after.closings).1
 
 -- ---- what ends
 

@@ -9,7 +9,6 @@ pub mod Runs
 pub mod FirstAnswer
 pub mod Keeping
 pub mod Earliest
-pub mod Ended
 pub mod Prefixes
 pub mod KeptOnce
 pub mod SettledForGood

@@ -1,8 +1,6 @@
 //! Which holds are open, and how one ends.
-ghost use Rattle.std.specs.Prelude.{◌≡◌, slice_get, option_and_then, is_some};
-ghost use Rattle.ilp_journal.specs.declared.entry.Entry.{Entry};
-ghost use Rattle.ilp_journal.specs.Places.{Each};
-ghost use Rattle.ilp_journal.specs.Journal.{AnswersOnce, answer_of, open_hold_at, answered, is_number};
+ghost use Rattle.std.specs.Prelude.{◌≡◌};
+ghost use Rattle.ilp_journal.specs.Journal.{open_hold_at};
 ghost use Rattle.ilp_book.specs.Open.{earlier, earliest, open_with_number};
 ghost use Rattle.ilp_book.specs.AnswerStep.{verdict};
 
@@ -13,48 +11,17 @@ use std::alloc::Allocator;
 
 /// The hold under a number, if it is open.
 pub(crate) fn open_hold_at<A: Allocator>(journal: &Journal<A>, number: u32) -> Option<Hold>
-    requires { Each AnswersOnce journal.now.entries }
     ensures { result ≡ open_hold_at journal.now.entries number }
 {
-    let Some(hold) = journal.hold(number) else {
-        return None;
-    };
-    if is_answered(journal, number) {
+    let hold = journal.hold(number)?;
+    if journal.answer_of(number).is_some() {
         return None;
     }
     Some(hold)
 }
 
-// Whether an entry answers the hold of a number. Such an entry stands after the hold.
-fn is_answered<A: Allocator>(journal: &Journal<A>, number: u32) -> bool
-    requires { Each AnswersOnce journal.now.entries }
-    ensures { result ≡ is_some (answer_of journal.now.entries number) }
-{
-    for place in number..journal.len() {
-        if answers(journal, place, number) {
-            return true;
-        }
-    }
-    false
-}
-
-// Whether the entry at a place answers the hold of a number.
-fn answers<A: Allocator>(journal: &Journal<A>, place: u32, number: u32) -> bool
-    ensures { result ≡ is_number number
-        (option_and_then (λ (e : Entry). answered e.what) (slice_get journal.now.entries place)) }
-{
-    match journal.get(place) {
-        Some(entry) => match entry.what.answered() {
-            Some(hold) => number == hold,
-            None => false,
-        },
-        None => false,
-    }
-}
-
 /// The open hold of least deadline, and of several the first, with its number.
 pub(crate) fn earliest_open<A: Allocator>(journal: &Journal<A>) -> Option<(u32, Hold)>
-    requires { Each AnswersOnce journal.now.entries }
     ensures { result ≡ earliest journal.now.entries }
 {
     let mut earliest = None;
@@ -66,7 +33,6 @@ pub(crate) fn earliest_open<A: Allocator>(journal: &Journal<A>) -> Option<(u32, 
 
 // The hold under a number, if it is open, with the number.
 fn open_with_number<A: Allocator>(journal: &Journal<A>, number: u32) -> Option<(u32, Hold)>
-    requires { Each AnswersOnce journal.now.entries }
     ensures { result ≡ open_with_number journal.now.entries number }
 {
     match open_hold_at(journal, number) {

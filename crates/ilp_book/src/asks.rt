@@ -1,10 +1,10 @@
 //! Settlements to peers: which are open, and what is asked for.
-ghost use Rattle.std.specs.Prelude.{◌≡◌, ◌≤ℤ◌, ◌<ℤ◌, pos, slice_get, option_and_then, is_some, IfSome};
+ghost use Rattle.std.specs.Prelude.{◌≡◌, ◌≤ℤ◌, ◌<ℤ◌, pos, ◌&&◌, IfSome};
 ghost use Rattle.ilp_accounts.specs.declared.peer.Levels.{Levels};
 ghost use Rattle.ilp_journal.specs.declared.entry.Entry.{Entry};
-ghost use Rattle.ilp_journal.specs.Places.{Each};
+ghost use Rattle.ilp_journal.specs.Places.{passes_at};
 ghost use Rattle.ilp_journal.specs.Booked.{most_sum};
-ghost use Rattle.ilp_journal.specs.Journal.{ClosesOnce, closed, closing_of, is_number, open_ask_at};
+ghost use Rattle.ilp_journal.specs.Journal.{is_unclosed, open_ask_at};
 ghost use Rattle.ilp_book.specs.Open as opens;
 ghost use Rattle.ilp_book.specs.Lawful.{owed_above};
 ghost use Rattle.ilp_book.specs.SettleStep as settles;
@@ -16,11 +16,10 @@ use std::alloc::Allocator;
 
 /// The settlement under a number, if it is open.
 pub(crate) fn open_ask_at<A: Allocator>(journal: &Journal<A>, number: u32) -> Option<Ask>
-    requires { Each ClosesOnce journal.now.entries }
     ensures { result ≡ open_ask_at journal.now.entries number }
 {
     let ask = journal.ask(number)?;
-    if is_closed(journal, number) {
+    if journal.closing_of(number).is_some() {
         return None;
     }
     Some(ask)
@@ -28,7 +27,6 @@ pub(crate) fn open_ask_at<A: Allocator>(journal: &Journal<A>, number: u32) -> Op
 
 /// The refusal where a settlement to the peer is open, of which there may be one at a time.
 pub(crate) fn still_open<A: Allocator>(journal: &Journal<A>, peer: u32) -> Option<AskFault>
-    requires { Each ClosesOnce journal.now.entries }
     ensures { result ≡ settles.still_open journal.now.entries peer }
 {
     let (number, ask) = first_open_ask(journal, peer)?;
@@ -40,7 +38,6 @@ pub(crate) fn still_open<A: Allocator>(journal: &Journal<A>, peer: u32) -> Optio
 
 // The open settlement to a peer that has the least number, with that number.
 fn first_open_ask<A: Allocator>(journal: &Journal<A>, peer: u32) -> Option<(u32, Ask)>
-    requires { Each ClosesOnce journal.now.entries }
     ensures { result ≡ opens.first_open_ask journal.now.entries peer }
 {
     let number = first_open_number(journal, peer)?;
@@ -49,16 +46,27 @@ fn first_open_ask<A: Allocator>(journal: &Journal<A>, peer: u32) -> Option<(u32,
 }
 
 // The least number of an open settlement to a peer.
+#[tactic(auto, using(ilp_journal::proofs::Sums::first_from_step))]
 fn first_open_number<A: Allocator>(journal: &Journal<A>, peer: u32) -> Option<u32>
-    requires { Each ClosesOnce journal.now.entries }
     ensures { result ≡ opens.first_open_number journal.now.entries peer }
 {
-    for (number, entry) in journal.entries().iter().enumerate() {
-        if is_ask_of(peer, &entry.what) && !is_closed(journal, number as u32) {
-            return Some(number as u32);
+    for number in 0..journal.len() {
+        if is_open_ask_of(journal, peer, number) {
+            return Some(number);
         }
     }
     None
+}
+
+// Whether the entry of a number asks for a settlement to the peer that is open.
+fn is_open_ask_of<A: Allocator>(journal: &Journal<A>, peer: u32, number: u32) -> bool
+    ensures { result ≡ passes_at (λ (e : Entry). opens.is_ask_of peer e.what
+        && is_unclosed journal.now.entries number) journal.now.entries number }
+{
+    match journal.get(number) {
+        Some(entry) => is_ask_of(peer, &entry.what) && journal.closing_of(number).is_none(),
+        None => false,
+    }
 }
 
 // Whether an entry asks for a settlement to the peer.
@@ -68,33 +76,6 @@ fn is_ask_of(peer: u32, what: &What) -> bool
     match what {
         What::Asked(ask) => ask.peer == peer,
         _ => false,
-    }
-}
-
-// Whether an entry closes the settlement of a number. Such an entry stands after the settlement.
-fn is_closed<A: Allocator>(journal: &Journal<A>, number: u32) -> bool
-    requires { Each ClosesOnce journal.now.entries }
-    ensures { result ≡ is_some (closing_of journal.now.entries number) }
-{
-    for place in number..journal.len() {
-        if closes(journal, place, number) {
-            return true;
-        }
-    }
-    false
-}
-
-// Whether the entry at a place closes the settlement of a number.
-fn closes<A: Allocator>(journal: &Journal<A>, place: u32, number: u32) -> bool
-    ensures { result ≡ is_number number
-        (option_and_then (λ (e : Entry). closed e.what) (slice_get journal.now.entries place)) }
-{
-    match journal.get(place) {
-        Some(entry) => match entry.what.closed() {
-            Some(ask) => number == ask,
-            None => false,
-        },
-        None => false,
     }
 }
 

@@ -137,49 +137,6 @@ impl<A: Allocator> Book<A> {
         }
     }
 
-    /// Holds a Prepare's amount against the balance of its sender, and takes the memory for the
-    /// entry that ends the hold too. The refusals come in the order of `HoldFault`; each leaves
-    /// the book as it was.
-    pub fn hold(
-        &mut self,
-        actor: u32,
-        from: u32,
-        prepare: &Prepare<'_>,
-        now: i64,
-    ) -> Result<Held, HoldFault>
-        requires known { IsKnown self.old.config from }
-        ensures step { Does self.old self.new result (hold_step self.old (by actor now)
-            (incoming self.old.config from (plain_prepare prepare.now)) (growth_of result)) }
-        ensures lawful { IsLawful self.new }
-        ensures err { OnErr result (self.new ≡ self.old) }
-    {
-        let destination = prepare.destination;
-        let route = self.config.route(destination);
-        self.hold_routed(actor, from, prepare, route, now)
-    }
-
-    // Holds a Prepare whose route was looked up.
-    #[tactic(auto, unfolding(crate::specs::HoldStep::hold_step, crate::specs::HoldStep::hold_checked))]
-    fn hold_routed(
-        &mut self,
-        actor: u32,
-        from: u32,
-        prepare: &Prepare<'_>,
-        route: Option<u32>,
-        now: i64,
-    ) -> Result<Held, HoldFault>
-        requires known { IsKnown self.old.config from }
-        requires route { IsRoute self.old.config.routes prepare.now.destination.now route }
-        ensures step { Does self.old self.new result (hold_step self.old (by actor now)
-            (given_route from (plain_prepare prepare.now) route) (growth_of result)) }
-        ensures lawful { IsLawful self.new }
-        ensures err { OnErr result (self.new ≡ self.old) }
-    {
-        let moment = self.moment_at(now);
-        let hold = hold_terms(&self.config, moment, from, prepare, route)?;
-        self.book_hold(actor, now, hold)
-    }
-
     /// Books what came back for a hold, if it is open: a preimage that meets the condition before
     /// the deadline fulfills it, and all else releases it, as `Late` from the deadline on. The hold
     /// has made room, so no memory is taken. A refusal names the entry that ended the hold, and
@@ -256,6 +213,108 @@ impl<A: Allocator> Book<A> {
     }
 }
 
+// The call that takes memory of the journal, and what it is made of.
+impl<A: Allocator + Clone> Book<A> {
+    /// Holds a Prepare's amount against the balance of its sender, and takes the memory for the
+    /// entry that ends the hold too. The refusals come in the order of `HoldFault`; each leaves
+    /// the book as it was.
+    pub fn hold(
+        &mut self,
+        actor: u32,
+        from: u32,
+        prepare: &Prepare<'_>,
+        now: i64,
+    ) -> Result<Held, HoldFault>
+        requires known { IsKnown self.old.config from }
+        ensures step { Does self.old self.new result (hold_step self.old (by actor now)
+            (incoming self.old.config from (plain_prepare prepare.now)) (growth_of result)) }
+        ensures lawful { IsLawful self.new }
+        ensures err { OnErr result (self.new ≡ self.old) }
+    {
+        let destination = prepare.destination;
+        let route = self.config.route(destination);
+        self.hold_routed(actor, from, prepare, route, now)
+    }
+
+    // Holds a Prepare whose route was looked up.
+    #[tactic(auto, unfolding(crate::specs::HoldStep::hold_step, crate::specs::HoldStep::hold_checked))]
+    fn hold_routed(
+        &mut self,
+        actor: u32,
+        from: u32,
+        prepare: &Prepare<'_>,
+        route: Option<u32>,
+        now: i64,
+    ) -> Result<Held, HoldFault>
+        requires known { IsKnown self.old.config from }
+        requires route { IsRoute self.old.config.routes prepare.now.destination.now route }
+        ensures step { Does self.old self.new result (hold_step self.old (by actor now)
+            (given_route from (plain_prepare prepare.now) route) (growth_of result)) }
+        ensures lawful { IsLawful self.new }
+        ensures err { OnErr result (self.new ≡ self.old) }
+    {
+        let moment = self.moment_at(now);
+        let hold = hold_terms(&self.config, moment, from, prepare, route)?;
+        self.book_hold(actor, now, hold)
+    }
+
+    // Books a hold of allowed terms, if there is room, totals and balance for it.
+    #[tactic(auto, unfolding(crate::specs::HoldStep::hold_fitted))]
+    fn book_hold(&mut self, actor: u32, now: i64, hold: Hold) -> Result<Held, HoldFault>
+        requires terms { HasTerms self.old.config (moment_at self.old.entries now) hold }
+        ensures step { Does self.old self.new result (hold_booked self.old (by actor now)
+            (growth_of result) (hold_fitted self.old hold)) }
+        ensures lawful { IsLawful self.new }
+        ensures err { OnErr result (self.new ≡ self.old) }
+    {
+        if !self.has_room(2) {
+            return Err(HoldFault::Full);
+        }
+        if !self.has_total(&hold) {
+            return Err(HoldFault::TotalFull);
+        }
+        let balance = self.journal.balance(hold.from);
+        if is_short(balance, hold.amount, self.config.least(hold.from)) {
+            return Err(HoldFault::BelowLeast { balance });
+        }
+        let moment = self.moment_at(now);
+        let what = What::Hold(hold);
+        let entry = Entry {
+            moment,
+            actor,
+            what,
+        };
+        let Ok(number) = self.append(entry, 1) else {
+            return Err(HoldFault::Memory);
+        };
+        Ok(Held {
+            number,
+            to: hold.to,
+            out: hold.out,
+            deadline: hold.deadline,
+        })
+    }
+
+    // Books an entry that ends nothing, with room for whatever ends what it opens and what is open
+    // already, and tells its number.
+    fn append(&mut self, entry: Entry, opened: u32) -> Result<u32, AllocError>
+        requires opened { opening entry.what ≡ opened }
+        requires ends_nothing { closing entry.what ≡ 0 }
+        requires lawful { IsLawful (pushed self.old entry) }
+        ensures number { IfOk result (λ number. number ≡ length self.old.entries) }
+        ensures book { OnOk result (self.new ≡ pushed self.old entry) }
+        ensures err { OnErr result (self.new ≡ self.old) }
+        ensures lawful { IsLawful self.new }
+    {
+        let number = self.journal.len();
+        let needed = u64::from(self.open_count) + u64::from(opened) + 1;
+        self.journal.reserve(needed as usize)?;
+        self.journal.push_reserved(entry);
+        self.open_count += opened;
+        Ok(number)
+    }
+}
+
 // What the calls are made of.
 impl<A: Allocator> Book<A> {
     // A total of the journal.
@@ -327,43 +386,6 @@ impl<A: Allocator> Book<A> {
         moment_at(&self.journal, now)
     }
 
-    // Books a hold of allowed terms, if there is room, totals and balance for it.
-    #[tactic(auto, unfolding(crate::specs::HoldStep::hold_fitted))]
-    fn book_hold(&mut self, actor: u32, now: i64, hold: Hold) -> Result<Held, HoldFault>
-        requires terms { HasTerms self.old.config (moment_at self.old.entries now) hold }
-        ensures step { Does self.old self.new result (hold_booked self.old (by actor now)
-            (growth_of result) (hold_fitted self.old hold)) }
-        ensures lawful { IsLawful self.new }
-        ensures err { OnErr result (self.new ≡ self.old) }
-    {
-        if !self.has_room(2) {
-            return Err(HoldFault::Full);
-        }
-        if !self.has_total(&hold) {
-            return Err(HoldFault::TotalFull);
-        }
-        let balance = self.journal.balance(hold.from);
-        if is_short(balance, hold.amount, self.config.least(hold.from)) {
-            return Err(HoldFault::BelowLeast { balance });
-        }
-        let moment = self.moment_at(now);
-        let what = What::Hold(hold);
-        let entry = Entry {
-            moment,
-            actor,
-            what,
-        };
-        let Ok(number) = self.append(entry, 1) else {
-            return Err(HoldFault::Memory);
-        };
-        Ok(Held {
-            number,
-            to: hold.to,
-            out: hold.out,
-            deadline: hold.deadline,
-        })
-    }
-
     // Whether so many more entries fit, beside those that end what is open.
     fn has_room(&self, more: u32) -> bool
         ensures value { result ≡ has_room self.now more }
@@ -411,25 +433,6 @@ impl<A: Allocator> Book<A> {
             base: self.base,
             asset,
         })
-    }
-
-    // Books an entry that ends nothing, with room for whatever ends what it opens and what is open
-    // already, and tells its number.
-    fn append(&mut self, entry: Entry, opened: u32) -> Result<u32, AllocError>
-        requires opened { opening entry.what ≡ opened }
-        requires ends_nothing { closing entry.what ≡ 0 }
-        requires lawful { IsLawful (pushed self.old entry) }
-        ensures number { IfOk result (λ number. number ≡ length self.old.entries) }
-        ensures book { OnOk result (self.new ≡ pushed self.old entry) }
-        ensures err { OnErr result (self.new ≡ self.old) }
-        ensures lawful { IsLawful self.new }
-    {
-        let number = self.journal.len();
-        let needed = u64::from(self.open_count) + u64::from(opened) + 1;
-        self.journal.reserve(needed as usize)?;
-        self.journal.push_reserved(entry);
-        self.open_count += opened;
-        Ok(number)
     }
 
     // Books the entry that ends what is open, a hold or a settlement, and tells its number.

@@ -1,7 +1,9 @@
 //! Settlements from peers: which credit is kept under a key, and what is answered by it.
 ghost use Rattle.std.specs.Prelude.{◌≡◌, option_map};
 ghost use Rattle.std.specs.Option.{option_copied};
+ghost use Rattle.ilp_journal.specs.declared.entry.Entry.{Entry};
 ghost use Rattle.ilp_journal.specs.Keys.{IsKey};
+ghost use Rattle.ilp_journal.specs.Places.{passes_at};
 ghost use Rattle.ilp_book.specs.Open as opens;
 ghost use Rattle.ilp_book.specs.SettleStep as settles;
 
@@ -35,15 +37,27 @@ pub(crate) fn kept_reply<A: Allocator>(
 }
 
 // The number of the first credit of a peer under a key.
+#[tactic(auto, using(ilp_journal::proofs::Sums::first_from_step))]
 fn kept_at<A: Allocator>(journal: &Journal<A>, peer: u32, key: &[u8]) -> Option<u32>
     ensures { result ≡ opens.kept_at journal.now.entries peer key.now }
 {
-    for (number, entry) in journal.entries().iter().enumerate() {
-        if has_key(peer, key, &entry.what) {
-            return Some(number as u32);
+    for number in 0..journal.len() {
+        if is_kept_at(journal, peer, key, number) {
+            return Some(number);
         }
     }
     None
+}
+
+// Whether the entry of a number credits the peer under the key.
+fn is_kept_at<A: Allocator>(journal: &Journal<A>, peer: u32, key: &[u8], number: u32) -> bool
+    ensures { result ≡ passes_at (λ (e : Entry). opens.has_key peer key.now e.what)
+        journal.now.entries number }
+{
+    match journal.get(number) {
+        Some(entry) => has_key(peer, key, &entry.what),
+        None => false,
+    }
 }
 
 // Whether an entry credits the peer under the key.

@@ -1,5 +1,5 @@
 //! What a line of a script asks for.
-ghost use Rattle.std.specs.Prelude.{◌≡◌, ◌<◌, ◌≤◌, ◌^◌, ◌∷◌, length, IfSome, option_map};
+ghost use Rattle.std.specs.Prelude.{◌≡◌, ◌<◌, ◌≤◌, ◌^◌, ◌∷◌, length, IfOk, IfSome, option_map};
 ghost use Rattle.std.specs.Char.{is_ascii_digit};
 ghost use Rattle.std.specs.List.{list_all, slice_split};
 ghost use Rattle.ilp_accounts.specs.Configuration.{peer_names, place_named};
@@ -11,6 +11,7 @@ ghost use Rattle.ilp_connector.specs.Seen.{form_seen, IsOfPeers, fields_after, f
 use crate::lines::first_place;
 use ilp_accounts::Config;
 use ilp_journal::Key;
+use std::alloc::AllocError;
 use std::str;
 
 // The most digits of a moment.
@@ -66,16 +67,18 @@ enum Fields<'a> {
     Five(&'a [u8], &'a [u8], &'a [u8], &'a [u8], &'a [u8]),
 }
 
-/// What a line asks for.
-pub(crate) fn parse<'a>(config: &Config, line: &'a [u8]) -> Form<'a>
-    ensures form { form_seen result ≡ form_of (peer_names config.now.peers) line.now }
-    ensures known { IsOfPeers (length config.now.peers) result }
+/// What a line asks for. A key of a settlement lies on the heap of the configuration: `AllocError`
+/// tells that memory is short.
+pub(crate) fn parse<'a>(config: &Config, line: &'a [u8]) -> Result<Form<'a>, AllocError>
+    ensures form { IfOk result (λ form. form_seen form
+        ≡ form_of (peer_names config.now.peers) line.now) }
+    ensures known { IfOk result (λ form. IsOfPeers (length config.now.peers) form) }
 {
     match line {
-        [] | [b'#', ..] => Form::Silent,
+        [] | [b'#', ..] => Ok(Form::Silent),
         _ => {
             if !is_printable(line) {
-                return Form::Bad;
+                return Ok(Form::Bad);
             }
             form_of_fields(config, line)
         }
@@ -83,12 +86,12 @@ pub(crate) fn parse<'a>(config: &Config, line: &'a [u8]) -> Form<'a>
 }
 
 // What the fields of a line ask for.
-fn form_of_fields<'a>(config: &Config, line: &'a [u8]) -> Form<'a>
-    ensures form { form_seen result
-        ≡ form_of_fields (peer_names config.now.peers) (fields_of line.now) }
-    ensures known { IsOfPeers (length config.now.peers) result }
+fn form_of_fields<'a>(config: &Config, line: &'a [u8]) -> Result<Form<'a>, AllocError>
+    ensures form { IfOk result (λ form. form_seen form
+        ≡ form_of_fields (peer_names config.now.peers) (fields_of line.now)) }
+    ensures known { IfOk result (λ form. IsOfPeers (length config.now.peers) form) }
 {
-    match split_fields(line) {
+    let form = match split_fields(line) {
         Fields::One(word) if word == b"report".as_slice() => Form::Report,
         Fields::Two(word, now) if word == b"expire".as_slice() => expire_form(now),
         Fields::Three(word, now, peer) if word == b"ask".as_slice() => ask_form(config, now, peer),
@@ -102,10 +105,11 @@ fn form_of_fields<'a>(config: &Config, line: &'a [u8]) -> Form<'a>
             close_form(now, number, verdict)
         }
         Fields::Five(word, now, peer, key, json) if word == b"credit".as_slice() => {
-            credit_form(config, now, peer, key, json)
+            credit_form(config, now, peer, key, json)?
         }
         _ => Form::Bad,
-    }
+    };
+    Ok(form)
 }
 
 // A Prepare of a peer.
@@ -175,33 +179,40 @@ fn answer_form<'a>(now: &[u8], number: &[u8], packet: &'a [u8]) -> Form<'a>
 }
 
 // A settlement from a peer.
-fn credit_form<'a>(config: &Config, now: &[u8], peer: &[u8], key: &[u8], json: &'a [u8]) -> Form<'a>
-    ensures form { form_seen result ≡ script.credit_form (script.moment_in now.now)
-        (place_named (peer_names config.now.peers) peer.now) (script.key_in key.now) json.now }
-    ensures known { IsOfPeers (length config.now.peers) result }
+fn credit_form<'a>(
+    config: &Config,
+    now: &[u8],
+    peer: &[u8],
+    key: &[u8],
+    json: &'a [u8],
+) -> Result<Form<'a>, AllocError>
+    ensures form { IfOk result (λ form. form_seen form ≡ script.credit_form
+        (script.moment_in now.now) (place_named (peer_names config.now.peers) peer.now)
+        (script.key_in key.now) json.now) }
+    ensures known { IfOk result (λ form. IsOfPeers (length config.now.peers) form) }
 {
     let Some(now) = number_in(now, MOMENT_DIGITS) else {
-        return Form::Bad;
+        return Ok(Form::Bad);
     };
     let Some(peer) = peer_named(config, peer) else {
-        return Form::Bad;
+        return Ok(Form::Bad);
     };
-    match key_in(key) {
-        Some(key) => Form::Credit {
+    match key_in(config, key)? {
+        Some(key) => Ok(Form::Credit {
             now: now as i64,
             peer,
             key,
             json,
-        },
-        None => Form::Bad,
+        }),
+        None => Ok(Form::Bad),
     }
 }
 
 // The key that a text is.
-fn key_in(text: &[u8]) -> Option<Key>
-    ensures { result ≡ script.key_in text.now }
+fn key_in(config: &Config, text: &[u8]) -> Result<Option<Key>, AllocError>
+    ensures { IfOk result (λ key. key ≡ script.key_in text.now) }
 {
-    Key::new(text)
+    Key::new(config.allocator(), text)
 }
 
 // A settlement to a peer.

@@ -38,7 +38,7 @@ pub(crate) fn run_line<A: Allocator + Copy>(
     ensures step { IfOk result (λ reply. Does book.old book.new reply (line_step book.old line.now)) }
     ensures err { OnErr result (book.new ≡ book.old) }
 {
-    let form = parse(book.config(), line);
+    let form = parse(book.config(), line)?;
     match form {
         Form::Hold { now, peer, packet } => run_hold(alloc, book, now, peer, packet),
         Form::Answer {
@@ -157,7 +157,7 @@ fn expire<A: Allocator>(book: &mut Book<A>, now: i64) -> LineReply
 }
 
 // A settlement from a peer, as JSON, which is read on the heap of the book's configuration.
-fn run_credit<A: Allocator>(
+fn run_credit<A: Allocator + Clone>(
     book: &mut Book<A>,
     now: i64,
     peer: u32,
@@ -190,7 +190,11 @@ fn credit_reply(outcome: Result<Kept, CreditFault>) -> Result<LineReply, AllocEr
 }
 
 // A settlement to a peer.
-fn run_ask<A: Allocator>(book: &mut Book<A>, now: i64, peer: u32) -> Result<LineReply, AllocError>
+fn run_ask<A: Allocator + Clone>(
+    book: &mut Book<A>,
+    now: i64,
+    peer: u32,
+) -> Result<LineReply, AllocError>
     requires known { IsKnown book.old.config peer }
     ensures step { IfOk result (λ reply. Does book.old book.new reply
         (replays.ask_due book.old now peer)) }

@@ -1,15 +1,17 @@
 //! The journal: entries that are only ever added, as far as its limit.
 
-ghost use Rattle.std.specs.Prelude.{◌≡◌, ◌+◌, ◌^◌, ◌<◌, ◌≤◌, pos, ◌+ℤ◌, ◌≤ℤ◌, [], ◌∷◌, ◌++◌, ◌↔◌, length, IsTrue, IsOk, IfOk, OnOk, OnErr, slice_get};
+ghost use Rattle.std.specs.Prelude.{◌≡◌, ◌+◌, ◌<◌, ◌≤◌, pos, ◌+ℤ◌, ◌≤ℤ◌, [], ◌∷◌, ◌++◌, ◌↔◌, length, IsTrue, IsOk, IfOk, OnOk, OnErr, slice_get};
 ghost use Rattle.std.specs.Option.{option_copied};
 ghost use Rattle.ilp_journal.specs.Booked.{Booked, most_sum};
-ghost use Rattle.ilp_journal.specs.Journal.{answer_of, closing_of, hold_at, ask_at};
+ghost use Rattle.ilp_journal.specs.Journal.{AnswersHold, ClosesAsk, answer_of, closing_of, hold_at, ask_at};
 ghost use Rattle.ilp_journal.specs.Balance.{balance};
 
-use crate::answers::{first_answer, hold_at};
+use crate::answers::{answer_at, hold_at};
 use crate::balances::owed;
-use crate::closings::{ask_at, first_closing};
+use crate::closings::{ask_at, closing_at};
 use crate::entry::{Ask, Entry, Hold};
+use crate::page::Slot;
+use crate::pages::Pages;
 use std::alloc::{AllocError, Allocator, Global};
 use std::marker::Model;
 
@@ -17,23 +19,23 @@ use std::marker::Model;
 /// place in the list, from 0.
 #[derive(Drop)]
 pub struct Journal<A: Allocator = Global> {
-    entries: Vec<Entry, A>,
+    pages: Pages<A>,
     limit: u32,
 }
 
 impl<A: Allocator> Model for Journal<A> {
-    ghost use Rattle.std.specs.Prelude.{◌-◌, ◌≤◌, ◌<◌, ◌^◌, vec_len, vec_capacity};
     ghost use Rattle.ilp_journal.specs.Booked.{Booked};
+    ghost use Rattle.ilp_journal.specs.Slots.{entries_of, IsClosedJournal};
 
     ghost Value = { Booked };
 
     ghost view = { λ j. record {
-      entries = j.entries.items;
-      spare = vec_capacity j.entries - vec_len j.entries;
+      entries = entries_of j.pages.slots;
+      spare = j.pages.spare;
       limit = j.limit;
     } };
 
-    ghost invariant = { λ j. (vec_len j.entries ≤ j.limit) × (j.limit < 2 ^ 32) };
+    ghost invariant = { λ j. IsClosedJournal j.pages j.limit };
 }
 
 impl<A: Allocator> Journal<A> {
@@ -44,7 +46,7 @@ impl<A: Allocator> Journal<A> {
         ensures limit { IfOk result (λ j. j.limit ≡ limit) }
     {
         Ok(Journal {
-            entries: Vec::new(alloc),
+            pages: Pages::new(alloc, limit)?,
             limit,
         })
     }
@@ -54,14 +56,14 @@ impl<A: Allocator> Journal<A> {
         ensures count { result ≡ length self.now.entries }
         ensures within { length self.now.entries ≤ self.now.limit }
     {
-        self.entries.len() as u32
+        self.pages.len()
     }
 
     /// Whether there is no entry yet.
     pub fn is_empty(&self) -> bool
         ensures { IsTrue result ↔ (self.now.entries ≡ []) }
     {
-        self.entries.is_empty()
+        self.pages.len() == 0
     }
 
     /// How many entries there may be at most.
@@ -75,29 +77,21 @@ impl<A: Allocator> Journal<A> {
     pub fn spare(&self) -> usize
         ensures { result ≡ self.now.spare }
     {
-        self.entries.capacity() - self.entries.len()
+        self.pages.spare()
     }
 
     /// The entry of this number.
     pub fn get(&self, number: u32) -> Option<&Entry>
         ensures { option_copied result ≡ slice_get self.now.entries number }
     {
-        self.entries.get(number as usize)
-    }
-
-    /// The entries, in the order of their numbers.
-    pub fn entries(&self) -> &[Entry]
-        ensures value { result.now ≡ self.now.entries }
-        ensures few { length self.now.entries < 2 ^ 32 }
-    {
-        &self.entries
+        self.pages.entry(number)
     }
 
     /// The hold under this number: `None` where the entry is of another kind, or there is none.
     pub fn hold(&self, number: u32) -> Option<Hold>
         ensures { result ≡ hold_at self.now.entries number }
     {
-        hold_at(&self.entries, number)
+        hold_at(&self.pages, number)
     }
 
     /// The asked settlement under this number: `None` where the entry is of another kind, or there
@@ -105,9 +99,54 @@ impl<A: Allocator> Journal<A> {
     pub fn ask(&self, number: u32) -> Option<Ask>
         ensures { result ≡ ask_at self.now.entries number }
     {
-        ask_at(&self.entries, number)
+        ask_at(&self.pages, number)
     }
 
+    /// Adds an entry, into room that is there: `spare` and `len` tell whether it is. What it answers
+    /// or closes stands in the journal.
+    pub fn push_reserved(&mut self, entry: Entry)
+        requires room { 1 ≤ self.old.spare }
+        requires limit { length self.old.entries < self.old.limit }
+        requires answers { AnswersHold self.old.entries entry }
+        requires closes { ClosesAsk self.old.entries entry }
+        ensures entries { self.new.entries ≡ self.old.entries ++ entry ∷ [] }
+        ensures used { self.new.spare + 1 ≡ self.old.spare }
+        ensures limit { self.new.limit ≡ self.old.limit }
+    {
+        let number = self.pages.len();
+        self.pages.close(entry.what.ended(), number);
+        self.pages.push_reserved(Slot {
+            entry,
+            closer: None,
+        });
+    }
+
+    /// What the connector owes the peer, in units of the peer's asset: all that its balance rose
+    /// by, less all that it fell by. Each call adds up all entries.
+    pub fn balance(&self, peer: u32) -> i128
+        ensures sum { result ≡ balance self.now.entries peer }
+        ensures low { pos 0 ≤ℤ (result +ℤ pos most_sum) }
+        ensures high { result ≤ℤ pos most_sum }
+    {
+        owed(&self.pages, peer)
+    }
+
+    /// The number of the first entry that fulfills or releases the hold of this number.
+    pub fn answer_of(&self, hold: u32) -> Option<u32>
+        ensures { result ≡ answer_of self.now.entries hold }
+    {
+        answer_at(&self.pages, hold)
+    }
+
+    /// The number of the first entry that confirms or undoes the settlement of this number.
+    pub fn closing_of(&self, ask: u32) -> Option<u32>
+        ensures { result ≡ closing_of self.now.entries ask }
+    {
+        closing_at(&self.pages, ask)
+    }
+}
+
+impl<A: Allocator + Clone> Journal<A> {
     /// Makes room for `additional` more entries. `AllocError` tells that memory is short.
     pub fn reserve(&mut self, additional: usize) -> Result<(), AllocError>
         ensures entries { self.new.entries ≡ self.old.entries }
@@ -121,44 +160,6 @@ impl<A: Allocator> Journal<A> {
         ensures refused { OnErr result (self.old.spare < additional) }
         ensures err { OnErr result (self.new ≡ self.old) }
     {
-        if additional <= self.spare() {
-            return Ok(());
-        }
-        self.entries.reserve(additional)
-    }
-
-    /// Adds an entry, into room that is there: `spare` and `len` tell whether it is.
-    pub fn push_reserved(&mut self, entry: Entry)
-        requires room { 1 ≤ self.old.spare }
-        requires limit { length self.old.entries < self.old.limit }
-        ensures entries { self.new.entries ≡ self.old.entries ++ entry ∷ [] }
-        ensures used { self.new.spare + 1 ≡ self.old.spare }
-        ensures limit { self.new.limit ≡ self.old.limit }
-    {
-        self.entries.push_reserved(entry);
-    }
-
-    /// What the connector owes the peer, in units of the peer's asset: all that its balance rose
-    /// by, less all that it fell by. Each call adds up all entries.
-    pub fn balance(&self, peer: u32) -> i128
-        ensures sum { result ≡ balance self.now.entries peer }
-        ensures low { pos 0 ≤ℤ (result +ℤ pos most_sum) }
-        ensures high { result ≤ℤ pos most_sum }
-    {
-        owed(&self.entries, peer)
-    }
-
-    /// The number of the first entry that fulfills or releases the hold of this number.
-    pub fn answer_of(&self, hold: u32) -> Option<u32>
-        ensures { result ≡ answer_of self.now.entries hold }
-    {
-        first_answer(&self.entries, hold)
-    }
-
-    /// The number of the first entry that confirms or undoes the settlement of this number.
-    pub fn closing_of(&self, ask: u32) -> Option<u32>
-        ensures { result ≡ closing_of self.now.entries ask }
-    {
-        first_closing(&self.entries, ask)
+        self.pages.reserve(additional)
     }
 }

@@ -1,47 +1,54 @@
 //! What a settlement engine names a settlement by.
-ghost use Rattle.std.specs.Prelude.{◌≡◌, ◌↔◌, IfSome, IsSome};
+ghost use Rattle.std.specs.Prelude.{◌≡◌, ◌↔◌, IfOk, OnErr, IfSome, IsSome, IsTrue};
 ghost use Rattle.ilp_journal.specs.Keys.{IsKey};
 
+use std::alloc::{AllocError, Allocator, Global};
 use std::marker::Model;
 
 // The most octets of a key.
 const LONGEST: usize = 128;
 
 /// The key under which a peer's settlement engine names a settlement, so that it is credited once
-/// (RFC 0038, "Idempotence"): 1 to 128 octets. It takes no memory of its own.
+/// (RFC 0038, "Idempotence"): 1 to 128 octets, which lie on the heap.
 #[derive(Drop)]
-pub struct Key {
-    octets: [u8; LONGEST],
-    len: u8,
+pub struct Key<A: Allocator = Global> {
+    octets: Vec<u8, A>,
 }
 
-impl Model for Key {
-    ghost use Rattle.std.specs.Prelude.{ℕ, List, ◌≤◌, take};
-    ghost use Rattle.ilp_journal.specs.Keys.{IsLengthOfKey};
+impl<A: Allocator> Model for Key<A> {
+    ghost use Rattle.std.specs.Prelude.{ℕ, List};
+    ghost use Rattle.ilp_journal.specs.Keys.{IsKey};
 
     ghost Value = { List ℕ };
 
-    ghost view = { λ k. take k.len k.octets };
+    ghost view = { λ k. k.octets.items };
 
-    ghost invariant = { λ k. IsLengthOfKey k.len };
+    ghost invariant = { λ k. IsKey k.octets.items };
 }
 
 impl Key {
-    /// The key of these octets, if there are 1 to 128 of them.
-    pub fn new(octets: &[u8]) -> Option<Key>
-        ensures made { IsSome result ↔ IsKey octets.now }
-        ensures octets { IfSome result (λ key. key ≡ octets.now) }
+    /// Whether these octets can be a key: there are 1 to 128 of them.
+    pub fn is_key(octets: &[u8]) -> bool
+        ensures { IsTrue result ↔ IsKey octets.now }
     {
-        let len = octets.len();
-        if len == 0 || len > LONGEST {
-            return None;
+        !octets.is_empty() && octets.len() <= LONGEST
+    }
+}
+
+impl<A: Allocator> Key<A> {
+    /// The key of these octets, and `None` where they can be none. `AllocError` tells that memory
+    /// for a key is short.
+    pub fn new(alloc: A, octets: &[u8]) -> Result<Option<Key<A>>, AllocError>
+        ensures made { IfOk result (λ made. IsSome made ↔ IsKey octets.now) }
+        ensures octets { IfOk result (λ made. IfSome made (λ key. key ≡ octets.now)) }
+        ensures denied { OnErr result (IsKey octets.now) }
+    {
+        if !Key::is_key(octets) {
+            return Ok(None);
         }
-        let mut row = [0; LONGEST];
-        row[..len].copy_from_slice(octets);
-        Some(Key {
-            octets: row,
-            len: len as u8,
-        })
+        Ok(Some(Key {
+            octets: Vec::from_slice(alloc, octets)?,
+        }))
     }
 
     /// The octets, in order.
@@ -49,6 +56,6 @@ impl Key {
         ensures octets { result.now ≡ self.now }
         ensures length { IsKey self.now }
     {
-        &self.octets[..usize::from(self.len)]
+        self.octets.as_slice()
     }
 }

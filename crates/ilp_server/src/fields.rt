@@ -20,14 +20,19 @@ pub fn sender_of(config: &Config, headers: &HeaderMap) -> Option<u32>
     config.peer_by_token(token)
 }
 
-/// The key that the one Idempotency-Key field gives (RFC 0038, "Idempotence"): any 1 to 128 octets
-/// that a field's value may have. None where there is no such field or more than one, or the value
-/// is empty or longer.
-pub fn key_of(headers: &HeaderMap) -> Option<Key>
-    ensures { Finds (IsKeyAmong (values_in headers.now (codes "idempotency-key"))) result }
+/// The octets of the key that the one Idempotency-Key field gives (RFC 0038, "Idempotence"): any 1
+/// to 128 that a field's value may have. None where there is no such field or more than one, or the
+/// value is empty or longer.
+pub fn key_of(headers: &HeaderMap) -> Option<&[u8]>
+    ensures { MatchOption result
+        ((key : List ℕ) → ¬ (IsKeyAmong (values_in headers.now (codes "idempotency-key")) key))
+        (λ key. IsKeyAmong (values_in headers.now (codes "idempotency-key")) key.now) }
 {
     let value = only_value(headers, "idempotency-key")?;
-    Key::new(value)
+    if !Key::is_key(value) {
+        return None;
+    }
+    Some(value)
 }
 
 // The value of the one field of a name.

@@ -1,4 +1,5 @@
 //! Serving a request that was read, by what its target asks for.
+ghost use Rattle.ilp_journal.specs.Keys.{IsKey};
 ghost use Rattle.ilp_book.specs.Configured.{IsKnown};
 ghost use Rattle.ilp_server.specs.Serving.{inquiry, Serves, ServesPacket, ServesSettlement, ServesPayment, ServesMessage, ServesReport};
 
@@ -91,18 +92,20 @@ fn serve_settlement<
     serve_payment(rt, alloc, worker, desk, peer, key, request.body)
 }
 
-// Credits the quantity that the body is. Room for the answer is made before anything is booked.
+// Credits the quantity that the body is. Room for the answer and the key is made before anything is
+// booked.
 fn serve_payment<J: Naming, C: Clock + Drop, U: Uplink + Drop, E: EngineLink + Drop, A: Allocator>(
     rt: &impl Wait,
     alloc: Global,
     worker: &mut Worker<J, C, U, E, A>,
     desk: &Desk<J>,
     peer: u32,
-    key: Key,
+    key: &[u8],
     body: &[u8],
 ) -> Result<Served, NotServed>
     requires known { IsKnown J.desk.config peer }
-    ensures { ServesPayment J.desk peer key body.now worker.old worker.new result }
+    requires key { IsKey key.now }
+    ensures { ServesPayment J.desk peer key.now body.now worker.old worker.new result }
 {
     let quantity = match Quantity::read(alloc, body) {
         Ok(quantity) => quantity,
@@ -110,6 +113,9 @@ fn serve_payment<J: Naming, C: Clock + Drop, U: Uplink + Drop, E: EngineLink + D
     };
     let mut text = Octets::new(alloc);
     let Ok(()) = text.reserve(LONGEST_QUANTITY) else {
+        return Err(NotServed::Memory);
+    };
+    let Ok(Some(key)) = Key::new(alloc, key) else {
         return Err(NotServed::Memory);
     };
     match worker.credit(rt, desk, peer, key, &quantity) {

@@ -15,7 +15,7 @@ use ilp_journal::{Ask, Credited, Entry, Key, What};
 use ilp_settlement::{Quantity, credited};
 use std::alloc::Allocator;
 
-impl<A: Allocator> Book<A> {
+impl<A: Allocator + Clone> Book<A> {
     /// Credits a settlement that came from a peer (RFC 0038), once for each of the peer's keys: the
     /// quantity at the scale of the peer's asset, rounded down. A key that is kept with an equal
     /// amount and scale is answered as it was, with `fresh` false, and books nothing. The refusals
@@ -72,40 +72,10 @@ impl<A: Allocator> Book<A> {
             },
         }
     }
-
-    /// Books what the peer's engine said of a settlement, if it is open: where it was accepted that
-    /// is all, else the peer gets the amount back. Answers the number of the entry. The ask has made
-    /// room, so no memory is taken. A refusal names the entry that closed the settlement, if one
-    /// did, and leaves the book as it was.
-    #[tactic(auto, unfolding(crate::specs::SettleStep::close_step))]
-    pub fn settle_close(
-        &mut self,
-        actor: u32,
-        number: u32,
-        accepted: bool,
-        now: i64,
-    ) -> Result<u32, NotOpen>
-        ensures step { Does self.old self.new result
-            (close_step self.old (by actor now) number (verdict_of accepted)) }
-        ensures lawful { IsLawful self.new }
-    {
-        let Some(_ask) = self.open_ask(number) else {
-            return Err(NotOpen {
-                closer: self.journal.closing_of(number),
-            });
-        };
-        let moment = self.moment_at(now);
-        let what = closing(number, accepted);
-        Ok(self.close(Entry {
-            moment,
-            actor,
-            what,
-        }))
-    }
 }
 
 // What the calls are made of.
-impl<A: Allocator> Book<A> {
+impl<A: Allocator + Clone> Book<A> {
     // Books a credit that its rules allow, if there is room for it.
     fn book_credit(&mut self, actor: u32, now: i64, credit: Credited) -> Result<Kept, CreditFault>
         requires fresh { IsFreshCredit self.old.config self.old.entries credit }
@@ -156,6 +126,39 @@ impl<A: Allocator> Book<A> {
             number,
             amount: ask.amount,
         })
+    }
+}
+
+// The call that takes no memory.
+impl<A: Allocator> Book<A> {
+    /// Books what the peer's engine said of a settlement, if it is open: where it was accepted that
+    /// is all, else the peer gets the amount back. Answers the number of the entry. The ask has made
+    /// room, so no memory is taken. A refusal names the entry that closed the settlement, if one
+    /// did, and leaves the book as it was.
+    #[tactic(auto, unfolding(crate::specs::SettleStep::close_step))]
+    pub fn settle_close(
+        &mut self,
+        actor: u32,
+        number: u32,
+        accepted: bool,
+        now: i64,
+    ) -> Result<u32, NotOpen>
+        ensures step { Does self.old self.new result
+            (close_step self.old (by actor now) number (verdict_of accepted)) }
+        ensures lawful { IsLawful self.new }
+    {
+        let Some(_ask) = self.open_ask(number) else {
+            return Err(NotOpen {
+                closer: self.journal.closing_of(number),
+            });
+        };
+        let moment = self.moment_at(now);
+        let what = closing(number, accepted);
+        Ok(self.close(Entry {
+            moment,
+            actor,
+            what,
+        }))
     }
 
     // The settlement under a number, if it is open.

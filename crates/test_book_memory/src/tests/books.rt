@@ -1,6 +1,6 @@
 //! Books.
 
-use super::{GROWTHS, lending};
+use super::{FIRST_OF_A_BOOK, GROWTHS, lending};
 use ilp_accounts::Config;
 use ilp_book::{Book, Held, HoldFault, Outcome, PeerReply};
 use ilp_journal::Cause;
@@ -29,11 +29,11 @@ const PREPARE: Prepare<'static> = Prepare {
 
 const DEADLINE: i64 = START + 29_000;
 
-// How many holds are made.
-const HOLDS: u32 = 20;
+// How many holds are made: with what ends them they take more than a page of the journal.
+const HOLDS: u32 = 140;
 
 // A hold of alice; where it is denied memory it changes nothing, and succeeds when asked again.
-pub(super) fn hold<A: Allocator>(rt: &impl Abort, book: &mut Book<A>) {
+pub(super) fn hold<A: Allocator + Clone>(rt: &impl Abort, book: &mut Book<A>) {
     let number = book.len();
     let owed = book.balance(0);
     assert!(rt; book.config().peers() == 2);
@@ -53,17 +53,26 @@ pub(super) fn hold<A: Allocator>(rt: &impl Abort, book: &mut Book<A>) {
 }
 
 #[test]
+fn a_new_book_takes_its_list_of_pages(rt: HostRuntime) -> Result<(), Fail> {
+    let config = lending(rt.alloc())?;
+    let heap = DenyingAllocator::after(rt.alloc(), 0);
+    assert!(rt; Book::new(&heap, &config).is_err());
+    assert!(rt; heap.has_denied());
+    Ok(())
+}
+
+#[test]
 fn holding(rt: HostRuntime) -> Result<(), Fail> {
     let config = lending(rt.alloc())?;
     hold_over_each(&rt, &config)
 }
 
 fn hold_over_each(rt: &(impl Abort + AllocGlobal), config: &Config) -> Result<(), Fail> {
-    for granted in 0..GROWTHS {
+    for granted in FIRST_OF_A_BOOK..GROWTHS {
         let heap = DenyingAllocator::after(rt.alloc(), granted);
         hold_over(rt, config, &heap)?;
         if !heap.has_denied() {
-            assert!(rt; granted > 0);
+            assert_eq!(rt; granted, FIRST_OF_A_BOOK + 2, "a growth for each page");
             return Ok(());
         }
     }
@@ -71,18 +80,18 @@ fn hold_over_each(rt: &(impl Abort + AllocGlobal), config: &Config) -> Result<()
     Ok(())
 }
 
-fn hold_over<A: Allocator>(rt: &impl Abort, config: &Config, heap: A) -> Result<(), Fail> {
+fn hold_over<A: Allocator + Clone>(rt: &impl Abort, config: &Config, heap: A) -> Result<(), Fail> {
     let mut book = Book::new(heap, config)?;
     hold_all(rt, &mut book);
     Ok(())
 }
 
-fn hold_all<A: Allocator>(rt: &impl Abort, book: &mut Book<A>) {
+fn hold_all<A: Allocator + Clone>(rt: &impl Abort, book: &mut Book<A>) {
     for _ in 0..HOLDS {
         hold(rt, book);
     }
     assert_eq!(rt; book.len(), HOLDS);
-    assert_eq!(rt; (book.balance(0), book.balance(1)), (-2_000, 0));
+    assert_eq!(rt; (book.balance(0), book.balance(1)), (-14_000, 0));
 }
 
 // What releases a hold, when it comes, and the cause that it is released for.
@@ -101,7 +110,7 @@ fn ending_holds_takes_no_memory(rt: HostRuntime) -> Result<(), Fail> {
 }
 
 fn end_over_each(rt: &(impl Abort + AllocGlobal), config: &Config) -> Result<(), Fail> {
-    for granted in 0..GROWTHS {
+    for granted in FIRST_OF_A_BOOK..GROWTHS {
         let heap = DenyingAllocator::after(rt.alloc(), granted);
         end_over(rt, config, &heap)?;
         if !heap.has_denied() {

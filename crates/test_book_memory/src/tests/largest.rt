@@ -176,9 +176,11 @@ fn release(rt: &impl Abort, book: &mut Book, number: u32) {
 }
 
 // Credits the most that a settlement can come to, told at the scale of the peer's asset.
-fn credit(rt: &impl Abort, book: &mut Book, peer: u8, letter: u8) {
+fn credit(rt: &(impl Abort + AllocGlobal), book: &mut Book, peer: u8, letter: u8) {
     let number = book.len();
-    let key = Key::new(&[letter]).expect(rt, "a key of one octet");
+    let Ok(Some(key)) = Key::new(rt.alloc(), &[letter]) else {
+        panic!(rt; "a key of one octet");
+    };
     let quantity = Quantity {
         amount: u128::from(MOST),
         scale: u8::MAX - peer,

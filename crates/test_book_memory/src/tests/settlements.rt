@@ -1,7 +1,7 @@
 //! Settlements in books.
 
 use super::books::{START, hold};
-use super::{GROWTHS, lending};
+use super::{FIRST_OF_A_BOOK, GROWTHS, lending};
 use ilp_accounts::Config;
 use ilp_book::{AskFault, Asked, Book, CreditFault, Kept, NotOpen, PeerReply};
 use ilp_journal::Key;
@@ -16,8 +16,12 @@ const ALICE: u32 = 0;
 
 const BOB: u32 = 1;
 
-// How often bob is credited and settled with.
-const ROUNDS: u8 = 12;
+// How often bob is credited and settled with, in three entries, which take more than a page of the
+// journal.
+const ROUNDS: u8 = 90;
+
+// How many entries there are before those that matter: the last of these is the first of a page.
+const FILLED: u32 = 250;
 
 // 2,000 units of the peers' asset.
 const QUANTITY: Quantity = Quantity {
@@ -26,12 +30,20 @@ const QUANTITY: Quantity = Quantity {
 };
 
 // The key of a round.
-fn key(rt: &impl Abort, round: u8) -> Key {
-    Key::new(&[b'k', round]).expect(rt, "a key of two octets")
+fn key(rt: &(impl Abort + AllocGlobal), round: u8) -> Key {
+    match Key::new(rt.alloc(), &[b'k', round]) {
+        Ok(Some(key)) => key,
+        _ => panic!(rt; "a key of two octets"),
+    }
 }
 
 // A credit of a peer; where it is denied memory it changes nothing, and succeeds when asked again.
-fn credit<A: Allocator>(rt: &impl Abort, book: &mut Book<A>, peer: u32, round: u8) {
+fn credit<A: Allocator + Clone>(
+    rt: &(impl Abort + AllocGlobal),
+    book: &mut Book<A>,
+    peer: u32,
+    round: u8,
+) {
     let number = book.len();
     let owed = book.balance(peer);
     assert!(rt; peer < book.config().peers());
@@ -50,7 +62,12 @@ fn credit<A: Allocator>(rt: &impl Abort, book: &mut Book<A>, peer: u32, round: u
 }
 
 // The same key and quantity once more.
-fn credit_again<A: Allocator>(rt: &impl Abort, book: &mut Book<A>, round: u8, number: u32) {
+fn credit_again<A: Allocator + Clone>(
+    rt: &(impl Abort + AllocGlobal),
+    book: &mut Book<A>,
+    round: u8,
+    number: u32,
+) {
     assert!(rt; book.config().peers() == 2);
     let outcome = book.credit(0, BOB, key(rt, round), &QUANTITY, START);
     let kept = Kept {
@@ -62,7 +79,7 @@ fn credit_again<A: Allocator>(rt: &impl Abort, book: &mut Book<A>, round: u8, nu
 }
 
 // An ask to a peer; where it is denied memory it changes nothing, and succeeds when asked again.
-fn ask<A: Allocator>(rt: &impl Abort, book: &mut Book<A>, peer: u32, amount: u64) {
+fn ask<A: Allocator + Clone>(rt: &impl Abort, book: &mut Book<A>, peer: u32, amount: u64) {
     let number = book.len();
     let owed = book.balance(peer);
     assert!(rt; peer < book.config().peers());
@@ -82,11 +99,11 @@ fn settling(rt: HostRuntime) -> Result<(), Fail> {
 }
 
 fn settle_over_each(rt: &(impl Abort + AllocGlobal), config: &Config) -> Result<(), Fail> {
-    for granted in 0..GROWTHS {
+    for granted in FIRST_OF_A_BOOK..GROWTHS {
         let heap = DenyingAllocator::after(rt.alloc(), granted);
         settle_over(rt, config, &heap)?;
         if !heap.has_denied() {
-            assert!(rt; granted > 1);
+            assert_eq!(rt; granted, FIRST_OF_A_BOOK + 2, "a growth for each page");
             return Ok(());
         }
     }
@@ -95,7 +112,11 @@ fn settle_over_each(rt: &(impl Abort + AllocGlobal), config: &Config) -> Result<
 }
 
 // In each round bob is credited, asked for what lies above 200 units, and paid.
-fn settle_over<A: Allocator>(rt: &impl Abort, config: &Config, heap: A) -> Result<(), Fail> {
+fn settle_over<A: Allocator + Clone>(
+    rt: &(impl Abort + AllocGlobal),
+    config: &Config,
+    heap: A,
+) -> Result<(), Fail> {
     let mut book = Book::new(heap, config)?;
     let mut amount = 1_800;
     for round in 0..ROUNDS {
@@ -157,7 +178,7 @@ fn close_over_each(
     config: &Config,
     last: Last,
 ) -> Result<(), Fail> {
-    for granted in 0..GROWTHS {
+    for granted in FIRST_OF_A_BOOK..GROWTHS {
         let heap = DenyingAllocator::after(rt.alloc(), granted);
         close_over(rt, config, &heap, last)?;
         if !heap.has_denied() {
@@ -171,12 +192,13 @@ fn close_over_each(
 // Once the entries are made, the next growth is denied, unless one was: so where the last of them
 // was granted, the closing makes none.
 fn close_over<B: Allocator>(
-    rt: &impl Abort,
+    rt: &(impl Abort + AllocGlobal),
     config: &Config,
     heap: &DenyingAllocator<B>,
     last: Last,
 ) -> Result<(), Fail> {
     let mut book = Book::new(heap, config)?;
+    fill(rt, &mut book);
     hold(rt, &mut book);
     credit(rt, &mut book, ALICE, 0);
     ask(rt, &mut book, ALICE, 1_700);
@@ -184,26 +206,37 @@ fn close_over<B: Allocator>(
     ask(rt, &mut book, BOB, 1_800);
     end_with(rt, &mut book, last);
     let had_denied = heap.has_denied();
-    close(rt, &mut book, 4, true);
+    close(rt, &mut book, FILLED + 4, true);
     assert_eq!(rt; heap.has_denied(), had_denied);
     Ok(())
 }
 
-// Makes the last entry. The hold has the number 0, the settlement to alice the number 2.
-fn end_with<A: Allocator>(rt: &impl Abort, book: &mut Book<A>, last: Last) {
+// Books holds, each of which is released.
+fn fill<A: Allocator + Clone>(rt: &impl Abort, book: &mut Book<A>) {
+    for _ in 0..FILLED / 2 {
+        let number = book.len();
+        hold(rt, book);
+        assert!(rt; book.answer(0, number, PeerReply::NoReply, START).is_ok());
+    }
+    assert_eq!(rt; book.len(), FILLED);
+}
+
+// Makes the last entry. The hold is the first of those that matter, the settlement to alice the
+// third.
+fn end_with<A: Allocator + Clone>(rt: &(impl Abort + AllocGlobal), book: &mut Book<A>, last: Last) {
     match last {
         Last::Asked => {}
         Last::Credited => credit(rt, book, ALICE, 1),
         Last::Held => hold(rt, book),
         Last::Fulfilled => {
-            let outcome = book.answer(0, 0, PeerReply::Fulfill([0; 32]), START);
+            let outcome = book.answer(0, FILLED, PeerReply::Fulfill([0; 32]), START);
             assert!(rt; outcome.is_ok());
         }
         Last::Released => {
-            let outcome = book.answer(0, 0, PeerReply::NoReply, START);
+            let outcome = book.answer(0, FILLED, PeerReply::NoReply, START);
             assert!(rt; outcome.is_ok());
         }
-        Last::Confirmed => close(rt, book, 2, true),
-        Last::Undone => close(rt, book, 2, false),
+        Last::Confirmed => close(rt, book, FILLED + 2, true),
+        Last::Undone => close(rt, book, FILLED + 2, false),
     }
 }

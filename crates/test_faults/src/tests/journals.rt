@@ -1,7 +1,7 @@
 //! Journals.
 
 use super::GROWTHS;
-use ilp_journal::{Entry, Hold, Journal, What};
+use ilp_journal::{Entry, Hold, Journal, Key, What};
 use std::alloc::{AllocError, Allocator};
 use std::process::Abort;
 use std::test::Fail;
@@ -20,6 +20,11 @@ const HOLD: Hold = Hold {
 fn book<A: Allocator>(rt: &impl Abort, journal: &mut Journal<A>, what: What) {
     assert!(rt; journal.spare() > 0);
     assert!(rt; journal.len() < journal.limit());
+    let has_hold = match what.answered() {
+        Some(hold) => journal.hold(hold).is_some(),
+        None => true,
+    };
+    assert!(rt; has_hold && what.closed().is_none());
     journal.push_reserved(Entry {
         moment: 1_735_689_600_000,
         actor: 5,
@@ -27,10 +32,10 @@ fn book<A: Allocator>(rt: &impl Abort, journal: &mut Journal<A>, what: What) {
     });
 }
 
-// A hold and what fulfills it are booked, and nothing else.
+// A page of holds, of which the first was fulfilled.
 fn assert_booked<A: Allocator>(rt: &impl Abort, journal: &Journal<A>) {
-    assert_eq!(rt; [journal.len(), journal.limit()], [2, 9]);
-    assert_eq!(rt; [journal.balance(0), journal.balance(1)], [-1_000, 987]);
+    assert_eq!(rt; [journal.len(), journal.limit()], [256, 1_000]);
+    assert_eq!(rt; [journal.balance(0), journal.balance(1)], [-255_000, 987]);
     assert_eq!(rt; journal.answer_of(0), Some(1));
     let hold = match journal.get(0) {
         Some(
@@ -46,24 +51,32 @@ fn assert_booked<A: Allocator>(rt: &impl Abort, journal: &Journal<A>) {
 }
 
 #[test]
-fn a_new_one_takes_no_memory(rt: HostRuntime) -> Result<(), Fail> {
+fn a_new_one_takes_its_list_of_pages_at_once(rt: HostRuntime) -> Result<(), Fail> {
     let heap = DenyingAllocator::after(rt.alloc(), 0);
-    let journal = Journal::new(&heap, 9)?;
+    assert!(rt; Journal::new(&heap, 600).is_err());
+    assert!(rt; heap.has_denied());
+    let heap = DenyingAllocator::after(rt.alloc(), 1);
+    let journal = Journal::new(&heap, 600)?;
     assert!(rt; !heap.has_denied());
     assert!(rt; journal.is_empty());
-    assert_eq!(rt; journal.limit(), 9);
+    assert_eq!(rt; journal.limit(), 600);
+    assert_eq!(rt; journal.spare(), 0);
     Ok(())
 }
 
 #[test]
 fn reserving(rt: HostRuntime) -> Result<(), Fail> {
-    for granted in 0..GROWTHS {
+    for granted in 1..GROWTHS {
         let heap = DenyingAllocator::after(rt.alloc(), granted);
-        let mut journal = Journal::new(&heap, 9)?;
-        let outcome = reserve_twice(&rt, &mut journal);
+        let mut journal = Journal::new(&heap, 1_000)?;
+        let outcome = reserve_page_by_page(&rt, &mut journal);
         if !heap.has_denied() {
             assert_eq!(rt; outcome, Ok(()));
-            assert_eq!(rt; granted, 2, "each call grows once");
+            assert_eq!(rt;
+                granted,
+                5,
+                "one growth for the list, and one for each page"
+            );
             return Ok(());
         }
         assert_eq!(rt; outcome, Err(AllocError), "after {granted} growths");
@@ -72,32 +85,55 @@ fn reserving(rt: HostRuntime) -> Result<(), Fail> {
     Ok(())
 }
 
-// Reserves twice, and books what is there room for in between.
-fn reserve_twice<A: Allocator>(
+// Makes room in a journal that has none, at the edge of a page, and in its midst, where two pages
+// are wanted.
+fn reserve_page_by_page<A: Allocator + Clone>(
     rt: &impl Abort,
     journal: &mut Journal<A>,
 ) -> Result<(), AllocError> {
-    if let Err(fault) = journal.reserve(2) {
-        assert!(rt; journal.is_empty());
-        assert_eq!(rt; journal.spare(), 0);
-        assert_eq!(rt; journal.limit(), 9);
-        return Err(fault);
+    reserve(rt, journal, 2)?;
+    assert_eq!(rt; journal.spare(), 256);
+    fill(rt, journal);
+    assert_booked(rt, journal);
+    reserve(rt, journal, 256)?;
+    assert_eq!(rt; journal.spare(), 256);
+    book(rt, journal, What::Hold(HOLD));
+    reserve(rt, journal, 255)?;
+    assert_eq!(rt; journal.spare(), 255);
+    reserve(rt, journal, 600)?;
+    assert_eq!(rt; journal.spare(), 767);
+    Ok(())
+}
+
+// Makes room; where that is denied, all stands as it was.
+fn reserve<A: Allocator + Clone>(
+    rt: &impl Abort,
+    journal: &mut Journal<A>,
+    additional: usize,
+) -> Result<(), AllocError> {
+    let (len, spare) = (journal.len(), journal.spare());
+    let balances = [journal.balance(0), journal.balance(1)];
+    let outcome = journal.reserve(additional);
+    if outcome.is_err() {
+        assert_eq!(rt; journal.spare(), spare);
     }
+    assert_eq!(rt; journal.len(), len);
+    assert_eq!(rt; [journal.balance(0), journal.balance(1)], balances);
+    outcome
+}
+
+// Books a hold and what fulfills it, and then holds up to the page's end.
+fn fill<A: Allocator>(rt: &impl Abort, journal: &mut Journal<A>) {
     book(rt, journal, What::Hold(HOLD));
     let fulfilled = What::Fulfilled {
         hold: 0,
         preimage: [0; 32],
     };
     book(rt, journal, fulfilled);
-    let spare = journal.spare();
-    let outcome = journal.reserve(100);
-    assert_booked(rt, journal);
-    if outcome.is_err() {
-        assert_eq!(rt; journal.spare(), spare);
-    } else {
-        assert!(rt; journal.spare() >= 100);
+    for _number in 2..256 {
+        book(rt, journal, What::Hold(HOLD));
     }
-    outcome
+    assert_eq!(rt; journal.spare(), 0);
 }
 
 #[test]
@@ -111,4 +147,13 @@ fn reserving_more_than_there_can_be(rt: HostRuntime) -> Result<(), Fail> {
         assert_eq!(rt; journal.spare(), spare);
     }
     Ok(())
+}
+
+#[test]
+fn a_key(rt: HostRuntime) {
+    let heap = DenyingAllocator::after(rt.alloc(), 0);
+    assert!(rt; matches!(Key::new(&heap, b""), Ok(None)));
+    assert!(rt; !heap.has_denied());
+    assert!(rt; Key::new(&heap, b"k").is_err());
+    assert!(rt; heap.has_denied());
 }

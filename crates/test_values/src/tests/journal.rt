@@ -25,8 +25,8 @@ fn released(hold: u32, cause: Cause) -> What {
     What::Released { hold, cause }
 }
 
-fn credited(rt: &impl Abort, peer: u32, credited: u64) -> What {
-    let Some(key) = Key::new(b"k") else {
+fn credited(rt: &(impl Abort + AllocGlobal), peer: u32, credited: u64) -> What {
+    let Ok(Some(key)) = Key::new(rt.alloc(), b"k") else {
         panic!(rt; "no key");
     };
     What::Credited(Credited {
@@ -39,11 +39,25 @@ fn credited(rt: &impl Abort, peer: u32, credited: u64) -> What {
 }
 
 fn push(rt: &impl Abort, journal: &mut Journal, what: What) {
+    push_by(rt, journal, 0, what);
+}
+
+fn push_by(rt: &impl Abort, journal: &mut Journal, actor: u32, what: What) {
     assert!(rt; journal.spare() > 0);
     assert!(rt; journal.len() < journal.limit());
+    let has_hold = match what.answered() {
+        Some(hold) => journal.hold(hold).is_some(),
+        None => true,
+    };
+    let has_ask = match what.closed() {
+        Some(ask) => journal.ask(ask).is_some(),
+        None => true,
+    };
+    assert!(rt; has_hold);
+    assert!(rt; has_ask);
     journal.push_reserved(Entry {
         moment: 1735689600000,
-        actor: 0,
+        actor,
         what,
     });
 }
@@ -75,8 +89,6 @@ fn each_kind_moves_balances(rt: HostRuntime) -> Result<(), Fail> {
         ),
         (What::Confirmed { ask: 7 }, [-1000, 18446744073709552552]),
         (credited(&rt, 1, u64::MAX), [-1000, 36893488147419104167]),
-        (released(4, Cause::Late), [-1000, 36893488147419104167]),
-        (fulfilled(99), [-1000, 36893488147419104167]),
     ] {
         push(&rt, &mut journal, what);
         assert_eq!(rt; [journal.balance(0), journal.balance(1)], balances);
@@ -120,24 +132,75 @@ fn the_first_answer_is_found(rt: HostRuntime) -> Result<(), Fail> {
 fn room_is_used_up(rt: HostRuntime) -> Result<(), Fail> {
     let mut journal = Journal::new(rt.alloc(), 2)?;
     journal.reserve(3)?;
-    let spare = journal.spare();
-    assert!(rt; spare >= 3);
-    push(&rt, &mut journal, hold(0, 1, 5, 0, 5));
+    assert_eq!(rt; journal.spare(), 256);
+    push(&rt, &mut journal, hold(0, 1, 1000, 13, 987));
     journal.reserve(2)?;
-    assert_eq!(rt; journal.spare() + 1, spare);
+    assert_eq!(rt; journal.spare(), 255);
     assert_eq!(rt; [journal.len(), journal.limit()], [1, 2]);
     assert!(rt; !journal.is_empty());
+    push(&rt, &mut journal, fulfilled(0));
+    assert_eq!(rt; [journal.balance(0), journal.balance(1)], [-1000, 987]);
+    assert_eq!(rt; journal.answer_of(0), Some(1));
     Ok(())
 }
 
 #[test]
-fn a_key_has_1_to_128_octets(rt: HostRuntime) {
+fn a_key_has_1_to_128_octets(rt: HostRuntime) -> Result<(), Fail> {
     let octets = [b'k'; 129];
     for (len, is_key) in [(0, false), (1, true), (128, true), (129, false)] {
-        let key = Key::new(&octets[..len]);
+        assert_eq!(rt; Key::is_key(&octets[..len]), is_key);
+        let key = Key::new(rt.alloc(), &octets[..len])?;
         assert_eq!(rt; key.is_some(), is_key);
         if let Some(key) = key {
             assert_eq!(rt; key.as_slice(), &octets[..len]);
         }
     }
+    Ok(())
+}
+
+// The actor of an entry tells its number.
+fn push_numbered(rt: &impl Abort, journal: &mut Journal, what: What) {
+    let number = journal.len();
+    push_by(rt, journal, number, what);
+}
+
+#[test]
+fn each_entry_is_found_across_pages(rt: HostRuntime) -> Result<(), Fail> {
+    let mut journal = Journal::new(rt.alloc(), 600)?;
+    journal.reserve(600)?;
+    for number in 0..600 {
+        let what = match number {
+            256 => fulfilled(255),
+            257 => released(255, Cause::NoReply),
+            511 => released(0, Cause::Late),
+            512 => What::Asked(Ask { peer: 1, amount: 7 }),
+            513 => What::Undone { ask: 512 },
+            _ => hold(0, 1, 5, 0, 5),
+        };
+        push_numbered(&rt, &mut journal, what);
+    }
+    for number in [0, 255, 256, 511, 512, 599] {
+        assert_eq!(rt; journal.get(number).map(|entry| entry.actor), Some(number));
+    }
+    assert!(rt; journal.get(600).is_none());
+    assert_eq!(rt; [journal.len(), journal.limit()], [600, 600]);
+    for (number, answer) in [
+        (255, Some(256)),
+        (0, Some(511)),
+        (254, None),
+        (512, None),
+        (600, None),
+    ] {
+        assert_eq!(rt; journal.answer_of(number), answer);
+    }
+    for (number, closing) in [(512, Some(513)), (255, None), (513, None)] {
+        assert_eq!(rt; journal.closing_of(number), closing);
+    }
+    Ok(())
+}
+
+// What a page keeps of an entry: the entry, and the number of the one that closed it.
+#[test]
+fn an_entry_takes_112_octets_at_most(rt: HostRuntime) {
+    assert!(rt; size_of::<(Entry, Option<u32>)>() <= 112);
 }
