@@ -1,13 +1,15 @@
 #!/bin/sh
 # Runs the benchmark bench/NAME: main.rt.in, a Rattle program over this repository's crates, and
 # bench/baselines/NAME.rs, the same work in plain Rust. Prints the nanoseconds of a turn and their
-# ratio, and then the instructions of a turn, which don't move with the machine (but for `book` and
-# `desk`, whose rows are no input). For `desk` it prints forwards a second too.
+# ratio, and then the instructions of a turn, which don't move with the machine (but for `book`,
+# `desk` and `journal`, whose rows are no input). For `desk` it prints forwards a second too, and for
+# `journal` the same of one `Vec` in Rust, in rows that begin with `vec_`.
 #
 #     scripts/bench.sh packets
 #     scripts/bench.sh quote
 #     scripts/bench.sh quantity
 #     scripts/bench.sh http
+#     scripts/bench.sh journal
 #     scripts/bench.sh book
 #     scripts/bench.sh desk
 #     scripts/bench.sh answer

@@ -91,25 +91,26 @@ fn form_of_fields<'a>(config: &Config, line: &'a [u8]) -> Result<Form<'a>, Alloc
         ≡ form_of_fields (peer_names config.now.peers) (fields_of line.now)) }
     ensures known { IfOk result (λ form. IsOfPeers (length config.now.peers) form) }
 {
-    let form = match split_fields(line) {
-        Fields::One(word) if word == b"report".as_slice() => Form::Report,
-        Fields::Two(word, now) if word == b"expire".as_slice() => expire_form(now),
-        Fields::Three(word, now, peer) if word == b"ask".as_slice() => ask_form(config, now, peer),
+    match split_fields(line) {
+        Fields::One(word) if word == b"report".as_slice() => Ok(Form::Report),
+        Fields::Two(word, now) if word == b"expire".as_slice() => Ok(expire_form(now)),
+        Fields::Three(word, now, peer) if word == b"ask".as_slice() => {
+            Ok(ask_form(config, now, peer))
+        }
         Fields::Four(word, now, peer, packet) if word == b"hold".as_slice() => {
-            hold_form(config, now, peer, packet)
+            Ok(hold_form(config, now, peer, packet))
         }
         Fields::Four(word, now, number, packet) if word == b"answer".as_slice() => {
-            answer_form(now, number, packet)
+            Ok(answer_form(now, number, packet))
         }
         Fields::Four(word, now, number, verdict) if word == b"close".as_slice() => {
-            close_form(now, number, verdict)
+            Ok(close_form(now, number, verdict))
         }
         Fields::Five(word, now, peer, key, json) if word == b"credit".as_slice() => {
-            credit_form(config, now, peer, key, json)?
+            credit_form(config, now, peer, key, json)
         }
-        _ => Form::Bad,
-    };
-    Ok(form)
+        _ => Ok(Form::Bad),
+    }
 }
 
 // A Prepare of a peer.
