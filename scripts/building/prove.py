@@ -85,11 +85,12 @@ def prove(lanes, name, jobs):
 
 
 def prove_all(below, left, lanes):
-    """Proves the libraries, lowest first."""
-    chain, done, running, idle = chains(below, left), set(), {}, LANES
+    """Proves the libraries, lowest first. Tells which are proved, and whether one is not: then no more are begun."""
+    chain, running, idle = chains(below, left), {}, LANES
+    done, failed = [], False
     with concurrent.futures.ThreadPoolExecutor(LANES) as pool:
         while left or running:
-            ready = sorted((name for name in left if done.issuperset(below[name])), key=lambda name: -chain[name])
+            ready = sorted((name for name in left if set(below[name]) <= set(done)), key=lambda name: -chain[name])
             for place, name in enumerate(ready[:idle]):
                 jobs = max(1, idle // (len(ready) - place))
                 running[pool.submit(prove, lanes, name, jobs)] = name, jobs
@@ -100,10 +101,14 @@ def prove_all(below, left, lanes):
                 name, jobs = running.pop(proof)
                 idle += jobs
                 result, seconds = proof.result()
-                if result.returncode != 0:
-                    sys.exit(f"{result.stdout}{result.stderr}prove.py: {name} is not proved")
-                print(f"{name}: {seconds:.0f} seconds", file=sys.stderr)
-                done.add(name)
+                if result.returncode == 0:
+                    print(f"{name}: {seconds:.0f} seconds", file=sys.stderr)
+                    done.append(name)
+                else:
+                    print(f"{result.stdout}{result.stderr}prove.py: {name} is not proved", file=sys.stderr)
+                    failed = True
+                    left.clear()
+    return done, failed
 
 
 def main():
@@ -115,8 +120,12 @@ def main():
         lanes = queue.Queue()
         for number in range(min(LANES, len(left))):
             lanes.put(lane(room, number))
-        prove_all(below, left, lanes)
+        done, failed = prove_all(below, left, lanes)
         # while the copies are there, their libraries are taken over
+        for name in done:
+            subprocess.run(["rt", "lib"], cwd=f"{TOP}/crates/{name}", capture_output=True)
+        if failed:
+            sys.exit(1)
         check = subprocess.run(["rt", "check"], cwd=f"{TOP}/crates/{sys.argv[1]}")
     sys.exit(check.returncode)
 
