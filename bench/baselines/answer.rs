@@ -1,5 +1,5 @@
 //! The work of `main.rt.in` in plain Rust, over std alone: the same steps in the same order, round one
-//! `Mutex`, over the same walks. Prints what the Rattle program does.
+//! `Mutex`. Prints what the Rattle program does.
 
 #[path = "parts/book.rs"]
 mod book;

@@ -1,4 +1,4 @@
-//! The same pairs in plain Rust, over std alone: the same checks in the same order, over the same walks.
+//! The same pairs in plain Rust, over std alone: the same checks in the same order.
 //! Prints what the Rattle program does.
 
 #[path = "parts/book.rs"]

@@ -1,6 +1,6 @@
-//! The book in plain Rust, which walks as the book does: a hold goes over all entries for the total
-//! in, for the total out and for the sender's balance, an answer goes over those after the hold, and
-//! no total is kept from one call to the next.
+//! The book in plain Rust. A hold walks as the book's does, over all entries for the total in, for the
+//! total out and for the sender's balance, and no total is kept from one call to the next. Entries lie
+//! in one `Vec`, and an answer goes over those after its hold, where the book looks beside the hold.
 
 // A book has more kinds of entries, of answers and of refusals than forwards make here.
 #![allow(dead_code)]
