@@ -15,6 +15,8 @@
 #     scripts/bench.sh answer
 #     scripts/bench.sh report
 #
+# With LARGE=1 in the environment `book` has rows behind 16,000,000 entries too.
+#
 # It works on a copy of the repository in a temporary folder (TMPDIR says where). It needs rt, rustc
 # and python3, and valgrind for the instructions. The Rattle program is proved before it is built
 # (`rt run`): a build without proof (`rt try`) has checks in it and is slower. In a fresh clone that

@@ -3,19 +3,30 @@
 
 #[path = "parts/book.rs"]
 mod book;
+#[path = "parts/config.rs"]
+mod config;
+#[path = "parts/credits.rs"]
+mod credits;
 #[path = "parts/entries.rs"]
 mod entries;
+#[path = "parts/holds.rs"]
+mod holds;
 #[path = "parts/http_messages.rs"]
 mod messages;
+#[path = "parts/journal.rs"]
+mod journal;
 #[path = "parts/packets.rs"]
 #[allow(dead_code)]
 mod packets;
 #[path = "parts/sha256.rs"]
 mod sha256;
+#[path = "parts/tallies.rs"]
+mod tallies;
 #[path = "parts/worker.rs"]
 mod worker;
 
-use book::{Book, Outcome, PeerReply, lending};
+use book::{Book, Outcome, PeerReply};
+use config::lending;
 use messages::{Examined, Fault, Fields, Pieces, ROOM, Request, look_at, read_request, write_response};
 use packets::{Octets, Packet, Prepare, read, write_prepare};
 use sha256::sha256;

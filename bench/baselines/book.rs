@@ -1,17 +1,29 @@
-//! The same pairs in plain Rust, over std alone: the same checks in the same order.
-//! Prints what the Rattle program does.
+//! The same turns in plain Rust, over std alone: the same tables, and the same checks in the same
+//! order. Prints what the Rattle program does.
 
 #[path = "parts/book.rs"]
 mod book;
+#[path = "parts/config.rs"]
+mod config;
+#[path = "parts/credits.rs"]
+mod credits;
 #[path = "parts/entries.rs"]
 mod entries;
+#[path = "parts/holds.rs"]
+mod holds;
+#[path = "parts/journal.rs"]
+mod journal;
 #[path = "parts/packets.rs"]
 #[allow(dead_code)]
 mod packets;
 #[path = "parts/sha256.rs"]
 mod sha256;
+#[path = "parts/tallies.rs"]
+mod tallies;
 
-use book::{Book, Outcome, PeerReply, lending};
+use book::{Book, Held, Outcome, PeerReply};
+use config::{Config, Levels, lending};
+use credits::Quantity;
 use packets::Prepare;
 use sha256::sha256;
 use std::hint::black_box;
@@ -23,71 +35,353 @@ const NEW_YEAR: i64 = 1_735_689_600_000;
 // How many preimages take turns.
 const SECRETS: usize = 8;
 
-// Payments. From one to the next change the sender, the amount, the preimage and the moment.
-struct Payments {
-    conditions: [[u8; 32]; SECRETS],
-    turn: u32,
+// How long a hold may last, in milliseconds.
+const HOUR_MS: i64 = 3_600_000;
+
+// As by default, an outgoing packet expires so much sooner.
+const WINDOW_MS: i64 = 1_000;
+
+// How many entries stand before the rows of open holds.
+const BEFORE_OPEN: u32 = 1_000_000;
+
+// The settings of `CONFIG` in the Rattle program.
+fn config() -> Config {
+    let mut config = lending();
+    config.journal = 16_777_216;
+    config.max_hold_ms = HOUR_MS as u32;
+    for peer in &mut config.peers {
+        peer.levels = Some(Levels { threshold: 1, settle_to: 0 });
+    }
+    config
 }
 
-impl Payments {
-    fn new() -> Payments {
-        Payments {
-            conditions: std::array::from_fn(|secret| sha256(&[secret as u8; 32])),
-            turn: 0,
+// ---- turns
+
+#[derive(Clone, Copy)]
+enum Work {
+    Fulfill,
+    Release,
+    Expire,
+    Credit,
+    Settle,
+}
+
+impl Work {
+    fn name(self) -> &'static str {
+        match self {
+            Work::Fulfill => "fulfill",
+            Work::Release => "release",
+            Work::Expire => "expire",
+            Work::Credit => "credit",
+            Work::Settle => "settle",
         }
     }
 
-    fn pay(&mut self, book: &mut Book) -> u64 {
-        self.turn = self.turn.wrapping_add(1);
-        let state = u64::from(self.turn).wrapping_mul(6_364_136_223_846_793_005);
-        let secret = (state >> 61) as usize;
-        let from = ((state >> 60) % 2) as u32;
+    fn entries(self) -> u32 {
+        match self {
+            Work::Credit => 1,
+            _ => 2,
+        }
+    }
+}
+
+#[derive(Clone, Copy)]
+struct Turn {
+    number: u32,
+    state: u64,
+}
+
+impl Turn {
+    fn of(number: u32) -> Turn {
+        Turn { number, state: u64::from(number).wrapping_mul(6_364_136_223_846_793_005) }
+    }
+
+    fn peer(&self) -> u32 {
+        ((self.state >> 60) % 2) as u32
+    }
+
+    fn amount(&self) -> u64 {
+        (self.state >> 40) % 100_000
+    }
+
+    fn preimage(&self) -> [u8; 32] {
+        [(self.state >> 61) as u8; 32]
+    }
+
+    fn lasting(&self) -> i64 {
+        ((self.state >> 20) % HOUR_MS as u64) as i64 + 1
+    }
+
+    fn now(&self) -> i64 {
+        NEW_YEAR + i64::from(self.number)
+    }
+}
+
+struct Turns {
+    conditions: [[u8; 32]; SECRETS],
+    made: u32,
+}
+
+impl Turns {
+    fn new() -> Turns {
+        Turns { conditions: std::array::from_fn(|secret| sha256(&[secret as u8; 32])), made: 0 }
+    }
+
+    fn next(&mut self) -> Turn {
+        self.made = self.made.wrapping_add(1);
+        Turn::of(self.made)
+    }
+
+    fn hold(&self, book: &mut Book, turn: Turn, lasting: i64) -> Option<Held> {
+        let from = turn.peer();
         let destination: &[u8] = if from == 0 { b"test.bob" } else { b"test.alice" };
-        let now = NEW_YEAR + i64::from(self.turn);
+        let now = turn.now();
         let prepare = black_box(Prepare {
-            amount: (state >> 40) % 100_000,
-            expires: now + 30_000,
-            condition: &self.conditions[secret],
+            amount: turn.amount(),
+            expires: now + WINDOW_MS + lasting,
+            condition: &self.conditions[(turn.state >> 61) as usize],
             destination,
             payload: b"",
         });
-        match book.hold(0, from, &prepare, now) {
-            Ok(held) => held.out ^ fulfill(book, held.number, [secret as u8; 32], now),
-            Err(_) => 1,
+        book.hold(0, from, &prepare, now).ok()
+    }
+
+    fn hold_often(&mut self, book: &mut Book, open: u32) {
+        for _ in 0..open {
+            let turn = self.next();
+            self.hold(book, turn, turn.lasting());
         }
     }
 
-    fn pay_often(&mut self, book: &mut Book, pairs: u32) -> u64 {
-        (0..pairs).fold(0u64, |sum, _| sum.wrapping_add(self.pay(book)))
+    fn work(&mut self, book: &mut Book, work: Work) -> u64 {
+        let turn = self.next();
+        match work {
+            Work::Fulfill => self.pay(book, turn, PeerReply::Fulfill(turn.preimage())),
+            Work::Release => self.pay(book, turn, PeerReply::Reject(*b"F99")),
+            Work::Expire => self.expire(book, turn),
+            Work::Credit => credit(book, turn),
+            Work::Settle => settle(book, turn),
+        }
+    }
+
+    fn work_often(&mut self, book: &mut Book, work: Work, turns: u32) -> u64 {
+        (0..turns).fold(0u64, |sum, _| sum.wrapping_add(self.work(book, work)))
+    }
+
+    fn pay(&self, book: &mut Book, turn: Turn, reply: PeerReply) -> u64 {
+        match self.hold(book, turn, turn.lasting()) {
+            Some(held) => held.out ^ answer(book, held.number, reply, turn.now()),
+            None => 1,
+        }
+    }
+
+    fn expire(&self, book: &mut Book, turn: Turn) -> u64 {
+        let Some(held) = self.hold(book, turn, 1) else {
+            return 1;
+        };
+        match book.expire_one(0, held.deadline) {
+            Some(number) => held.out ^ u64::from(number),
+            None => 2,
+        }
+    }
+
+    // Fulfills the hold of an earlier turn beside a new one.
+    fn pay_older(&mut self, book: &mut Book, older: u32, number: u32) -> u64 {
+        let turn = self.next();
+        let Some(held) = self.hold(book, turn, turn.lasting()) else {
+            return 1;
+        };
+        let reply = PeerReply::Fulfill(Turn::of(older).preimage());
+        held.out ^ answer(book, number, reply, turn.now())
+    }
+
+    // Fulfills the oldest hold each time, where the last turns made so many.
+    fn pay_oldest_often(&mut self, book: &mut Book, open: u32, turns: u32) -> u64 {
+        let older = self.made.wrapping_sub(open).wrapping_add(1);
+        let first = book.len().wrapping_sub(open);
+        let mut sum = 0u64;
+        for place in 0..turns {
+            let number = number_of(first, open, place);
+            sum = sum.wrapping_add(self.pay_older(book, older.wrapping_add(place), number));
+        }
+        sum
     }
 }
 
-fn fulfill(book: &mut Book, number: u32, preimage: [u8; 32], now: i64) -> u64 {
-    match book.answer(0, number, PeerReply::Fulfill(black_box(preimage)), now) {
+// The number of a hold by its place: so many follow on each other, and then each follows on an answer.
+fn number_of(first: u32, open: u32, place: u32) -> u32 {
+    first.wrapping_add(place).wrapping_add(place.saturating_sub(open))
+}
+
+fn answer(book: &mut Book, number: u32, reply: PeerReply, now: i64) -> u64 {
+    match book.answer(0, number, black_box(reply), now) {
         Ok(Outcome::Fulfilled { entry }) => u64::from(entry),
-        Ok(Outcome::Released { .. }) => 2,
+        Ok(Outcome::Released { entry, .. }) => u64::from(entry) ^ 1,
         Err(_) => 3,
     }
 }
 
-fn run_row(before: u32, pairs: u32, books: u32) {
-    let mut payments = Payments::new();
-    let mut sum: i128 = 0;
-    let mut nanoseconds: u128 = 0;
-    for _ in 0..books {
-        let mut book = Book::new(black_box(lending()));
-        payments.pay_often(&mut book, before / 2);
-        let start = Instant::now();
-        sum = sum.wrapping_add(i128::from(payments.pay_often(&mut book, pairs)));
-        nanoseconds = nanoseconds.wrapping_add(start.elapsed().as_nanos());
-        sum = sum.wrapping_add(book.balance(0) ^ i128::from(book.len()));
+fn credit(book: &mut Book, turn: Turn) -> u64 {
+    let mut key = [b'-'; 36];
+    key[..8].copy_from_slice(&turn.state.to_be_bytes());
+    let amount = u128::from(turn.amount()) * 10_000_000;
+    let quantity = black_box(Quantity { amount, scale: 9 });
+    match book.credit(0, turn.peer(), key.to_vec(), &quantity, turn.now()) {
+        Ok(kept) => kept.amount ^ u64::from(kept.number),
+        Err(_) => 1,
     }
-    let turns = u64::from(pairs) * u64::from(books);
-    println!("fulfil_{before} {turns} {nanoseconds} {sum}");
+}
+
+fn settle(book: &mut Book, turn: Turn) -> u64 {
+    let Ok(asked) = book.ask(0, black_box(turn.peer()), turn.now()) else {
+        return 1;
+    };
+    match book.settle_close(0, asked.number, black_box(false), turn.now()) {
+        Ok(entry) => asked.amount ^ u64::from(entry),
+        Err(_) => 2,
+    }
+}
+
+// Makes the connector owe each peer something, so that a settlement to it is due.
+fn fund(book: &mut Book) {
+    for peer in 0..2 {
+        let quantity = Quantity { amount: 1_000_000, scale: 2 };
+        let _ = book.credit(0, peer, b"first".to_vec(), &quantity, NEW_YEAR);
+    }
+}
+
+// A number that rests on all that a book tells without its entries.
+fn sum_of(book: &Book) -> i128 {
+    let sums = book.sums(0);
+    let mut sum = i128::from(book.len());
+    for peer in 0..2 {
+        sum = sum.wrapping_mul(31).wrapping_add(book.balance(peer));
+        sum = sum.wrapping_mul(31).wrapping_add(i128::from(book.open_holds(peer)));
+    }
+    sum = sum.wrapping_mul(31).wrapping_add(sums.settled ^ sums.held);
+    sum.wrapping_mul(31).wrapping_add(sums.fees ^ sums.bought ^ sums.sold)
+}
+
+// A book of so many entries, or one fewer.
+fn book_with(turns: &mut Turns, work: Work, entries: u32) -> Book {
+    let mut book = Book::new(black_box(config()));
+    fund(&mut book);
+    let left = entries.saturating_sub(book.len());
+    turns.work_often(&mut book, work, left / work.entries());
+    book
+}
+
+// ---- rows
+
+// How many entries stand before, how many turns are timed over a book, and over how many books.
+#[derive(Clone, Copy)]
+struct Size {
+    before: u32,
+    turns: u32,
+    books: u32,
+}
+
+impl Size {
+    fn new(before: u32, turns: u32, books: u32) -> Size {
+        Size { before, turns, books }
+    }
+}
+
+// Times the turns of a row over one more book.
+fn run_book(turns: &mut Turns, work: Work, size: Size) -> (u128, i128) {
+    let mut book = book_with(turns, work, size.before);
+    assert_eq!(book.len(), size.before);
+    let begun = Instant::now();
+    let sum = turns.work_often(&mut book, work, size.turns);
+    let nanoseconds = begun.elapsed().as_nanos();
+    assert_eq!(book.len(), size.before + size.turns * work.entries());
+    (nanoseconds, i128::from(sum).wrapping_add(sum_of(&book)))
+}
+
+fn run_row(work: Work, size: Size) {
+    let mut turns = Turns::new();
+    let mut nanoseconds = 0u128;
+    let mut sum = 0i128;
+    for _ in 0..size.books {
+        let done = run_book(&mut turns, work, size);
+        nanoseconds += done.0;
+        sum = sum.wrapping_add(done.1);
+    }
+    let count = u64::from(size.turns) * u64::from(size.books);
+    println!("{}_{} {count} {nanoseconds} {sum}", work.name(), size.before);
+}
+
+fn run_open_row(open: u32, count: u32) {
+    let mut turns = Turns::new();
+    let mut book = book_with(&mut turns, Work::Fulfill, BEFORE_OPEN);
+    turns.hold_often(&mut book, open);
+    let begun = Instant::now();
+    let sum = turns.work_often(&mut book, Work::Fulfill, count);
+    let nanoseconds = begun.elapsed().as_nanos();
+    assert_eq!(book.len(), BEFORE_OPEN + open + 2 * count);
+    let sum = i128::from(sum).wrapping_add(sum_of(&book));
+    println!("fulfill_open_{open} {count} {nanoseconds} {sum}");
+}
+
+fn run_oldest_row(open: u32, count: u32) {
+    let mut turns = Turns::new();
+    let mut book = book_with(&mut turns, Work::Fulfill, BEFORE_OPEN);
+    turns.hold_often(&mut book, open);
+    let begun = Instant::now();
+    let sum = turns.pay_oldest_often(&mut book, open, count);
+    let nanoseconds = begun.elapsed().as_nanos();
+    assert_eq!(book.len(), BEFORE_OPEN + open + 2 * count);
+    let sum = i128::from(sum).wrapping_add(sum_of(&book));
+    println!("fulfill_oldest_{open} {count} {nanoseconds} {sum}");
+}
+
+fn run_behind_100() {
+    run_row(Work::Fulfill, Size::new(100, 100, 2_000));
+    run_row(Work::Release, Size::new(100, 100, 4_000));
+    run_row(Work::Expire, Size::new(100, 100, 4_000));
+    run_row(Work::Credit, Size::new(100, 100, 4_000));
+    run_row(Work::Settle, Size::new(100, 100, 10_000));
+}
+
+fn run_behind_10000() {
+    run_row(Work::Fulfill, Size::new(10_000, 2_000, 100));
+    run_row(Work::Release, Size::new(10_000, 2_000, 200));
+    run_row(Work::Expire, Size::new(10_000, 2_000, 200));
+    run_row(Work::Credit, Size::new(10_000, 2_000, 200));
+    run_row(Work::Settle, Size::new(10_000, 2_000, 500));
+}
+
+fn run_behind_1000000() {
+    run_row(Work::Fulfill, Size::new(1_000_000, 200_000, 1));
+    run_row(Work::Release, Size::new(1_000_000, 200_000, 1));
+    run_row(Work::Expire, Size::new(1_000_000, 200_000, 1));
+    run_row(Work::Credit, Size::new(1_000_000, 200_000, 1));
+    run_row(Work::Settle, Size::new(1_000_000, 800_000, 1));
+}
+
+fn run_behind_16000000() {
+    run_row(Work::Fulfill, Size::new(16_000_000, 200_000, 1));
+    run_row(Work::Release, Size::new(16_000_000, 200_000, 1));
+    run_row(Work::Expire, Size::new(16_000_000, 200_000, 1));
+    run_row(Work::Credit, Size::new(16_000_000, 200_000, 1));
+    run_row(Work::Settle, Size::new(16_000_000, 380_000, 1));
+}
+
+fn run_beside_open() {
+    run_open_row(1, 200_000);
+    run_open_row(100, 200_000);
+    run_open_row(100_000, 100_000);
+    run_oldest_row(1, 200_000);
+    run_oldest_row(100, 200_000);
+    run_oldest_row(100_000, 30_000);
 }
 
 fn main() {
-    run_row(100, 5, 2_000);
-    run_row(1_000, 10, 100);
-    run_row(10_000, 100, 2);
+    run_behind_100();
+    run_behind_10000();
+    run_behind_1000000();
+    if std::env::var_os("LARGE").is_some() {
+        run_behind_16000000();
+    }
+    run_beside_open();
 }

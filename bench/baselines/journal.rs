@@ -7,6 +7,7 @@ const LOOKUPS: u32 = 10_000_000;
 
 const ROOM: usize = 256;
 
+#[allow(dead_code)]
 #[derive(Clone, Copy)]
 struct Hold {
     from: u32,

@@ -1,15 +1,20 @@
-//! The same snapshots and reports in plain Rust, over std alone. It walks as the book does: for each
-//! peer once over all entries for its balance and once for its open holds, for each asset five times,
-//! and once for the fulfilled holds. Entries are put into the journal as the book would book them, and
-//! are not checked. Prints what the Rattle program does.
+//! The same snapshots and reports in plain Rust, over std alone: each number of a snapshot is read from
+//! the tallies, which are kept entry by entry as the book keeps them. Entries are put into the journal
+//! as the book would book them, and are not checked. Prints what the Rattle program does.
 
 #[path = "parts/entries.rs"]
 mod entries;
+#[path = "parts/journal.rs"]
+mod journal;
+#[path = "parts/tallies.rs"]
+mod tallies;
 
-use entries::{Ask, Cause, Entry, Hold, What, answered, fulfilled, released};
+use entries::{Cause, Entry, Hold, What};
+use journal::Journal;
 use std::hint::black_box;
 use std::io::Read;
 use std::time::Instant;
+use tallies::{Sums, Tallies};
 
 // ---- the book
 
@@ -31,76 +36,23 @@ fn lending(peers: u32) -> Config {
     Config { peers: (0..peers).map(peer).collect(), assets: vec![("USD".to_string(), 2)] }
 }
 
-impl Config {
-    fn has_asset(&self, asset: u32, peer: u32) -> bool {
-        self.peers.get(peer as usize).is_some_and(|peer| peer.asset == asset)
-    }
-}
-
 struct Book {
     config: Config,
-    entries: Vec<Entry>,
+    journal: Journal,
+    tallies: Tallies,
 }
-
-#[derive(Clone, Copy)]
-struct Sums {
-    settled: i128,
-    held: i128,
-    fees: i128,
-    bought: i128,
-    sold: i128,
-}
-
-include!("parts/walks.rs");
 
 impl Book {
-    fn open_holds(&self, peer: u32) -> u32 {
-        self.total_of(Total::Sent(peer)) as u32
+    fn new(config: Config) -> Book {
+        let assets = config.peers.iter().map(|peer| peer.asset).collect();
+        let tallies = Tallies::new(assets, config.assets.len(), 0);
+        Book { config, journal: Journal::new(65_536), tallies }
     }
 
-    fn settled(&self, asset: u32) -> i128 {
-        let mut raised = 0u128;
-        let mut lowered = 0u128;
-        for entry in &self.entries {
-            raised += u128::from(self.settled_in(asset, &entry.what));
-            lowered += u128::from(self.settled_out(asset, &entry.what));
-        }
-        raised as i128 - lowered as i128
-    }
-
-    fn settled_in(&self, asset: u32, what: &What) -> u64 {
-        match what {
-            What::Credited(credited) if self.config.has_asset(asset, credited.peer) => {
-                credited.credited
-            }
-            What::Undone { ask } => match self.ask_at(*ask) {
-                Some(asked) if self.config.has_asset(asset, asked.peer) => asked.amount,
-                _ => 0,
-            },
-            _ => 0,
-        }
-    }
-
-    fn settled_out(&self, asset: u32, what: &What) -> u64 {
-        match what {
-            What::Asked(ask) if self.config.has_asset(asset, ask.peer) => ask.amount,
-            _ => 0,
-        }
-    }
-
-    fn sums(&self, asset: u32) -> Sums {
-        let fees = self.total_of(Total::Fees(asset)) as i128;
-        Sums {
-            settled: self.settled(asset),
-            held: self.total_of(Total::Held(asset)) as i128,
-            fees,
-            bought: self.total_of(Total::Taken(asset)) as i128 - fees,
-            sold: self.total_of(Total::Sold(asset)) as i128,
-        }
-    }
-
-    fn fulfilled(&self) -> u32 {
-        self.entries.iter().filter(|entry| fulfilled(&entry.what).is_some()).count() as u32
+    fn push(&mut self, entry: Entry) {
+        self.journal.reserve(1);
+        self.tallies.apply(&self.journal, &entry.what);
+        self.journal.push(entry);
     }
 }
 
@@ -116,7 +68,7 @@ fn pay(book: &mut Book, turn: u32, peers: u32) {
     let to = from.wrapping_add(1).wrapping_add(turn % others) % peers.max(1);
     let moment = NEW_YEAR + i64::from(turn);
     let amount = u64::from(turn % 1_000) + 1;
-    let number = book.entries.len() as u32;
+    let number = book.journal.len();
     let hold = Hold {
         from,
         to,
@@ -126,20 +78,20 @@ fn pay(book: &mut Book, turn: u32, peers: u32) {
         deadline: moment + 29_000,
         condition: [0; 32],
     };
-    book.entries.push(Entry { moment, actor: 0, what: What::Hold(hold) });
+    book.push(Entry { moment, actor: 0, what: What::Hold(hold) });
     let what = match turn % 16 {
         5 => return,
         11 => What::Released { hold: number, cause: Cause::Peer(*b"F99") },
         _ => What::Fulfilled { hold: number, preimage: [0; 32] },
     };
-    book.entries.push(Entry { moment, actor: 0, what });
+    book.push(Entry { moment, actor: 0, what });
 }
 
 // A book of so many entries, or one more.
 fn book_of(peers: u32, entries: u32) -> Book {
-    let mut book = Book { config: lending(peers), entries: Vec::new() };
+    let mut book = Book::new(lending(peers));
     for turn in 0..entries {
-        if (book.entries.len() as u32) < entries {
+        if book.journal.len() < entries {
             pay(&mut book, turn, peers);
         }
     }
@@ -172,25 +124,25 @@ struct Snapshot {
 
 impl Snapshot {
     fn of(book: &Book) -> Snapshot {
-        let fulfilled = book.fulfilled();
+        let fulfilled = book.tallies.fulfilled();
         let mut peers = Vec::new();
         for (place, peer) in book.config.peers.iter().enumerate() {
             peers.push(PeerAccount {
                 name: peer.name.clone(),
                 asset: peer.asset,
                 least: peer.least,
-                balance: book.balance(place as u32),
-                open_holds: book.open_holds(place as u32),
+                balance: book.tallies.balance(place as u32),
+                open_holds: book.tallies.open_holds(place as u32),
             });
         }
         let mut assets = Vec::new();
         for (place, (code, scale)) in book.config.assets.iter().enumerate() {
             assets.push(AssetBooks {
                 name: format!("{code}/{scale}"),
-                sums: book.sums(place as u32),
+                sums: book.tallies.sums(place as u32),
             });
         }
-        Snapshot { peers, assets, entries: book.entries.len() as u32, fulfilled }
+        Snapshot { peers, assets, entries: book.journal.len(), fulfilled }
     }
 }
 

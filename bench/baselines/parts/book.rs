@@ -1,93 +1,27 @@
-//! The book in plain Rust. A hold walks as the book's does, over all entries for the total in, for the
-//! total out and for the sender's balance, and no total is kept from one call to the next. Entries lie
-//! in one `Vec`, and an answer goes over those after its hold, where the book looks beside the hold.
+//! The book in plain Rust: a journal in pages, and beside it the same tables as the book's, so that
+//! no call goes over the entries.
 
-// A book has more kinds of entries, of answers and of refusals than forwards make here.
+// A book has more calls, kinds of answers and refusals than each program uses.
 #![allow(dead_code)]
 
-use crate::entries::{Ask, Cause, Entry, Hold, What, answered, fulfilled, released};
+use crate::config::{Config, Levels};
+use crate::credits::{KeyTable, Quantity, credited};
+use crate::entries::{Ask, Cause, Credited, Entry, Hold, What};
+use crate::holds::HoldTable;
+use crate::journal::Journal;
 use crate::packets::Prepare;
 use crate::sha256::sha256;
-use std::collections::HashMap;
-
-// ---- the configuration
-
-struct Peer {
-    asset: u32,
-    least: i64,
-    fee_ppm: u32,
-    max_packet: u64,
-}
-
-pub struct Config {
-    peers: Vec<Peer>,
-    routes: HashMap<Vec<u8>, u32>,
-    longest: usize,
-    journal: u32,
-    window_ms: u32,
-    max_hold_ms: u32,
-}
-
-// Two peers in one asset, each of which may owe all that there is; the rest as by default.
-pub fn lending() -> Config {
-    let peer = || Peer { asset: 0, least: i64::MIN, fee_ppm: 0, max_packet: i64::MAX as u64 };
-    let routes: HashMap<Vec<u8>, u32> =
-        [(b"test.alice".to_vec(), 0), (b"test.bob".to_vec(), 1)].into();
-    Config {
-        peers: vec![peer(), peer()],
-        longest: routes.keys().map(Vec::len).max().unwrap_or(0),
-        routes,
-        journal: 65_536,
-        window_ms: 1_000,
-        max_hold_ms: 30_000,
-    }
-}
-
-impl Config {
-    // The peer of the longest prefix that matches.
-    fn route(&self, destination: &[u8]) -> Option<u32> {
-        if destination.starts_with(b"peer.") {
-            return None;
-        }
-        if let Some(peer) = self.routes.get(destination) {
-            return Some(*peer);
-        }
-        let places = destination.len().min(self.longest.saturating_add(1));
-        for place in (0..places).rev() {
-            if destination[place] == b'.' {
-                if let Some(peer) = self.routes.get(&destination[..place]) {
-                    return Some(*peer);
-                }
-            }
-        }
-        self.routes.get(b"".as_slice()).copied()
-    }
-
-    fn has_asset(&self, asset: u32, peer: u32) -> bool {
-        self.peers.get(peer as usize).is_some_and(|peer| peer.asset == asset)
-    }
-
-    // The fee and the amount out. Only one asset is there, so it is worth itself.
-    fn quote(&self, from: u32, amount: u64) -> Option<(u64, u64)> {
-        let ppm = self.peers[from as usize].fee_ppm;
-        let fee = ((u128::from(amount) * u128::from(ppm) + 999_999) / 1_000_000) as u64;
-        let out = amount - fee;
-        if amount > 0 && out == 0 { None } else { Some((fee, out)) }
-    }
-}
-
-// ---- the walks
+use crate::tallies::{Sums, Tallies};
 
 pub struct Book {
     config: Config,
-    base: u32,
-    entries: Vec<Entry>,
-    open_count: u32,
+    journal: Journal,
+    tallies: Tallies,
+    holds: HoldTable,
+    keys: KeyTable,
 }
 
-include!("walks.rs");
-
-// ---- the calls
+// ---- what calls are told, and what they answer
 
 pub struct Held {
     pub number: u32,
@@ -121,18 +55,99 @@ pub enum Outcome {
 }
 
 pub struct NotOpen {
-    closer: Option<u32>,
+    pub closer: Option<u32>,
 }
+
+pub struct Kept {
+    pub number: u32,
+    pub amount: u64,
+    pub fresh: bool,
+}
+
+pub enum CreditFault {
+    TooLarge,
+    KeyTaken { kept: u32 },
+    Full,
+}
+
+pub struct Asked {
+    pub number: u32,
+    pub amount: u64,
+}
+
+pub enum AskFault {
+    StillOpen { number: u32, amount: u64 },
+    NotDue { balance: i128 },
+    Full,
+}
+
+// ---- the book
 
 impl Book {
     pub fn new(config: Config) -> Book {
-        Book { config, base: 0, entries: Vec::new(), open_count: 0 }
+        let assets = config.peers.iter().map(|peer| peer.asset).collect();
+        Book {
+            journal: Journal::new(config.journal),
+            tallies: Tallies::new(assets, config.scales.len(), 0),
+            holds: HoldTable::default(),
+            keys: KeyTable::new(config.peers.len()),
+            config,
+        }
     }
 
     pub fn len(&self) -> u32 {
-        self.entries.len() as u32
+        self.journal.len()
     }
 
+    pub fn balance(&self, peer: u32) -> i128 {
+        self.tallies.balance(peer)
+    }
+
+    pub fn open_holds(&self, peer: u32) -> u32 {
+        self.tallies.open_holds(peer)
+    }
+
+    pub fn sums(&self, asset: u32) -> Sums {
+        self.tallies.sums(asset)
+    }
+
+    // Of the years 1970 to 9999, and never before the last entry's.
+    fn moment_at(&self, now: i64) -> i64 {
+        let last = self.journal.last().map_or(0, |entry| entry.moment);
+        now.min(253_402_300_799_999).max(0).max(last)
+    }
+
+    fn has_room(&self, more: u32) -> bool {
+        u64::from(self.len()) + u64::from(self.tallies.open_count()) + u64::from(more)
+            <= u64::from(self.config.journal)
+    }
+
+    // Books an entry that ends nothing, with room for whatever ends what it opens and what is open.
+    fn append(&mut self, entry: Entry, opened: u32) -> u32 {
+        let number = self.len();
+        self.journal.reserve((self.tallies.open_count() + opened + 1) as usize);
+        match &entry.what {
+            What::Hold(hold) => self.holds.insert(number, hold.deadline),
+            What::Credited(credited) => self.keys.keep(credited.peer, &credited.key, number),
+            _ => {}
+        }
+        self.tallies.apply(&self.journal, &entry.what);
+        self.journal.push(entry);
+        number
+    }
+
+    // Books the entry that ends what is open, for which there is room.
+    fn close(&mut self, entry: Entry) -> u32 {
+        let number = self.len();
+        self.tallies.apply(&self.journal, &entry.what);
+        self.journal.push(entry);
+        number
+    }
+}
+
+// ---- holds
+
+impl Book {
     pub fn hold(
         &mut self,
         actor: u32,
@@ -146,12 +161,6 @@ impl Book {
         self.book_hold(actor, hold, moment)
     }
 
-    // Of the years 1970 to 9999, and never before the last entry's.
-    fn moment_at(&self, now: i64) -> i64 {
-        let last = self.entries.last().map_or(0, |entry| entry.moment);
-        now.min(253_402_300_799_999).max(0).max(last)
-    }
-
     fn hold_terms(
         &self,
         from: u32,
@@ -159,7 +168,7 @@ impl Book {
         route: Option<u32>,
         moment: i64,
     ) -> Result<Hold, HoldFault> {
-        let max = self.config.peers[from as usize].max_packet;
+        let max = self.config.peer(from).max_packet;
         if prepare.amount > max {
             return Err(HoldFault::AmountTooLarge { max });
         }
@@ -194,29 +203,20 @@ impl Book {
             return Err(HoldFault::TotalFull);
         }
         let balance = self.balance(hold.from);
-        let least = self.config.peers[hold.from as usize].least;
+        let least = self.config.peer(hold.from).least;
         if balance - i128::from(hold.amount) < i128::from(least) {
             return Err(HoldFault::BelowLeast { balance });
         }
-        let number = self.len();
-        self.entries.reserve(self.open_count as usize + 2);
-        self.entries.push(Entry { moment, actor, what: What::Hold(hold) });
-        self.open_count += 1;
+        let number = self.append(Entry { moment, actor, what: What::Hold(hold) }, 1);
         Ok(Held { number, to: hold.to, out: hold.out, deadline: hold.deadline })
-    }
-
-    fn has_room(&self, more: u32) -> bool {
-        u64::from(self.len()) + u64::from(self.open_count) + u64::from(more)
-            <= u64::from(self.config.journal)
     }
 
     fn has_total(&self, hold: &Hold) -> bool {
         let most = u128::from(u64::MAX);
-        let base = self.base;
-        let from = self.config.peers[hold.from as usize].asset;
-        let to = self.config.peers[hold.to as usize].asset;
-        let paid = self.total_of(Total::In { base, asset: from }) + u128::from(hold.amount);
-        let got = self.total_of(Total::Out { base, asset: to }) + u128::from(hold.out);
+        let from = self.config.peer(hold.from).asset;
+        let to = self.config.peer(hold.to).asset;
+        let paid = self.tallies.total_in(from) + u128::from(hold.amount);
+        let got = self.tallies.total_out(to) + u128::from(hold.out);
         paid <= most && got <= most
     }
 
@@ -227,42 +227,41 @@ impl Book {
         reply: PeerReply,
         now: i64,
     ) -> Result<Outcome, NotOpen> {
-        let Some(hold) = self.open_hold_at(number) else {
-            return Err(NotOpen { closer: self.answer_of(number) });
+        let Some(hold) = self.open_hold(number) else {
+            return Err(NotOpen { closer: self.journal.answer_of(number) });
         };
         let moment = self.moment_at(now);
+        let deadline = hold.deadline;
         match verdict(&hold, moment, reply) {
             Ok(preimage) => {
                 let what = What::Fulfilled { hold: number, preimage };
+                self.holds.take(number, deadline);
                 Ok(Outcome::Fulfilled { entry: self.close(Entry { moment, actor, what }) })
             }
             Err(cause) => {
                 let what = What::Released { hold: number, cause };
+                self.holds.take(number, deadline);
                 Ok(Outcome::Released { entry: self.close(Entry { moment, actor, what }), cause })
             }
         }
     }
 
-    // The number of the first entry that answers the hold.
-    fn answer_of(&self, hold: u32) -> Option<u32> {
-        let place = self.entries.iter().position(|entry| answered(&entry.what) == Some(hold));
-        place.map(|place| place as u32)
-    }
-
-    fn open_hold_at(&self, number: u32) -> Option<Hold> {
-        let hold = self.hold_at(number).copied()?;
-        let after = &self.entries[number as usize..];
-        if after.iter().any(|entry| answered(&entry.what) == Some(number)) {
+    pub fn expire_one(&mut self, actor: u32, now: i64) -> Option<u32> {
+        let number = self.holds.earliest()?;
+        let deadline = self.journal.hold(number)?.deadline;
+        let moment = self.moment_at(now);
+        if moment < deadline {
             return None;
         }
-        Some(hold)
+        let what = What::Released { hold: number, cause: Cause::Late };
+        self.holds.take(number, deadline);
+        self.close(Entry { moment, actor, what });
+        Some(number)
     }
 
-    fn close(&mut self, entry: Entry) -> u32 {
-        let number = self.len();
-        self.entries.push(entry);
-        self.open_count -= 1;
-        number
+    fn open_hold(&self, number: u32) -> Option<Hold> {
+        let hold = self.journal.hold(number)?;
+        if self.journal.answer_of(number).is_some() { None } else { Some(*hold) }
     }
 }
 
@@ -281,4 +280,89 @@ fn verdict(hold: &Hold, moment: i64, reply: PeerReply) -> Result<[u8; 32], Cause
         return Err(Cause::WrongPreimage);
     }
     Ok(preimage)
+}
+
+// ---- settlements
+
+impl Book {
+    pub fn credit(
+        &mut self,
+        actor: u32,
+        peer: u32,
+        key: Vec<u8>,
+        quantity: &Quantity,
+        now: i64,
+    ) -> Result<Kept, CreditFault> {
+        let scale = self.config.scale(peer);
+        let amount = credited(quantity, scale).ok_or(CreditFault::TooLarge)?;
+        if let Some(number) = self.keys.find(peer, &key) {
+            return self.kept(number, quantity);
+        }
+        if !self.has_room(1) {
+            return Err(CreditFault::Full);
+        }
+        let moment = self.moment_at(now);
+        let (named, scale) = (quantity.amount, quantity.scale);
+        let what = What::Credited(Credited { peer, key, named, scale, credited: amount });
+        let number = self.append(Entry { moment, actor, what }, 0);
+        Ok(Kept { number, amount, fresh: true })
+    }
+
+    // What is answered where a credit is kept under the key.
+    fn kept(&self, number: u32, quantity: &Quantity) -> Result<Kept, CreditFault> {
+        match self.journal.credit(number) {
+            Some(kept) if kept.named == quantity.amount && kept.scale == quantity.scale => {
+                Ok(Kept { number, amount: kept.credited, fresh: false })
+            }
+            _ => Err(CreditFault::KeyTaken { kept: number }),
+        }
+    }
+
+    pub fn ask(&mut self, actor: u32, peer: u32, now: i64) -> Result<Asked, AskFault> {
+        let balance = self.balance(peer);
+        if let Some(fault) = self.still_open(peer) {
+            return Err(fault);
+        }
+        let levels = self.config.peer(peer).levels;
+        let amount = due_amount(balance, levels).ok_or(AskFault::NotDue { balance })?;
+        if !self.has_room(2) {
+            return Err(AskFault::Full);
+        }
+        let moment = self.moment_at(now);
+        let what = What::Asked(Ask { peer, amount });
+        let number = self.append(Entry { moment, actor, what }, 1);
+        Ok(Asked { number, amount })
+    }
+
+    fn still_open(&self, peer: u32) -> Option<AskFault> {
+        let number = self.tallies.open_ask(peer)?;
+        let amount = self.journal.ask(number)?.amount;
+        Some(AskFault::StillOpen { number, amount })
+    }
+
+    pub fn settle_close(
+        &mut self,
+        actor: u32,
+        number: u32,
+        accepted: bool,
+        now: i64,
+    ) -> Result<u32, NotOpen> {
+        let closer = self.journal.closing_of(number);
+        if self.journal.ask(number).is_none() || closer.is_some() {
+            return Err(NotOpen { closer });
+        }
+        let moment = self.moment_at(now);
+        let ask = number;
+        let what = if accepted { What::Confirmed { ask } } else { What::Undone { ask } };
+        Ok(self.close(Entry { moment, actor, what }))
+    }
+}
+
+// What is asked for, where the balance is at the peer's threshold or above it.
+fn due_amount(balance: i128, levels: Option<Levels>) -> Option<u64> {
+    let levels = levels?;
+    if balance < i128::from(levels.threshold) {
+        return None;
+    }
+    Some(u64::try_from(balance - i128::from(levels.settle_to)).unwrap_or(u64::MAX))
 }

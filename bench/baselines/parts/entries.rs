@@ -38,6 +38,7 @@ pub struct Credited {
     pub credited: u64,
 }
 
+#[derive(Clone, Copy)]
 pub struct Ask {
     pub peer: u32,
     pub amount: u64,
@@ -51,27 +52,11 @@ pub enum Cause {
     Peer([u8; 3]),
 }
 
-// The number of the hold that an entry answers, that it fulfills, and that it releases.
-#[inline]
-pub fn answered(what: &What) -> Option<u32> {
+// The number of the hold that an entry answers, or of the settlement that it closes.
+pub fn ended(what: &What) -> Option<u32> {
     match what {
         What::Fulfilled { hold, .. } | What::Released { hold, .. } => Some(*hold),
-        _ => None,
-    }
-}
-
-#[inline]
-pub fn fulfilled(what: &What) -> Option<u32> {
-    match what {
-        What::Fulfilled { hold, .. } => Some(*hold),
-        _ => None,
-    }
-}
-
-#[inline]
-pub fn released(what: &What) -> Option<u32> {
-    match what {
-        What::Released { hold, .. } => Some(*hold),
+        What::Confirmed { ask } | What::Undone { ask } => Some(*ask),
         _ => None,
     }
 }

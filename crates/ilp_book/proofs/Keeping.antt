@@ -1,31 +1,47 @@
 -- What a book keeps as its journal grows.
-use Rattle.std.proofs.Common.{◌≡◌, ℕ, zero, suc, ◌+◌, ◌-◌, ◌<◌, ◌≤◌, ℤ, pos, [], ◌∷◌, ◌++◌, length, Some, None, refl, ap, ◌∙◌, arith, length-append}
-use Rattle.std.specs.Prelude.{slice_get, fold}
+use Rattle.std.proofs.Common.{◌≡◌, ℕ, zero, suc, ◌+◌, ◌-◌, ◌^◌, ◌<◌, ◌≤◌, ℤ, pos, Bool, true, false, cond, List, [], ◌∷◌, ◌++◌, length, Option, Some, None, refl, sym, ap, ◌∙◌, subst, arith, length-append}
+use Rattle.std.specs.Prelude.{slice_get, fold, option_and_then, IsSome}
+use Rattle.std.specs.Ordering.{nat_cmp}
+use Rattle.std.specs.FinMap as fin_map
+use Rattle.std.specs.FinMap.{FinMap}
+use Rattle.std.proofs.lemmas.Option.{slice_get_past}
 use Rattle.ilp_accounts.specs.Configuration.{Configuration}
 use Rattle.ilp_accounts.specs.Valid.{IsValid}
 use Rattle.ilp_journal.specs.declared.entry.Entry.{Entry}
 use Rattle.ilp_journal.specs.declared.entry.What.{What}
 use Rattle.ilp_journal.specs.declared.entry.What.TheVariants as what
 use Rattle.ilp_journal.specs.Booked.{Booked}
-use Rattle.ilp_journal.specs.Journal.{Entries, AnswersHold, ClosesAsk, AnswersOnce, ClosesOnce, open_count, opening, closing, last_moment}
+use Rattle.ilp_journal.specs.declared.entry.Hold.{Hold}
+use Rattle.ilp_journal.specs.Places.{Each}
+use Rattle.ilp_journal.specs.Journal.{Entries, AnswersHold, ClosesAsk, AnswersOnce, ClosesOnce, as_hold, is_unanswered, open_hold_at, open_count, opening, closing, last_moment}
 use Rattle.ilp_journal.proofs.Sums.{Each-parts}
 use Rattle.ilp_journal.proofs.Growth.{open_count-push}
 use Rattle.ilp_journal.proofs.Bases.{base_zero, base-push}
 use Rattle.ilp_journal.proofs.Closers.{AnswersHold-once, ClosesAsk-once}
+use Rattle.ilp_holds.specs.Table.{Table}
+use Rattle.ilp_settlement.specs.KeyTable.{PlainKeyTable}
+use Rattle.ilp_tallies.specs.OpenAsks.{HasRoomToAsk}
+use Rattle.ilp_tallies.specs.Tallies.{PlainTallies, AreTallies, KnowsPeers, GrowsBy}
+use Rattle.ilp_tallies.proofs.Growing.{own_tallies}
 use Rattle.ilp_book.specs.Book.{PlainBook, pushed}
-use Rattle.ilp_book.specs.Lawful.{IsLawful}
+use Rattle.ilp_book.specs.Configured.{peer_assets}
+use Rattle.ilp_book.specs.Lawful.{IsLawful, IsGoodHold, IsGoodCredit, IsGoodAsk}
+use Rattle.ilp_book.specs.Open.{as_credit}
 use Rattle.ilp_book.specs.Parts.{AreParts, book_of}
+use Rattle.ilp_book.specs.Tables.{deadline_of, AreTables, FollowsHolds, KeepsKey}
 use Rattle.ilp_book.proofs.LawfulGrowth.{lawful_empty, limits_now}
+use Rattle.ilp_book.proofs.TableSteps.{open_after, kept_after, key_fresh, peers_known, room_to_ask, keeps_nothing}
 
 -- the parts of a book of no entries
-pub parts_new : (C : Configuration) (journal : Booked) → IsValid C → journal.entries ≡ [] → journal.limit ≡ C.settings.journal → AreParts C 0 journal 0
-parts_new C journal valid empty limited = record {
+pub parts_new : (C : Configuration) (journal : Booked) (tallies : PlainTallies) (holds : Table) (keys : PlainKeyTable) → IsValid C → journal.entries ≡ [] → journal.limit ≡ C.settings.journal
+    → AreTables (peer_assets C) 0 [] tallies holds keys → AreParts C 0 journal tallies holds keys
+parts_new C journal tallies holds keys valid empty limited tabled = record {
   valid = valid;
   lawful = rw empty (lawful_empty (book_of C 0 journal) valid);
   opened = base_zero journal.entries;
   limited = limited;
-  counted = rw empty refl;
-  room = omega arith;
+  tabled = rw empty tabled;
+  room = rw empty (omega arith);
 }
 
 -- the moment of the last entry, by its number
@@ -78,27 +94,36 @@ end_frees book e before after one =
     omega (arith, open_count-push book.entries e before.answers before.closings answers.1 closes.1, one, ends_alone e.what one)
 
 -- so one more entry fits
-pub end_fits : (C : Configuration) (base : ℕ) (journal : Booked) (open_now : ℕ) (e : Entry) → AreParts C base journal open_now → IsLawful (pushed (book_of C base journal) e) → closing e.what ≡ 1
-    → (1 ≤ open_now) × (1 ≤ journal.spare) × (length journal.entries < journal.limit)
-end_fits C base journal open_now e parts after one =
+pub end_fits : (C : Configuration) (base : ℕ) (journal : Booked) (tallies : PlainTallies) (holds : Table) (keys : PlainKeyTable) (e : Entry) → AreParts C base journal tallies holds keys → IsLawful (pushed (book_of C base journal) e) → closing e.what ≡ 1
+    → (1 ≤ journal.spare) × (length journal.entries < journal.limit)
+end_fits C base journal tallies holds keys e parts after one =
     let book = book_of C base journal in
     let frees = end_frees book e parts.lawful after one in
     let limits = (limits_now book parts.lawful).room in
-    (omega (arith, frees, parts.counted), omega (arith, frees, parts.counted, parts.room), omega (arith, frees, limits, parts.limited))
+    (omega (arith, frees, parts.room), omega (arith, frees, limits, parts.limited))
 
--- the parts of the book after what ended
-pub parts_closed : (C : Configuration) (base : ℕ) (before after : Booked) (open_now : ℕ) (e : Entry) → AreParts C base before open_now → IsLawful (pushed (book_of C base before) e) → closing e.what ≡ 1
-    → after.entries ≡ before.entries ++ e ∷ [] → after.spare + 1 ≡ before.spare → after.limit ≡ before.limit → AreParts C base after (open_now - 1)
-parts_closed C base before after open_now e parts lawful one grown used limit =
-    let frees = end_frees (book_of C base before) e parts.lawful lawful one in
-    record {
-      valid = parts.valid;
-      lawful = rw grown lawful;
-      opened = rw grown (base-push before.entries e base parts.opened);
-      limited = limit ∙ parts.limited;
-      counted = rw grown (omega (arith, frees, parts.counted));
-      room = omega (arith, used, parts.room);
-    }
+-- what ends something opens no hold
+pub opens_none : (w : What) → closing w ≡ 1 → IsSome (as_hold w) → ⊥
+opens_none (what.Hold h) one hold = cc
+opens_none (what.Fulfilled h preimage) one hold = cc
+opens_none (what.Released h cause) one hold = cc
+opens_none (what.Credited c) one hold = cc
+opens_none (what.Asked a) one hold = cc
+opens_none (what.Confirmed ask) one hold = cc
+opens_none (what.Undone ask) one hold = cc
+
+-- and keeps no key
+pub end_keeps : (keys : PlainKeyTable) (n : ℕ) (w : What) → closing w ≡ 1 → KeepsKey keys keys n w
+end_keeps keys n w one = keeps_nothing keys n w (no_credit w one)
+  where
+    no_credit : (w : What) → closing w ≡ 1 → as_credit w ≡ None
+    no_credit (what.Hold h) one = cc
+    no_credit (what.Fulfilled h preimage) one = refl
+    no_credit (what.Released h cause) one = refl
+    no_credit (what.Credited c) one = cc
+    no_credit (what.Asked a) one = cc
+    no_credit (what.Confirmed ask) one = refl
+    no_credit (what.Undone ask) one = refl
 
 -- ---- what ends nothing
 
@@ -110,25 +135,99 @@ grown_opens book e before after none =
     omega (arith, open_count-push book.entries e before.answers before.closings answers.1 closes.1, none)
 
 -- so the entry fits, and what is open then is counted
-pub grown_fits : (C : Configuration) (base : ℕ) (journal : Booked) (open_now opened : ℕ) (e : Entry) → AreParts C base journal open_now → IsLawful (pushed (book_of C base journal) e) → closing e.what ≡ 0 → opening e.what ≡ opened
-    → (length journal.entries < journal.limit) × (open_now + opened ≤ journal.limit)
-grown_fits C base journal open_now opened e parts after none opens =
+pub grown_fits : (C : Configuration) (base : ℕ) (journal : Booked) (tallies : PlainTallies) (holds : Table) (keys : PlainKeyTable) (opened : ℕ) (e : Entry) → AreParts C base journal tallies holds keys → IsLawful (pushed (book_of C base journal) e) → closing e.what ≡ 0 → opening e.what ≡ opened
+    → (length journal.entries < journal.limit) × (open_count journal.entries + opened ≤ journal.limit)
+grown_fits C base journal tallies holds keys opened e parts after none opens =
     let book = book_of C base journal in
     let grown = grown_opens book e parts.lawful after none in
     let limits = (limits_now (pushed book e) after).room in
     let longer = length-append journal.entries (e ∷ []) in
-    (omega (arith, limits, longer, parts.limited), omega (arith, grown, opens, parts.counted, limits, parts.limited))
+    (omega (arith, limits, longer, parts.limited), omega (arith, grown, opens, limits, parts.limited))
 
--- the parts of the book after it
-pub parts_grown : (C : Configuration) (base : ℕ) (before after : Booked) (open_now opened : ℕ) (e : Entry) → AreParts C base before open_now → IsLawful (pushed (book_of C base before) e) → closing e.what ≡ 0 → opening e.what ≡ opened
-    → after.entries ≡ before.entries ++ e ∷ [] → open_now + opened ≤ after.spare → after.limit ≡ before.limit → AreParts C base after (open_now + opened)
-parts_grown C base before after open_now opened e parts lawful none opens grown room limit =
-    let counted = grown_opens (book_of C base before) e parts.lawful lawful none in
+-- ---- one entry more
+
+-- what the tables want to know of the next entry
+pub record IsNext (j : Entries) (tallies : PlainTallies) (deadlines : FinMap nat_cmp ℤ) (e : Entry) : Type 0 where
+  pub tallied : AreTallies tallies.assets tallies.base j tallies
+  pub longer : length j + 1 < 2 ^ 32
+  pub few : HasRoomToAsk j e.what
+  pub known : KnowsPeers (length tallies.assets) e.what
+  pub answers : Each AnswersOnce j
+  pub closings : Each ClosesOnce j
+  pub answer : AnswersOnce j e
+  pub closes : ClosesOnce j e
+  pub absent : fin_map.get deadlines (length j) ≡ None
+
+-- it is so of an entry that the book's rules allow
+pub is_next : (C : Configuration) (base : ℕ) (journal : Booked) (tallies : PlainTallies) (holds : Table) (keys : PlainKeyTable) (e : Entry) → AreParts C base journal tallies holds keys → IsLawful (pushed (book_of C base journal) e) → length journal.entries < journal.limit
+    → IsNext journal.entries tallies holds.map e
+is_next C base journal tallies holds keys e parts after room =
+    let j = journal.entries in
+    let hold = (Each-parts (IsGoodHold C) j e after.holds).1 in
+    let credit = (Each-parts (IsGoodCredit C) j e after.credits).1 in
+    let ask = (Each-parts (IsGoodAsk C) j e after.asks).1 in
+    record {
+      tallied = own_tallies (peer_assets C) base j tallies parts.tabled.tallied;
+      longer = omega (arith, room, parts.limited, parts.valid.settings.journal.1);
+      few = room_to_ask C j e.what ask;
+      known = subst (λ (assets : List ℕ). KnowsPeers (length assets) e.what) (sym parts.tabled.tallied.listed) (peers_known C j e.moment e.what hold credit ask);
+      answers = parts.lawful.answers;
+      closings = parts.lawful.closings;
+      answer = (Each-parts AnswersOnce j e after.answers).1;
+      closes = (Each-parts ClosesOnce j e after.closings).1;
+      absent = parts.tabled.open_holds (length j) ∙ ap deadline_of (none_past j (length j) (omega arith));
+    }
+  where
+    none_past : (j : Entries) (n : ℕ) → length j ≤ n → open_hold_at j n ≡ None
+    none_past j n past = ap (λ o. cond (is_unanswered j n) (option_and_then (λ (d : Entry). as_hold d.what) o) None) (slice_get_past j n past) ∙ either (is_unanswered j n)
+      where
+        either : (b : Bool) → ◌≡◌ {A = Option Hold} (cond b None None) None
+        either true = refl
+        either false = refl
+
+-- it stays so where room is made
+pub still_next : (j k : Entries) (tallies same : PlainTallies) (deadlines those : FinMap nat_cmp ℤ) (e : Entry) → k ≡ j → same ≡ tallies → those ≡ deadlines → IsNext j tallies deadlines e → IsNext k same those e
+still_next j k tallies same deadlines those e entries listed held next =
+    subst (λ (es : Entries). IsNext es same those e) (sym entries)
+    (subst (λ (t : PlainTallies). IsNext j t those e) (sym listed) (subst (λ (m : FinMap nat_cmp ℤ). IsNext j tallies m e) (sym held) next))
+
+-- the parts of the book after an entry that its tables follow
+pub parts_next : (C : Configuration) (base : ℕ) (before after : Booked) (tallies tallied : PlainTallies) (holds held : Table) (keys kept : PlainKeyTable) (e : Entry) → AreParts C base before tallies holds keys → IsLawful (pushed (book_of C base before) e)
+    → after.entries ≡ before.entries ++ e ∷ [] → after.limit ≡ before.limit → open_count (before.entries ++ e ∷ []) ≤ after.spare
+    → GrowsBy before.entries e tallies tallied → FollowsHolds holds.map held.map (length before.entries) e.what → KeepsKey keys kept (length before.entries) e.what → AreParts C base after tallied held kept
+parts_next C base before after tallies tallied holds held keys kept e parts lawful grown limit room grows follows keeps =
+    let j = before.entries in
     record {
       valid = parts.valid;
       lawful = rw grown lawful;
-      opened = rw grown (base-push before.entries e base parts.opened);
+      opened = rw grown (base-push j e base parts.opened);
       limited = limit ∙ parts.limited;
-      counted = rw grown (omega (arith, counted, opens, parts.counted));
-      room = room;
+      tabled = rw grown (record {
+        tallied = grows (peer_assets C) base parts.tabled.tallied;
+        open_holds = open_after j e holds.map held.map parts.lawful.answers (Each-parts AnswersOnce j e lawful.answers).1 parts.tabled.open_holds follows;
+        kept = kept_after j e keys kept (key_fresh C j e.what (Each-parts (IsGoodCredit C) j e lawful.credits).1) parts.tabled.kept keeps;
+      });
+      room = rw grown room;
     }
+
+-- those after an entry that ends something
+pub parts_closed : (C : Configuration) (base : ℕ) (before after : Booked) (tallies tallied : PlainTallies) (holds held : Table) (keys kept : PlainKeyTable) (e : Entry) → AreParts C base before tallies holds keys → IsLawful (pushed (book_of C base before) e)
+    → closing e.what ≡ 1 → after.entries ≡ before.entries ++ e ∷ [] → after.spare + 1 ≡ before.spare → after.limit ≡ before.limit
+    → GrowsBy before.entries e tallies tallied → FollowsHolds holds.map held.map (length before.entries) e.what → kept ≡ keys → AreParts C base after tallied held kept
+parts_closed C base before after tallies tallied holds held keys kept e parts lawful one grown used limit grows follows still =
+    let frees = end_frees (book_of C base before) e parts.lawful lawful one in
+    parts_next C base before after tallies tallied holds held keys kept e parts lawful grown limit (omega (arith, frees, used, parts.room)) grows follows
+    (subst (λ (t : PlainKeyTable). KeepsKey keys t (length before.entries) e.what) (sym still) (end_keeps keys (length before.entries) e.what one))
+
+-- those after another entry, with room made between
+pub parts_grown : (C : Configuration) (base : ℕ) (before between after : Booked) (tallies same tallied : PlainTallies) (holds those held : Table) (keys ready kept : PlainKeyTable) (opened : ℕ) (e : Entry) → AreParts C base before tallies holds keys → IsLawful (pushed (book_of C base before) e)
+    → closing e.what ≡ 0 → opening e.what ≡ opened → between.entries ≡ before.entries → after.entries ≡ between.entries ++ e ∷ [] → open_count before.entries + opened ≤ after.spare → after.limit ≡ before.limit
+    → same ≡ tallies → GrowsBy between.entries e same tallied → those.map ≡ holds.map → FollowsHolds those.map held.map (length between.entries) e.what → KeepsKey keys ready (length before.entries) e.what → kept ≡ ready
+    → AreParts C base after tallied held kept
+parts_grown C base before between after tallies same tallied holds those held keys ready kept opened e parts lawful none opens entries grown room limit listed grows held_are follows keeps still =
+    let j = before.entries in
+    let counted = grown_opens (book_of C base before) e parts.lawful lawful none in
+    parts_next C base before after tallies tallied holds held keys kept e parts lawful (grown ∙ ap (λ (es : Entries). es ++ e ∷ []) entries) limit (omega (arith, counted, opens, room))
+    (subst (λ (t : PlainTallies). GrowsBy j e t tallied) listed (subst (λ (es : Entries). GrowsBy es e same tallied) entries grows))
+    (subst (λ (m : FinMap nat_cmp ℤ). FollowsHolds m held.map (length j) e.what) held_are (subst (λ (es : Entries). FollowsHolds those.map held.map (length es) e.what) entries follows))
+    (subst (λ (t : PlainKeyTable). KeepsKey keys t (length j) e.what) (sym still) keeps)

@@ -1,9 +1,10 @@
 -- What a valid configuration says of its peers and routes.
-use Rattle.std.proofs.Common.{◌≡◌, ℕ, ◌<◌, ℤ, pos, ◌+ℤ◌, Bool, true, false, cond, List, length, Option, Some, None, ap, sym, refl, ◌∙◌, subst, Contains, arith}
+use Rattle.std.proofs.Common.{◌≡◌, ℕ, ◌<◌, ℤ, pos, ◌+ℤ◌, Bool, true, false, cond, List, [], ◌∷◌, length, map, take, Option, Some, None, ap, sym, refl, ◌∙◌, subst, All, Contains, arith}
 use Rattle.std.specs.Prelude.{slice_get, option_map, unwrap_or, ◌≤ℤ◌, ◌==◌}
+use Rattle.std.proofs.Math.Seq.{take-length}
 use Rattle.std.proofs.lemmas.Bool.{eqb-true}
 use Rattle.std.proofs.lemmas.Int.{ints}
-use Rattle.std.proofs.lemmas.List.Elements.{All-contains}
+use Rattle.std.proofs.lemmas.List.Elements.{All-contains, All-map}
 use Rattle.std.proofs.lemmas.Option.{slice_get-map, slice_get-get_or, get_or_from_slice_get}
 use Rattle.ilp_lookup.specs.Route.{IsRoute}
 use Rattle.ilp_accounts.specs.Configuration.{Configuration, PlainPeer, nobody, peer_at}
@@ -23,6 +24,27 @@ peer_valid C p valid known =
     let at = peer_stands C p known in
     let stands : Contains C.peers (peer_at C p) = (p, known, get_or_from_slice_get C.peers p (peer_at C p) (peer_at C p) at) in
     All-contains (IsPeer (length C.table.assets)) C.peers (peer_at C p) valid.peers stands
+
+-- its asset stands among the peers' assets
+pub asset_stands : (C : Configuration) (p : ℕ) → IsKnown C p → slice_get (peer_assets C) p ≡ Some (peer_at C p).asset
+asset_stands C p known = slice_get-map (λ (q : PlainPeer). q.asset) C.peers p ∙ ap (option_map (λ (q : PlainPeer). q.asset)) (peer_stands C p known)
+
+-- there are as many assets listed as peers
+pub peers_listed : (C : Configuration) → length (peer_assets C) ≡ length C.peers
+peers_listed C = from C.peers
+  where
+    from : (ps : List PlainPeer) → length (map (λ (p : PlainPeer). p.asset) ps) ≡ length ps
+    from [] = refl
+    from (p ∷ ps) = omega (arith, from ps)
+
+-- each of them is an asset of the table
+pub assets_within : (C : Configuration) → IsValid C → All (λ asset. asset < length C.table.assets) (peer_assets C)
+assets_within C valid =
+    All-map (λ asset. asset < length C.table.assets) (λ (p : PlainPeer). p.asset) C.peers (λ k nobody_else within. (valid.peers k nobody_else within).asset)
+
+-- and those of as many peers are all
+pub all_listed : (C : Configuration) (n : ℕ) → n ≡ length C.peers → take n (peer_assets C) ≡ peer_assets C
+all_listed C n all = ap (λ k. take k (peer_assets C)) (all ∙ sym (peers_listed C)) ∙ take-length (peer_assets C)
 
 -- the peer of a route is known
 pub route_known : (C : Configuration) (octets : List ℕ) (p : ℕ) → IsValid C → IsRoute C.routes octets (Some p) → IsKnown C p

@@ -9,7 +9,7 @@ pub mod Runs
 pub mod FirstAnswer
 pub mod Keeping
 pub mod Earliest
-pub mod Prefixes
+pub mod TableSteps
 pub mod KeptOnce
 pub mod SettledForGood
 pub mod RowProofs

@@ -6,10 +6,9 @@ use Rattle.ilp_journal.specs.declared.entry.Entry.{Entry}
 use Rattle.ilp_journal.specs.declared.entry.What.{What}
 use Rattle.ilp_journal.specs.declared.entry.Ask.{Ask}
 use Rattle.ilp_journal.specs.Places.{sum_from, first_from}
-use Rattle.ilp_journal.specs.Journal.{Entries, ask_at, as_ask, is_unclosed, open_asks, paid_to}
+use Rattle.ilp_journal.specs.Journal.{Entries, ask_at, as_ask, is_unclosed, open_asks, paid_to, is_ask_of, first_open_number, first_open_ask}
 use Rattle.ilp_book.specs.declared.fault.AskFault.{AskFault}
 use Rattle.ilp_book.specs.declared.fault.AskFault.TheVariants as ask_fault
-use Rattle.ilp_book.specs.Open.{is_ask_of, first_open_number, first_open_ask}
 use Rattle.ilp_book.specs.Lawful.{most_open_asks}
 use Rattle.ilp_book.specs.SettleStep.{still_open}
 use Rattle.ilp_order.proofs.RefusalLemmas.{some_same}

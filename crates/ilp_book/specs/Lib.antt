@@ -1,7 +1,8 @@
 pub mod Book
 pub mod Configured
 pub mod Open
-pub mod Walks
+pub mod Sums
+pub mod Tables
 pub mod Lawful
 pub mod Parts
 pub mod HoldStep

@@ -5,10 +5,9 @@ use Rattle.ilp_journal.specs.declared.entry.Entry.{Entry}
 use Rattle.ilp_journal.specs.declared.entry.What.{What}
 use Rattle.ilp_journal.specs.declared.entry.What.TheVariants as what
 use Rattle.ilp_journal.specs.declared.entry.Hold.{Hold}
-use Rattle.ilp_journal.specs.declared.entry.Ask.{Ask}
 use Rattle.ilp_journal.specs.declared.entry.Credited.{Credited}
 use Rattle.ilp_journal.specs.Places.{first_from}
-use Rattle.ilp_journal.specs.Journal.{Entries, as_hold, as_ask, ask_at, is_unanswered, is_unclosed, open_hold_at}
+use Rattle.ilp_journal.specs.Journal.{Entries, as_hold, is_unanswered, open_hold_at}
 
 -- ---- the open hold whose deadline comes first, and of several the first
 
@@ -34,24 +33,6 @@ earliest_from test n (e ∷ es) = earlier (if test n then numbered_hold n e.what
 
 abbrev pub earliest : Entries → Option (ℕ × Hold)
 earliest j = earliest_from (is_unanswered j) 0 j
-
--- the open hold under a number, with the number
-abbrev pub open_with_number : Entries → ℕ → Option (ℕ × Hold)
-open_with_number j n = option_map (λ (h : Hold). (n, h)) (open_hold_at j n)
-
--- ---- settlements to peers
-
--- whether an entry asks for a settlement to the peer
-abbrev pub is_ask_of : ℕ → What → Bool
-is_ask_of peer w = unwrap_or (option_map (λ (a : Ask). a.peer == peer) (as_ask w)) false
-
--- the least number of an open settlement to a peer
-abbrev pub first_open_number : Entries → ℕ → Option ℕ
-first_open_number j peer = first_from (λ n (e : Entry). is_ask_of peer e.what && is_unclosed j n) 0 j
-
--- the open settlement to a peer that has the least number, with that number
-abbrev pub first_open_ask : Entries → ℕ → Option (ℕ × Ask)
-first_open_ask j peer = option_and_then (λ n. option_map (λ (a : Ask). (n, a)) (ask_at j n)) (first_open_number j peer)
 
 -- ---- settlements from peers
 

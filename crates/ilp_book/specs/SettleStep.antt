@@ -10,7 +10,7 @@ use Rattle.ilp_journal.specs.declared.entry.What.{What}
 use Rattle.ilp_journal.specs.declared.entry.What.TheVariants as what
 use Rattle.ilp_journal.specs.declared.entry.Ask.{Ask}
 use Rattle.ilp_journal.specs.declared.entry.Credited.{Credited}
-use Rattle.ilp_journal.specs.Journal.{Entries, closing_of, open_ask_at, open_asks}
+use Rattle.ilp_journal.specs.Journal.{Entries, closing_of, open_ask_at, open_asks, first_open_ask}
 use Rattle.ilp_journal.specs.Balance.{balance}
 use Rattle.ilp_book.specs.declared.calls.Kept.{Kept}
 use Rattle.ilp_book.specs.declared.fault.CreditFault.{CreditFault}
@@ -21,7 +21,7 @@ use Rattle.ilp_book.specs.declared.fault.AskFault.TheVariants as ask_fault
 use Rattle.ilp_book.specs.declared.fault.NotOpen.{NotOpen}
 use Rattle.ilp_book.specs.Configured.{scale_at}
 use Rattle.ilp_book.specs.Book.{PlainBook, By, Growth, granted, denied, Made, says, books, extended, has_room}
-use Rattle.ilp_book.specs.Open.{first_open_ask, credit_at, kept_at}
+use Rattle.ilp_book.specs.Open.{credit_at, kept_at}
 use Rattle.ilp_book.specs.Lawful.{most_open_asks, owed_above}
 
 -- ---- credits

@@ -1,7 +1,6 @@
 //! Which holds are open, and how one ends.
 ghost use Rattle.std.specs.Prelude.{◌≡◌};
 ghost use Rattle.ilp_journal.specs.Journal.{open_hold_at};
-ghost use Rattle.ilp_book.specs.Open.{earlier, earliest, open_with_number};
 ghost use Rattle.ilp_book.specs.AnswerStep.{verdict};
 
 use crate::calls::PeerReply;
@@ -18,43 +17,6 @@ pub(crate) fn open_hold_at<A: Allocator>(journal: &Journal<A>, number: u32) -> O
         return None;
     }
     Some(hold)
-}
-
-/// The open hold of least deadline, and of several the first, with its number.
-pub(crate) fn earliest_open<A: Allocator>(journal: &Journal<A>) -> Option<(u32, Hold)>
-    ensures { result ≡ earliest journal.now.entries }
-{
-    let mut earliest = None;
-    for number in 0..journal.len() {
-        earliest = earlier(earliest, open_with_number(journal, number));
-    }
-    earliest
-}
-
-// The hold under a number, if it is open, with the number.
-fn open_with_number<A: Allocator>(journal: &Journal<A>, number: u32) -> Option<(u32, Hold)>
-    ensures { result ≡ open_with_number journal.now.entries number }
-{
-    match open_hold_at(journal, number) {
-        Some(hold) => Some((number, hold)),
-        None => None,
-    }
-}
-
-// The one of two holds whose deadline comes first; the first, where both come at once.
-fn earlier(first: Option<(u32, Hold)>, second: Option<(u32, Hold)>) -> Option<(u32, Hold)>
-    ensures { result ≡ earlier first second }
-{
-    let Some(one) = first else {
-        return second;
-    };
-    let Some(other) = second else {
-        return first;
-    };
-    if other.1.deadline < one.1.deadline {
-        return second;
-    }
-    first
 }
 
 /// The preimage that fulfills a hold, or the cause of its release. Lateness is seen first.

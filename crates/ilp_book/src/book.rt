@@ -8,39 +8,39 @@ ghost use Rattle.ilp_lookup.specs.Route.{IsRoute};
 ghost use Rattle.ilp_packet.specs.Packet.{plain_prepare};
 ghost use Rattle.ilp_accounts.specs.Configuration.{peer_at};
 ghost use Rattle.ilp_accounts.specs.Valid.{IsValid};
-ghost use Rattle.ilp_journal.specs.Journal.{opening, closing, last_moment, open_holds, open_hold_at, IsBase};
+ghost use Rattle.ilp_journal.specs.Journal.{opening, closing, last_moment, open_holds, open_hold_at, fulfilled_since, IsBase};
 ghost use Rattle.ilp_journal.specs.Balance.{balance};
 ghost use Rattle.ilp_journal.specs.Booked.{most_sum};
-ghost use Rattle.ilp_journal.specs.TrialBalance.{held, fees, taken, bought, sold, settled, total_in, total_out, IsBalanced};
+ghost use Rattle.ilp_journal.specs.TrialBalance.{held, fees, bought, sold, settled, total_in, total_out, IsBalanced};
 ghost use Rattle.ilp_book.specs.Book.{by, moment_at, new_book, pushed, has_room, Does};
 ghost use Rattle.ilp_book.specs.Configured.{IsKnown, peer_assets};
 ghost use Rattle.ilp_book.specs.Open.{earliest};
-ghost use Rattle.ilp_book.specs.Walks.{total_of};
 ghost use Rattle.ilp_book.specs.Lawful.{IsLawful, HasTerms};
+ghost use Rattle.ilp_book.specs.Sums.{IsWithin, AreWithin};
 ghost use Rattle.ilp_book.specs.HoldStep.{incoming, given_route, has_total, hold_fitted, hold_booked, hold_step, growth_of};
 ghost use Rattle.ilp_book.specs.AnswerStep.{answer_step, expire_step};
 
-use crate::answers::{earliest_open, open_hold_at, verdict};
+use crate::answers::{open_hold_at, verdict};
 use crate::calls::{Held, Outcome, PeerReply, Sums};
 use crate::fault::{HoldFault, NotOpen};
 use crate::moments::moment_at;
-use crate::settlements::settled;
+use crate::tables::Tables;
 use crate::terms::hold_terms;
-use crate::totals::{Total, total_of};
 use ilp_accounts::Config;
 use ilp_journal::{Cause, Entry, Hold, Journal, What};
 use ilp_packet::Prepare;
 use std::alloc::{AllocError, Allocator, Global};
 use std::marker::Model;
 
-/// A configuration, and the journal of what was booked by it. The journal is lawful, no hold was
-/// open where the book began, and there is room in memory for whatever ends what is open.
+/// A configuration, and the journal of what was booked by it, with tables of what it comes to. The
+/// journal is lawful, no hold was open where the book began, and there is room in memory for
+/// whatever ends what is open.
 #[derive(Drop)]
 pub struct Book<A: Allocator = Global> {
     config: Config,
     base: u32,
     journal: Journal<A>,
-    open_count: u32,
+    tables: Tables<A>,
 }
 
 impl<A: Allocator> Model for Book<A> {
@@ -51,24 +51,28 @@ impl<A: Allocator> Model for Book<A> {
 
     ghost view = { λ b. book_of b.config b.base b.journal };
 
-    ghost invariant = { λ b. AreParts b.config b.base b.journal b.open_count };
+    ghost invariant = { λ b.
+        AreParts b.config b.base b.journal b.tables.tallies b.tables.holds b.tables.keys };
 }
 
-impl<A: Allocator> Book<A> {
+impl<A: Allocator + Clone> Book<A> {
     /// A book of no entries, with a copy of the configuration. `AllocError` tells that memory is
     /// short.
     pub fn new(alloc: A, config: &Config) -> Result<Book<A>, AllocError>
         ensures { IfOk result (λ b. b ≡ new_book config.now) }
     {
-        let journal = Journal::new(alloc, config.journal())?;
+        let journal = Journal::new(alloc.clone()?, config.journal())?;
+        let tables = Tables::new(alloc, config, 0)?;
         Ok(Book {
             config: config.copy()?,
             base: 0,
             journal,
-            open_count: 0,
+            tables,
         })
     }
+}
 
+impl<A: Allocator> Book<A> {
     /// What the book is configured to do.
     pub fn config(&self) -> &Config
         ensures value { result.now ≡ self.now.config }
@@ -101,24 +105,31 @@ impl<A: Allocator> Book<A> {
     }
 
     /// What the connector owes the peer, in units of the peer's asset: never less than the peer's
-    /// least. Each call adds up all entries.
+    /// least.
     pub fn balance(&self, peer: u32) -> i128
         ensures value { result ≡ balance self.now.entries peer }
         ensures least { (p : ℕ) → IsKnown self.now.config p
             → (peer_at self.now.config p).least ≤ℤ balance self.now.entries p }
+        ensures within { IsWithin result }
     {
-        self.journal.balance(peer)
+        self.tables.tallies.balance(peer)
     }
 
-    /// How many of the open holds the peer sent. Each call goes over all entries.
-    #[tactic(auto, unfolding(ilp_journal::specs::Journal::open_holds))]
+    /// How many of the open holds the peer sent.
     pub fn open_holds(&self, peer: u32) -> u32
         ensures { result ≡ open_holds self.now.entries peer }
     {
-        self.total_of(Total::Sent(peer)) as u32
+        self.tables.tallies.open_holds(peer)
     }
 
-    /// What the books of an asset come to, in its units. Each call goes over all entries.
+    /// How many entries fulfill a hold.
+    pub fn fulfilled(&self) -> u32
+        ensures { result ≡ fulfilled_since 0 self.now.entries }
+    {
+        self.tables.tallies.fulfilled()
+    }
+
+    /// What the books of an asset come to, in its units.
     pub fn sums(&self, asset: u32) -> Sums
         ensures settled { result.settled ≡ settled (peer_assets self.now.config) self.now.entries asset }
         ensures held { result.held ≡ pos (held (peer_assets self.now.config) self.now.entries asset) }
@@ -126,14 +137,15 @@ impl<A: Allocator> Book<A> {
         ensures bought { result.bought ≡ bought (peer_assets self.now.config) self.now.entries asset }
         ensures sold { result.sold ≡ pos (sold (peer_assets self.now.config) self.now.entries asset) }
         ensures balanced { IsBalanced (peer_assets self.now.config) self.now.entries asset }
+        ensures within { AreWithin result }
     {
-        let fees = self.fees(asset);
+        let tallies = &self.tables.tallies;
         Sums {
-            settled: settled(&self.config, &self.journal, asset),
-            held: self.held(asset),
-            fees,
-            bought: self.taken(asset) - fees,
-            sold: self.sold(asset),
+            settled: tallies.settled(asset),
+            held: tallies.held(asset),
+            fees: tallies.fees(asset),
+            bought: tallies.bought(asset),
+            sold: tallies.sold(asset),
         }
     }
 
@@ -273,7 +285,7 @@ impl<A: Allocator + Clone> Book<A> {
         if !self.has_total(&hold) {
             return Err(HoldFault::TotalFull);
         }
-        let balance = self.journal.balance(hold.from);
+        let balance = self.balance(hold.from);
         if is_short(balance, hold.amount, self.config.least(hold.from)) {
             return Err(HoldFault::BelowLeast { balance });
         }
@@ -307,59 +319,18 @@ impl<A: Allocator + Clone> Book<A> {
         ensures lawful { IsLawful self.new }
     {
         let number = self.journal.len();
-        let needed = u64::from(self.open_count) + u64::from(opened) + 1;
+        let open_count = self.tables.tallies.open_count();
+        let needed = u64::from(open_count) + u64::from(opened) + 1;
         self.journal.reserve(needed as usize)?;
+        self.tables.prepare(number, &entry.what)?;
+        self.tables.apply(&self.journal, &entry);
         self.journal.push_reserved(entry);
-        self.open_count += opened;
         Ok(number)
     }
 }
 
 // What the calls are made of.
 impl<A: Allocator> Book<A> {
-    // A total of the journal.
-    fn total_of(&self, total: Total) -> u128
-        ensures sum { result ≡ total_of (peer_assets self.now.config) total self.now.entries }
-        ensures bound { result ≤ most_sum }
-        ensures entries { length self.now.entries < 2 ^ 32 }
-    {
-        total_of(&self.config, &self.journal, total)
-    }
-
-    // The amounts of the open holds whose senders pay in the asset.
-    #[tactic(auto, unfolding(ilp_journal::specs::TrialBalance::held))]
-    fn held(&self, asset: u32) -> i128
-        ensures { result ≡ pos (held (peer_assets self.now.config) self.now.entries asset) }
-    {
-        self.total_of(Total::Held(asset)) as i128
-    }
-
-    // The fees of the fulfilled holds whose senders pay in the asset.
-    #[tactic(auto, unfolding(ilp_journal::specs::TrialBalance::fees))]
-    fn fees(&self, asset: u32) -> i128
-        ensures value { result ≡ pos (fees (peer_assets self.now.config) self.now.entries asset) }
-        ensures bound { fees (peer_assets self.now.config) self.now.entries asset ≤ most_sum }
-    {
-        self.total_of(Total::Fees(asset)) as i128
-    }
-
-    // The amounts of the fulfilled holds whose senders pay in the asset.
-    #[tactic(auto, unfolding(ilp_journal::specs::TrialBalance::taken))]
-    fn taken(&self, asset: u32) -> i128
-        ensures value { result ≡ pos (taken (peer_assets self.now.config) self.now.entries asset) }
-        ensures bound { taken (peer_assets self.now.config) self.now.entries asset ≤ most_sum }
-    {
-        self.total_of(Total::Taken(asset)) as i128
-    }
-
-    // The amounts out of the fulfilled holds whose receivers are paid in the asset.
-    #[tactic(auto, unfolding(ilp_journal::specs::TrialBalance::sold))]
-    fn sold(&self, asset: u32) -> i128
-        ensures { result ≡ pos (sold (peer_assets self.now.config) self.now.entries asset) }
-    {
-        self.total_of(Total::Sold(asset)) as i128
-    }
-
     // The hold under a number, if it is open.
     fn open_hold(&self, number: u32) -> Option<Hold>
         ensures value { result ≡ open_hold_at self.now.entries number }
@@ -373,7 +344,9 @@ impl<A: Allocator> Book<A> {
         ensures value { result ≡ earliest self.now.entries }
         ensures lawful { IsLawful self.now }
     {
-        earliest_open(&self.journal)
+        let (_, number) = self.tables.holds.earliest()?;
+        let hold = self.journal.hold(number)?;
+        Some((number, hold))
     }
 
     // The moment of a call: of the years 1970 to 9999, and never before the last entry's.
@@ -392,7 +365,8 @@ impl<A: Allocator> Book<A> {
         ensures lawful { IsLawful self.now }
         ensures valid { IsValid self.now.config }
     {
-        let needed = u64::from(self.journal.len()) + u64::from(self.open_count) + u64::from(more);
+        let open_count = self.tables.tallies.open_count();
+        let needed = u64::from(self.journal.len()) + u64::from(open_count) + u64::from(more);
         needed <= u64::from(self.config.journal())
     }
 
@@ -405,34 +379,10 @@ impl<A: Allocator> Book<A> {
         let most = u128::from(u64::MAX);
         let from = self.config.asset(hold.from);
         let to = self.config.asset(hold.to);
-        let paid = self.total_in(from) + u128::from(hold.amount);
-        let got = self.total_out(to) + u128::from(hold.out);
+        let tallies = &self.tables.tallies;
+        let paid = tallies.total_in(from) + u128::from(hold.amount);
+        let got = tallies.total_out(to) + u128::from(hold.out);
         paid <= most && got <= most
-    }
-
-    // The amounts of the open and the fulfilled holds since the base whose senders pay in the asset.
-    #[tactic(auto, unfolding(ilp_journal::specs::TrialBalance::total_in))]
-    fn total_in(&self, asset: u32) -> u128
-        ensures sum { result ≡ total_in (peer_assets self.now.config) self.now.base self.now.entries asset }
-        ensures bound { result ≤ most_sum }
-    {
-        self.total_of(Total::In {
-            base: self.base,
-            asset,
-        })
-    }
-
-    // The amounts out of the open and the fulfilled holds since the base whose receivers are paid in
-    // the asset.
-    #[tactic(auto, unfolding(ilp_journal::specs::TrialBalance::total_out))]
-    fn total_out(&self, asset: u32) -> u128
-        ensures sum { result ≡ total_out (peer_assets self.now.config) self.now.base self.now.entries asset }
-        ensures bound { result ≤ most_sum }
-    {
-        self.total_of(Total::Out {
-            base: self.base,
-            asset,
-        })
     }
 
     // Books the entry that ends what is open, a hold or a settlement, and tells its number.
@@ -444,8 +394,8 @@ impl<A: Allocator> Book<A> {
         ensures lawful { IsLawful self.new }
     {
         let number = self.journal.len();
+        self.tables.apply(&self.journal, &ending);
         self.journal.push_reserved(ending);
-        self.open_count -= 1;
         number
     }
 }

@@ -10,9 +10,8 @@ mod credits;
 mod fault;
 pub mod laws;
 mod moments;
-mod settlements;
+mod tables;
 mod terms;
-mod totals;
 
 pub use book::Book;
 pub use calls::{Asked, Held, Kept, Outcome, PeerReply, Sums};

@@ -1,6 +1,5 @@
 mod LineLemmas
 mod AmountLemmas
-mod WalkLemmas
 mod NameLemmas
 mod WrittenLemmas
 mod BalanceLemmas

@@ -8,11 +8,15 @@ use Rattle.std.specs.Io.KnownBytes.{Appends}
 use Rattle.std.proofs.KnownBytes.{Appends-trans}
 use Rattle.std.proofs.lemmas.Grind.{flat_map-append}
 use Rattle.std.proofs.lemmas.Result.{on_ok_weaker, on_err_weaker}
-use Rattle.std.proofs.lemmas.List.{append-nil, take-append-drop}
+use Rattle.std.proofs.lemmas.List.{append-nil, take-append-drop, take_more}
+use Rattle.std.proofs.lemmas.Option.{get_or_from_slice_get, slice_get_within}
 use Rattle.ilp_io.specs.Writing.{AppendsProperPrefix}
 use Rattle.ilp_io.proofs.WritingLemmas.{AppendsProperPrefix-after, AppendsProperPrefix-more}
 use Rattle.ilp_report.specs.Report.{line}
-use Rattle.ilp_report.proofs.WalkLemmas.{take_next}
+
+-- a list as far as a place and the element there
+take_next : {X : Type 0} (xs : List X) (n : ℕ) (x : X) → slice_get xs n ≡ Some x → take (n + 1) xs ≡ take n xs ++ x ∷ []
+take_next xs n x stands = take_more xs n x (slice_get_within xs n x stands) ∙ ap (λ y. take n xs ++ y ∷ []) (get_or_from_slice_get xs n x x stands)
 
 -- ---- parts of a text
 

@@ -1,7 +1,6 @@
 pub mod Report
 pub mod Columns
 pub mod Sound
-pub mod Amounts
 pub mod Rows
 pub use Rattle.ilp_assets.specs.Assets
 pub use Rattle.ilp_accounts.specs.Configuration

@@ -5,7 +5,6 @@ ghost use Rattle.ilp_assets.specs.Assets.{plain_asset};
 ghost use Rattle.ilp_report.specs.Report.{peer_account, asset_books, asset_name};
 ghost use Rattle.ilp_report.specs.Columns.{IsShort, IsNarrow};
 ghost use Rattle.ilp_report.specs.Sound.{AreNarrow};
-ghost use Rattle.ilp_report.specs.Amounts.{HaveAmounts};
 
 use ilp_assets::Asset;
 use ilp_book::{Book, Sums};
@@ -134,7 +133,6 @@ pub(crate) fn peer_accounts<A: Allocator + Copy, B: Allocator>(
     alloc: A,
     book: &Book<B>,
 ) -> Result<Vec<PeerAccount<A>, A>, AllocError>
-    requires { HaveAmounts book.now.entries }
     ensures { IfOk result (λ peers. peers.items
         ≡ map (peer_account book.now) (range_with_len 0 (length book.now.config.peers))) }
 {
@@ -150,7 +148,6 @@ pub(crate) fn all_asset_books<A: Allocator + Copy, B: Allocator>(
     alloc: A,
     book: &Book<B>,
 ) -> Result<Vec<AssetBooks<A>, A>, AllocError>
-    requires { HaveAmounts book.now.entries }
     ensures { IfOk result (λ assets. assets.items
         ≡ map (asset_books book.now) (range_with_len 0 (length book.now.config.table.assets))) }
 {
@@ -168,8 +165,7 @@ fn peer_account<A: Allocator, B: Allocator>(
     book: &Book<B>,
     peer: u32,
 ) -> Result<PeerAccount<A>, AllocError>
-    requires known { peer < length book.now.config.peers }
-    requires amounts { HaveAmounts book.now.entries }
+    requires { peer < length book.now.config.peers }
     ensures { IfOk result (λ account. account ≡ peer_account book.now peer) }
 {
     let config = book.config();
@@ -189,8 +185,7 @@ fn asset_books<A: Allocator, B: Allocator>(
     book: &Book<B>,
     place: u32,
 ) -> Result<AssetBooks<A>, AllocError>
-    requires known { place < length book.now.config.table.assets }
-    requires amounts { HaveAmounts book.now.entries }
+    requires { place < length book.now.config.table.assets }
     ensures { IfOk result (λ books. books ≡ asset_books book.now place) }
 {
     let Some(asset) = book.config().assets().asset(place) else {

@@ -6,7 +6,6 @@
 #![tactic(auto)]
 
 mod accounts;
-mod entries;
 pub mod laws;
 mod line;
 mod printing;

@@ -4,7 +4,6 @@ ghost use Rattle.ilp_report.specs.Report.{snapshot_of, text_of, report_text};
 ghost use Rattle.ilp_report.specs.Sound.{AreBalanced};
 
 use crate::accounts::{AssetBooks, PeerAccount, all_asset_books, peer_accounts};
-use crate::entries::fulfilled;
 use ilp_book::Book;
 use std::alloc::{AllocError, Allocator, Global};
 use std::marker::Model;
@@ -36,8 +35,8 @@ impl<A: Allocator> Model for Snapshot<A> {
 }
 
 impl<A: Allocator + Copy> Snapshot<A> {
-    /// What the report of a book tells now. Each line but the last two takes a walk over all entries at
-    /// least. `AllocError` tells that memory is short.
+    /// What the report of a book tells now. It takes as long as there are peers and assets, however
+    /// many entries there are. `AllocError` tells that memory is short.
     #[tactic(auto, unfolding(crate::specs::Report::snapshot_of))]
     pub fn of<B: Allocator>(alloc: A, book: &Book<B>) -> Result<Snapshot<A>, AllocError>
         ensures value { IfOk result (λ s. s ≡ snapshot_of book.now) }
@@ -45,12 +44,11 @@ impl<A: Allocator + Copy> Snapshot<A> {
     {
         // Called for what its contract tells: that the journal is lawful, and so its books balance.
         let _ = book.entry(0);
-        let fulfilled = fulfilled(book);
         Ok(Snapshot {
             peers: peer_accounts(alloc, book)?,
             assets: all_asset_books(alloc, book)?,
             entries: book.len(),
-            fulfilled,
+            fulfilled: book.fulfilled(),
         })
     }
 }

@@ -15,8 +15,9 @@ mod settlements;
 // More growths than any of these calls makes.
 const GROWTHS: u64 = 1_000;
 
-// The first growth that a call of a book makes: one before it is that of the journal's list of pages.
-const FIRST_OF_A_BOOK: u64 = 1;
+// How many growths a new book makes: one for each of its lists, which are the pages of the journal,
+// the peers' assets, the sums of the peers, their open settlements, and the sums of the assets.
+const FIRST_OF_A_BOOK: u64 = 5;
 
 // A Prepare of 100 to test.bob without data, as hexadecimal. It expires 30 seconds after
 // 2025-01-01T00:00:00Z, and its condition is the SHA-256 digest of 32 zero octets (by Python's
@@ -28,7 +29,7 @@ const PREPARE: &str =
 const PREPARE_BACK: &str =
     "0c450000000000000064323032353031303130303030333030303066687aadf862bd776c8fc18b8e9f8e20089714856ee233b3902a591d0d5f29250a746573742e616c69636500";
 
-// Two peers in one asset, each of which may owe 20,000 units, and is settled with from 1,000 on.
+// Two peers in one asset, each of which may owe 200,000 units, and is settled with from 1,000 on.
 const LENDING: &str = r#"address = "test.hub"
 run = "r1"
 [[asset]]
@@ -40,7 +41,7 @@ asset = "USD/2"
 token = "a-token"
 out_token = "to-alice"
 host = "127.0.0.1:7001"
-least = -20000
+least = -200000
 engine = "127.0.0.1:7003"
 threshold = 1000
 settle_to = 200
@@ -50,7 +51,7 @@ asset = "USD/2"
 token = "b-token"
 out_token = "to-bob"
 host = "127.0.0.1:7002"
-least = -20000
+least = -200000
 engine = "127.0.0.1:7003"
 threshold = 1000
 settle_to = 200

@@ -36,7 +36,7 @@ impl<A: Allocator + Clone> Book<A> {
         ensures err { OnErr result (self.new ≡ self.old) }
     {
         let amount = credited(quantity, self.config.scale(peer))?;
-        match kept_reply(&self.journal, peer, &key, quantity) {
+        match kept_reply(&self.journal, &self.tables.keys, peer, &key, quantity) {
             Some(reply) => reply,
             None => {
                 let credit = Credited {
@@ -63,8 +63,8 @@ impl<A: Allocator + Clone> Book<A> {
         ensures lawful { IsLawful self.new }
         ensures err { OnErr result (self.new ≡ self.old) }
     {
-        let balance = self.journal.balance(peer);
-        match still_open(&self.journal, peer) {
+        let balance = self.balance(peer);
+        match still_open(&self.journal, &self.tables.tallies, peer) {
             Some(fault) => Err(fault),
             None => match due_amount(balance, self.config.levels(peer)) {
                 Some(amount) => self.book_ask(actor, now, Ask { peer, amount }),

@@ -29,8 +29,8 @@ const PREPARE: Prepare<'static> = Prepare {
 
 const DEADLINE: i64 = START + 29_000;
 
-// How many holds are made: with what ends them they take more than a page of the journal.
-const HOLDS: u32 = 140;
+// How many holds are made: with what ends them there are 3,000 entries, in twelve pages.
+const HOLDS: u32 = 1_500;
 
 // A hold of alice; where it is denied memory it changes nothing, and succeeds when asked again.
 pub(super) fn hold<A: Allocator + Clone>(rt: &impl Abort, book: &mut Book<A>) {
@@ -53,11 +53,16 @@ pub(super) fn hold<A: Allocator + Clone>(rt: &impl Abort, book: &mut Book<A>) {
 }
 
 #[test]
-fn a_new_book_takes_its_list_of_pages(rt: HostRuntime) -> Result<(), Fail> {
+fn a_new_book(rt: HostRuntime) -> Result<(), Fail> {
     let config = lending(rt.alloc())?;
-    let heap = DenyingAllocator::after(rt.alloc(), 0);
-    assert!(rt; Book::new(&heap, &config).is_err());
-    assert!(rt; heap.has_denied());
+    for granted in 0..FIRST_OF_A_BOOK {
+        let heap = DenyingAllocator::after(rt.alloc(), granted);
+        assert!(rt; Book::new(&heap, &config).is_err());
+        assert!(rt; heap.has_denied());
+    }
+    let heap = DenyingAllocator::after(rt.alloc(), FIRST_OF_A_BOOK);
+    assert!(rt; Book::new(&heap, &config).is_ok());
+    assert!(rt; !heap.has_denied());
     Ok(())
 }
 
@@ -72,7 +77,10 @@ fn hold_over_each(rt: &(impl Abort + AllocGlobal), config: &Config) -> Result<()
         let heap = DenyingAllocator::after(rt.alloc(), granted);
         hold_over(rt, config, &heap)?;
         if !heap.has_denied() {
-            assert_eq!(rt; granted, FIRST_OF_A_BOOK + 2, "a growth for each page");
+            assert!(rt;
+                granted > FIRST_OF_A_BOOK + 12,
+                "pages, and the table of holds"
+            );
             return Ok(());
         }
     }
@@ -91,7 +99,7 @@ fn hold_all<A: Allocator + Clone>(rt: &impl Abort, book: &mut Book<A>) {
         hold(rt, book);
     }
     assert_eq!(rt; book.len(), HOLDS);
-    assert_eq!(rt; (book.balance(0), book.balance(1)), (-14_000, 0));
+    assert_eq!(rt; (book.balance(0), book.balance(1)), (-150_000, 0));
 }
 
 // What releases a hold, when it comes, and the cause that it is released for.

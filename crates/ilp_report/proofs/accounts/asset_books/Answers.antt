@@ -3,7 +3,7 @@ use Rattle.std.specs.Prelude.{string_bytes, slice_get, option_map, unwrap_or}
 use Rattle.ilp_assets.specs.Assets.{PlainTable, plain_asset, no_asset, asset_at}
 use Rattle.ilp_accounts.specs.Configuration.{Configuration}
 use Rattle.ilp_report.specs.Report.{asset_name}
-use Rattle.ilp_report.specs.Columns.{IsShort, IsNarrow}
+use Rattle.ilp_report.specs.Columns.{IsShort}
 use Rattle.ilp_report.proofs.AmountLemmas.{sums_are_narrow}
 use Rattle.ilp_report.proofs.NameLemmas.{asset_name_is_short}
 use Rattle.ilp_report.proofs.accounts.asset_books.Goals as goal
@@ -18,14 +18,7 @@ invariant_of-result g c =
     ap (λ (T : PlainTable). slice_get T.assets place) (sym table) ∙ sym c.asset.ensures ∙ ap (option_map plain_asset) c.in-Some.is in
     let named : string_bytes c.in_ok-name_of.field-0 ≡ asset_name (asset_at assets place) =
     c.in_ok-name_of.ensures ∙ sym (ap (λ o. asset_name (unwrap_or o no_asset)) found) in
-    let narrow = sums_are_narrow book c.requires.amounts place in
     record {
-      short = subst IsShort (sym named) (asset_name_is_short book.config c.config.ensures.valid place c.requires.known);
-      narrow = record {
-        settled = subst IsNarrow (sym c.sums.ensures.settled) narrow.settled;
-        held = subst IsNarrow (sym c.sums.ensures.held) narrow.held;
-        fees = subst IsNarrow (sym c.sums.ensures.fees) narrow.fees;
-        bought = subst IsNarrow (sym c.sums.ensures.bought) narrow.bought;
-        sold = subst IsNarrow (sym c.sums.ensures.sold) narrow.sold;
-      };
+      short = subst IsShort (sym named) (asset_name_is_short book.config c.config.ensures.valid place c.requires);
+      narrow = sums_are_narrow c.sums.result c.sums.ensures.within;
     }

@@ -1,41 +1,53 @@
-use Rattle.std.proofs.Common.{arith, sym, ap, ◌∙◌, subst, [], ◌∷◌, ◌++◌}
-use Rattle.ilp_journal.specs.Journal.{Entries}
+use Rattle.std.proofs.Common.{sym, subst, ◌∙◌, arith}
 use Rattle.ilp_book.specs.Book.{PlainBook, pushed}
+use Rattle.ilp_book.specs.Configured.{peer_assets}
 use Rattle.ilp_book.specs.Lawful.{IsLawful}
-use Rattle.ilp_book.specs.Parts.{book_of}
-use Rattle.ilp_book.proofs.Keeping.{grown_fits, names_ask, names_hold, parts_grown}
+use Rattle.ilp_book.specs.Tables.{KeepsKey}
+use Rattle.ilp_book.proofs.Keeping.{grown_fits, is_next, still_next, parts_grown}
 use Rattle.ilp_book.proofs.book.Book.append.Goals as goal
+
+pub apply-requires-clause-few : goal.apply-requires-clause-few
+apply-requires-clause-few g c =
+    let P : PlainBook → Type 0 = λ b. IsLawful (pushed b c.args.entry) in
+    let lawful = subst P (sym c.self.view_is) c.requires.lawful in
+    let fits = grown_fits c.self.inside.config c.self.inside.base c.self.inside.journal c.self.inside.tables.tallies c.self.inside.tables.holds c.self.inside.tables.keys c.args.opened c.args.entry c.self.invariant lawful c.requires.ends_nothing c.requires.opened in
+    let next = still_next c.self.inside.journal.entries c.reserve.new.self.entries c.self.inside.tables.tallies c.prepare.new.self.tallies c.self.inside.tables.holds.map c.prepare.new.self.holds.map c.args.entry
+    c.in_ok-reserve.ensures.entries c.in_ok-prepare.ensures.tallies c.in_ok-prepare.ensures.holds (is_next c.self.inside.config c.self.inside.base c.self.inside.journal c.self.inside.tables.tallies c.self.inside.tables.holds c.self.inside.tables.keys c.args.entry c.self.invariant lawful fits.0) in
+    next.few
+
+pub apply-requires-clause-known : goal.apply-requires-clause-known
+apply-requires-clause-known g c =
+    let P : PlainBook → Type 0 = λ b. IsLawful (pushed b c.args.entry) in
+    let lawful = subst P (sym c.self.view_is) c.requires.lawful in
+    let fits = grown_fits c.self.inside.config c.self.inside.base c.self.inside.journal c.self.inside.tables.tallies c.self.inside.tables.holds c.self.inside.tables.keys c.args.opened c.args.entry c.self.invariant lawful c.requires.ends_nothing c.requires.opened in
+    let next = still_next c.self.inside.journal.entries c.reserve.new.self.entries c.self.inside.tables.tallies c.prepare.new.self.tallies c.self.inside.tables.holds.map c.prepare.new.self.holds.map c.args.entry
+    c.in_ok-reserve.ensures.entries c.in_ok-prepare.ensures.tallies c.in_ok-prepare.ensures.holds (is_next c.self.inside.config c.self.inside.base c.self.inside.journal c.self.inside.tables.tallies c.self.inside.tables.holds c.self.inside.tables.keys c.args.entry c.self.invariant lawful fits.0) in
+    next.known
+
+pub apply-requires-clause-absent : goal.apply-requires-clause-absent
+apply-requires-clause-absent g c =
+    let P : PlainBook → Type 0 = λ b. IsLawful (pushed b c.args.entry) in
+    let lawful = subst P (sym c.self.view_is) c.requires.lawful in
+    let fits = grown_fits c.self.inside.config c.self.inside.base c.self.inside.journal c.self.inside.tables.tallies c.self.inside.tables.holds c.self.inside.tables.keys c.args.opened c.args.entry c.self.invariant lawful c.requires.ends_nothing c.requires.opened in
+    let next = still_next c.self.inside.journal.entries c.reserve.new.self.entries c.self.inside.tables.tallies c.prepare.new.self.tallies c.self.inside.tables.holds.map c.prepare.new.self.holds.map c.args.entry
+    c.in_ok-reserve.ensures.entries c.in_ok-prepare.ensures.tallies c.in_ok-prepare.ensures.holds (is_next c.self.inside.config c.self.inside.base c.self.inside.journal c.self.inside.tables.tallies c.self.inside.tables.holds c.self.inside.tables.keys c.args.entry c.self.invariant lawful fits.0) in
+    next.absent
 
 pub push_reserved-requires-clause-limit : goal.push_reserved-requires-clause-limit
 push_reserved-requires-clause-limit g c =
     let P : PlainBook → Type 0 = λ b. IsLawful (pushed b c.args.entry) in
     let lawful = subst P (sym c.self.view_is) c.requires.lawful in
-    let fits = grown_fits c.self.inside.config c.self.inside.base c.self.inside.journal c.self.inside.open_count c.args.opened c.args.entry c.self.invariant lawful c.requires.ends_nothing c.requires.opened in
+    let fits = grown_fits c.self.inside.config c.self.inside.base c.self.inside.journal c.self.inside.tables.tallies c.self.inside.tables.holds c.self.inside.tables.keys c.args.opened c.args.entry c.self.invariant lawful c.requires.ends_nothing c.requires.opened in
     rw (c.in_ok-reserve.ensures.entries, c.in_ok-reserve.ensures.limit) fits.0
-
-pub push_reserved-requires-clause-answers : goal.push_reserved-requires-clause-answers
-push_reserved-requires-clause-answers g c =
-    let P : PlainBook → Type 0 = λ b. IsLawful (pushed b c.args.entry) in
-    let lawful = subst P (sym c.self.view_is) c.requires.lawful in
-    rw c.in_ok-reserve.ensures.entries (names_hold (book_of c.self.inside.config c.self.inside.base c.self.inside.journal) c.args.entry lawful)
-
-pub push_reserved-requires-clause-closes : goal.push_reserved-requires-clause-closes
-push_reserved-requires-clause-closes g c =
-    let P : PlainBook → Type 0 = λ b. IsLawful (pushed b c.args.entry) in
-    let lawful = subst P (sym c.self.view_is) c.requires.lawful in
-    rw c.in_ok-reserve.ensures.entries (names_ask (book_of c.self.inside.config c.self.inside.base c.self.inside.journal) c.args.entry lawful)
-
-pub overflow_add-self : goal.overflow_add-self
-overflow_add-self g c =
-    let P : PlainBook → Type 0 = λ b. IsLawful (pushed b c.args.entry) in
-    let lawful = subst P (sym c.self.view_is) c.requires.lawful in
-    let fits = grown_fits c.self.inside.config c.self.inside.base c.self.inside.journal c.self.inside.open_count c.args.opened c.args.entry c.self.invariant lawful c.requires.ends_nothing c.requires.opened in
-    omega (arith, fits.1, c.self.invariant.limited, c.self.invariant.valid.settings.journal.1)
 
 pub invariant_of-self-2 : goal.invariant_of-self-2
 invariant_of-self-2 g c =
     let P : PlainBook → Type 0 = λ b. IsLawful (pushed b c.args.entry) in
     let lawful = subst P (sym c.self.view_is) c.requires.lawful in
-    parts_grown c.self.inside.config c.self.inside.base c.self.inside.journal c.push_reserved.new.self c.self.inside.open_count c.args.opened c.args.entry c.self.invariant lawful c.requires.ends_nothing c.requires.opened
-    (c.push_reserved.ensures.entries ∙ ap (λ (es : Entries). es ++ c.args.entry ∷ []) c.in_ok-reserve.ensures.entries)
-    (omega (arith, c.in_ok-reserve.ensures.ok, c.push_reserved.ensures.used, c.from.ensures, c.from-2.ensures)) (c.push_reserved.ensures.limit ∙ c.in_ok-reserve.ensures.limit)
+    let counted = c.open_count-open_count.ensures (peer_assets c.self.inside.config) c.self.inside.base c.self.inside.journal.entries c.self.invariant.tabled.tallied in
+    parts_grown c.self.inside.config c.self.inside.base c.self.inside.journal c.reserve.new.self c.push_reserved.new.self c.self.inside.tables.tallies c.prepare.new.self.tallies c.apply.new.self.tallies
+    c.self.inside.tables.holds c.prepare.new.self.holds c.apply.new.self.holds c.self.inside.tables.keys c.prepare.new.self.keys c.apply.new.self.keys c.args.opened c.args.entry c.self.invariant lawful
+    c.requires.ends_nothing c.requires.opened c.in_ok-reserve.ensures.entries c.push_reserved.ensures.entries
+    (omega (arith, c.in_ok-reserve.ensures.ok, c.push_reserved.ensures.used, c.from.ensures, c.from-2.ensures, counted)) (c.push_reserved.ensures.limit ∙ c.in_ok-reserve.ensures.limit)
+    c.in_ok-prepare.ensures.tallies c.apply.ensures.tallies c.in_ok-prepare.ensures.holds c.apply.ensures.holds
+    (subst (λ n. KeepsKey c.self.inside.tables.keys c.prepare.new.self.keys n c.args.entry.what) c.len-number.ensures.count c.in_ok-prepare.ensures.keys) c.apply.ensures.keys

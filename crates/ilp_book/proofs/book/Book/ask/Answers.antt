@@ -21,7 +21,7 @@ book_ask-requires g c =
     let Known : PlainBook → Type 0 = λ b. IsKnown b.config peer in
     let Due : PlainBook → Type 0 = λ b. IsDueAsk b.config b.entries (record { peer = peer; amount = amount }) in
     let owed_fits : FitsSigned w128 c.balance-balance.result = search rules in
-    let owed = to_z-of_z w128 c.balance-balance.result owed_fits ∙ c.balance-balance.ensures.sum in
+    let owed = to_z-of_z w128 c.balance-balance.result owed_fits ∙ c.balance-balance.ensures.value ∙ ap (λ (b : PlainBook). balance b.entries peer) (sym c.self.view_is) in
     let due : due_amount (balance j peer) (peer_at C peer).levels ≡ Some amount
     = sym (c.in-Some-due_amount.ensures ∙ ap (λ (b : ℤ). due_amount b c.levels.result) owed ∙ ap (due_amount (balance j peer)) c.levels.ensures) in
     record {
@@ -37,7 +37,7 @@ returns-in-Some-due_amount-clause-step g c =
     let amount = c.in-Some-due_amount.amount in
     let result = c.book_ask.result in
     let owed_fits : FitsSigned w128 c.balance-balance.result = search rules in
-    let owed = to_z-of_z w128 c.balance-balance.result owed_fits ∙ c.balance-balance.ensures.sum in
+    let owed = to_z-of_z w128 c.balance-balance.result owed_fits ∙ c.balance-balance.ensures.value ∙ ap (λ (b : PlainBook). balance b.entries peer) (sym c.self.view_is) in
     let due : due_amount (balance j peer) (peer_at c.self.inside.config peer).levels ≡ Some amount
     = sym (c.in-Some-due_amount.ensures ∙ ap (λ (b : ℤ). due_amount b c.levels.result) owed ∙ ap (due_amount (balance j peer)) c.levels.ensures) in
     let Due : PlainBook → Type 0 = λ b. due_amount (balance b.entries peer) (peer_at b.config peer).levels ≡ Some amount in

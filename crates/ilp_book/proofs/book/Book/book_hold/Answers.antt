@@ -22,7 +22,7 @@ append-requires-clause-lawful g c =
     let least_fits : FitsSigned w64 c.least.result = search rules in
     let Less : ℤ → ℤ → Type 0 = λ owed least. int_lt (owed -ℤ pos h.amount) least ≡ false in
     let not_short : Less (to_z w128 (of_z w128 c.balance-balance.result)) (to_z w64 (of_z w64 c.least.result)) = sym c.is_short.ensures ∙ c.if-is_short.false in
-    let owed = to_z-of_z w128 c.balance-balance.result owed_fits ∙ c.balance-balance.ensures.sum ∙ ap (λ (b : PlainBook). balance b.entries h.from) c.self.view_is in
+    let owed = to_z-of_z w128 c.balance-balance.result owed_fits ∙ c.balance-balance.ensures.value in
     let at_least = to_z-of_z w64 c.least.result least_fits ∙ c.least.ensures ∙ ap (λ (b : PlainBook). (peer_at b.config h.from).least) c.self.view_is in
     let covered : Less (balance book.entries h.from) (peer_at book.config h.from).least
     = subst (Less (balance book.entries h.from)) at_least (subst (λ b. Less b (to_z w64 (of_z w64 c.least.result))) owed not_short) in

@@ -1,0 +1,23 @@
+//! The open holds by their deadlines.
+
+use std::collections::BTreeSet;
+
+#[derive(Default)]
+pub struct HoldTable {
+    holds: BTreeSet<(i64, u32)>,
+}
+
+impl HoldTable {
+    pub fn insert(&mut self, number: u32, deadline: i64) {
+        self.holds.insert((deadline, number));
+    }
+
+    pub fn take(&mut self, number: u32, deadline: i64) {
+        self.holds.remove(&(deadline, number));
+    }
+
+    // The number of the one of least deadline, and of several the first.
+    pub fn earliest(&self) -> Option<u32> {
+        self.holds.first().map(|(_, number)| *number)
+    }
+}

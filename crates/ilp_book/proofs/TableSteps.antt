@@ -1,0 +1,193 @@
+-- How a book's tables follow its journal.
+use Rattle.std.proofs.Common.{◌≡◌, ℕ, ℤ, Bool, true, false, cond, List, [], ◌∷◌, ◌++◌, length, Option, Some, None, refl, sym, ap, ◌∙◌, subst, arith, zero-add}
+use Rattle.std.specs.Prelude.{◌==◌, ◌&&◌, IsNone, IfSome, option_map, unwrap_or}
+use Rattle.std.specs.Ordering.{nat_cmp}
+use Rattle.std.specs.FinMap as fin_map
+use Rattle.std.specs.FinMap.{FinMap, get-empty, get-insert, get-remove}
+use Rattle.std.specs.Cmp.{unsigned_tied}
+use Rattle.std.specs.Option.{option_or}
+use Rattle.std.specs.Str.{bytes_eq}
+use Rattle.std.proofs.lemmas.Bool.{eqb-true}
+use Rattle.std.proofs.lemmas.Cmp.{nat_cmp_total}
+use Rattle.std.proofs.lemmas.Slice.Eq.{bytes_eq-Decides}
+use Rattle.ilp_accounts.specs.Configuration.{Configuration}
+use Rattle.ilp_journal.specs.declared.entry.Entry.{Entry}
+use Rattle.ilp_journal.specs.declared.entry.What.{What}
+use Rattle.ilp_journal.specs.declared.entry.What.TheVariants as what
+use Rattle.ilp_journal.specs.declared.entry.Hold.{Hold}
+use Rattle.ilp_journal.specs.declared.entry.Credited.{Credited}
+use Rattle.ilp_journal.specs.Places.{Each}
+use Rattle.ilp_journal.specs.Journal.{Entries, AnswersOnce, as_hold, answered, is_number, hold_at, open_hold_at}
+use Rattle.ilp_journal.proofs.Sums.{first_from-append}
+use Rattle.ilp_journal.proofs.Growth.{open_hold_at-push}
+use Rattle.ilp_holds.specs.Due.{IsNoLater}
+use Rattle.ilp_holds.specs.Table.{Table}
+use Rattle.ilp_order.proofs.RefusalLemmas.{some_same}
+use Rattle.ilp_settlement.specs.KeyTable.{PlainKeyTable, entry_of}
+use Rattle.ilp_tallies.specs.OpenAsks.{HasRoomToAsk}
+use Rattle.ilp_tallies.specs.Tallies.{PlainTallies, AreTallies, KnowsPeers}
+use Rattle.ilp_book.specs.Configured.{peer_assets}
+use Rattle.ilp_book.specs.Open.{earliest, as_credit, has_key, kept_at}
+use Rattle.ilp_book.specs.Lawful.{IsHold, IsCredit, IsAsk}
+use Rattle.ilp_book.proofs.Known.{peers_listed}
+use Rattle.ilp_book.proofs.AnswerSteps.{open_stands}
+use Rattle.ilp_book.proofs.Earliest.{earliest_is}
+use Rattle.ilp_book.specs.Tables.{deadline_of, AreTables, AreOpen, AreKept, FollowsHolds, KeepsKey}
+
+-- ---- at first
+
+-- the tables of no entries
+pub tables_new : (assets : List ℕ) (base : ℕ) (tallies : PlainTallies) (holds : Table) (keys : PlainKeyTable) → AreTallies assets base [] tallies → holds.map ≡ fin_map.empty → keys ≡ [] → AreTables assets base [] tallies holds keys
+tables_new assets base tallies holds keys tallied empty none = record {
+  tallied = tallied;
+  open_holds = λ n. ap (λ (m : FinMap nat_cmp ℤ). fin_map.get m n) empty ∙ get-empty nat_cmp n;
+  kept = λ peer key. ap (λ (t : PlainKeyTable). entry_of t peer key) none;
+}
+
+-- ---- open holds
+
+-- a table that follows the entry has the open holds after it
+pub open_after : (j : Entries) (e : Entry) (old new : FinMap nat_cmp ℤ) → Each AnswersOnce j → AnswersOnce j e → AreOpen j old → FollowsHolds old new (length j) e.what → AreOpen (j ++ e ∷ []) new
+open_after j e old new each last open_now follows n =
+    follows n ∙ ap (λ o. cond (n == length j) (deadline_of (as_hold e.what)) (cond (is_number n (answered e.what)) None o)) (open_now n)
+    ∙ told (n == length j) (is_number n (answered e.what)) (as_hold e.what) (open_hold_at j n)
+    ∙ ap deadline_of (sym (open_hold_at-push j e n each last))
+  where
+    told : (a b : Bool) (h g : Option Hold) → cond a (deadline_of h) (cond b None (deadline_of g)) ≡ deadline_of (cond a h (cond b None g))
+    told true b h g = refl
+    told false true h g = refl
+    told false false h g = refl
+
+-- a hold that is added
+pub follows_hold : (old : FinMap nat_cmp ℤ) (n : ℕ) (w : What) (h : Hold) → w ≡ what.Hold h → FollowsHolds old (fin_map.insert old n h.deadline) n w
+follows_hold old n w h is k =
+    subst (λ (v : What). fin_map.get (fin_map.insert old n h.deadline) k ≡ cond (k == n) (deadline_of (as_hold v)) (cond (is_number k (answered v)) None (fin_map.get old k))) (sym is)
+    (get-insert nat_cmp_total old n h.deadline k ∙ ap (λ b. cond b (Some h.deadline) (fin_map.get old k)) (unsigned_tied k n))
+
+-- a hold that is taken out
+pub follows_answer : (old : FinMap nat_cmp ℤ) (n hold : ℕ) (w : What) → fin_map.get old n ≡ None → as_hold w ≡ None → answered w ≡ Some hold → FollowsHolds old (fin_map.remove old hold) n w
+follows_answer old n hold w absent none names k =
+    get-remove nat_cmp_total old hold k ∙ ap (λ b. cond b None (fin_map.get old k)) (unsigned_tied k hold)
+    ∙ told (k == n) (eqb-true k n) (k == hold)
+    ∙ ap (λ o. cond (k == n) (deadline_of o) (cond (k == hold) None (fin_map.get old k))) (sym none)
+    ∙ ap (λ o. cond (k == n) (deadline_of (as_hold w)) (cond (is_number k o) None (fin_map.get old k))) (sym names)
+  where
+    nothing : (b : Bool) → ◌≡◌ {A = Option ℤ} (cond b None None) None
+    nothing true = refl
+    nothing false = refl
+
+    told : (a : Bool) → (a ≡ true → k ≡ n) → (b : Bool) → cond b None (fin_map.get old k) ≡ cond a None (cond b None (fin_map.get old k))
+    told true is b = ap (λ o. cond b None o) (ap (fin_map.get old) (is refl) ∙ absent) ∙ nothing b
+    told false is b = refl
+
+-- nothing is open where the table is empty
+pub none_open : (j : Entries) (m : FinMap nat_cmp ℤ) → AreOpen j m → m ≡ fin_map.empty → (n : ℕ) → open_hold_at j n ≡ None
+none_open j m open_now is n = of (open_hold_at j n) (sym (open_now n) ∙ ap (λ (d : FinMap nat_cmp ℤ). fin_map.get d n) is ∙ get-empty nat_cmp n)
+  where
+    of : (o : Option Hold) → deadline_of o ≡ None → o ≡ None
+    of None e = refl
+    of (Some h) e = cc
+
+-- the hold whose deadline comes first in the table is the earliest
+pub first_is_earliest : (j : Entries) (m : FinMap nat_cmp ℤ) (n : ℕ) (deadline : ℤ) (h : Hold) → AreOpen j m → fin_map.get m n ≡ Some deadline
+    → ((k : ℕ) (d : ℤ) → fin_map.get m k ≡ Some d → IsNoLater deadline n d k) → hold_at j n ≡ Some h → earliest j ≡ Some (n, h)
+first_is_earliest j m n deadline h open_now at first stands =
+    let held : (g : Hold) × (open_hold_at j n ≡ Some g) × (g.deadline ≡ deadline) = of (open_hold_at j n) refl (sym (open_now n) ∙ at) in
+    let same : held.0 ≡ h = some_same held.0 h (sym (open_stands j n held.0 held.1).1 ∙ stands) in
+    earliest_is j n h (record {
+      is_open = held.1 ∙ ap Some same;
+      first = λ k g is. subst (λ d. IsNoLater d n g.deadline k) (sym held.2 ∙ ap (λ (x : Hold). x.deadline) same) (first k g.deadline (open_now k ∙ ap deadline_of is));
+    })
+  where
+    of : (o : Option Hold) → open_hold_at j n ≡ o → deadline_of o ≡ Some deadline → (g : Hold) × (open_hold_at j n ≡ Some g) × (g.deadline ≡ deadline)
+    of None is e = absurd cc
+    of (Some g) is e = (g, is, some_same g.deadline deadline e)
+
+-- what the table has first stands in the journal
+pub first_stands : (j : Entries) (m : FinMap nat_cmp ℤ) (n : ℕ) (deadline : ℤ) → AreOpen j m → fin_map.get m n ≡ Some deadline → hold_at j n ≡ None → ⊥
+first_stands j m n deadline open_now at none = of (open_hold_at j n) refl (sym (open_now n) ∙ at)
+  where
+    of : (o : Option Hold) → open_hold_at j n ≡ o → deadline_of o ≡ Some deadline → ⊥
+    of None is e = cc
+    of (Some g) is e = let stands = (open_stands j n g is).1 in cc
+
+-- ---- keys
+
+-- what stands under a key after one more entry
+kept_at-push : (j : Entries) (e : Entry) (peer : ℕ) (key : List ℕ) → kept_at (j ++ e ∷ []) peer key ≡ option_or (kept_at j peer key) (cond (has_key peer key e.what) (Some (length j)) None)
+kept_at-push j e peer key =
+    first_from-append (λ _ (d : Entry). has_key peer key d.what) 0 j (e ∷ [])
+    ∙ ap (λ n. option_or (kept_at j peer key) (cond (has_key peer key e.what) (Some n) None)) (zero-add (length j))
+
+-- a credit under the key is of the peer, and has that key
+has_key_parts : (w : What) (peer : ℕ) (key : List ℕ) → has_key peer key w ≡ true → (P : ℕ → List ℕ → Type 0) → IfSome (as_credit w) (λ (c : Credited). P c.peer c.key) → P peer key
+has_key_parts w peer key = of (as_credit w)
+  where
+    both : (c : Credited) (a b : Bool) → (c.peer == peer) ≡ a → bytes_eq c.key key ≡ b → (a && b) ≡ true → (P : ℕ → List ℕ → Type 0) → P c.peer c.key → P peer key
+    both c true true p k e P x = subst (λ q. P q key) (eqb-true c.peer peer p) (subst (P c.peer) ((bytes_eq-Decides c.key key).0 k) x)
+    both c true false p k e P x = cc
+    both c false b p k e P x = cc
+
+    of : (o : Option Credited) → unwrap_or (option_map (λ (c : Credited). (c.peer == peer) && bytes_eq c.key key) o) false ≡ true → (P : ℕ → List ℕ → Type 0) → IfSome o (λ (c : Credited). P c.peer c.key) → P peer key
+    of None e P x = cc
+    of (Some c) e P x = both c (c.peer == peer) (bytes_eq c.key key) refl refl e P x
+
+-- what a credit's key has before it
+abbrev pub IsFresh : Entries → What → Type 0
+IsFresh j w = IfSome (as_credit w) (λ (c : Credited). IsNone (kept_at j c.peer c.key))
+
+-- a table that keeps the entry's key has the keys after it
+pub kept_after : (j : Entries) (e : Entry) (old new : PlainKeyTable) → IsFresh j e.what → AreKept j old → KeepsKey old new (length j) e.what → AreKept (j ++ e ∷ []) new
+kept_after j e old new fresh kept_now keeps peer key =
+    keeps peer key ∙ ap (λ o. cond (has_key peer key e.what) (Some (length j)) o) (kept_now peer key)
+    ∙ by_test (has_key peer key e.what) refl (kept_at j peer key) refl
+    ∙ sym (kept_at-push j e peer key)
+  where
+    none_or : (o : Option ℕ) → o ≡ option_or o None
+    none_or None = refl
+    none_or (Some n) = refl
+
+    of_none : (o : Option ℕ) → IsNone o → Some (length j) ≡ option_or o (Some (length j))
+    of_none None none = refl
+    of_none (Some n) none = cc
+
+    by_test : (b : Bool) → has_key peer key e.what ≡ b → (o : Option ℕ) → kept_at j peer key ≡ o → cond b (Some (length j)) o ≡ option_or o (cond b (Some (length j)) None)
+    by_test true t o is = of_none o (subst IsNone is (has_key_parts e.what peer key t (λ p k. IsNone (kept_at j p k)) fresh))
+    by_test false t o is = none_or o
+
+-- an entry that is no credit keeps no key
+pub keeps_nothing : (keys : PlainKeyTable) (n : ℕ) (w : What) → as_credit w ≡ None → KeepsKey keys keys n w
+keeps_nothing keys n w none peer key =
+    ap (λ o. cond (unwrap_or (option_map (λ (c : Credited). (c.peer == peer) && bytes_eq c.key key) o) false) (Some n) (entry_of keys peer key)) (sym none)
+
+-- ---- what the rules say of an entry's peers
+
+-- the peers of an entry that its rules allow are known
+pub peers_known : (C : Configuration) (j : Entries) (m : ℤ) (w : What) → IsHold C m w → IsCredit C j w → IsAsk C j w → KnowsPeers (length (peer_assets C)) w
+peers_known C j m (what.Hold h) hold credit ask = (rw (peers_listed C) hold.sender, rw (peers_listed C) hold.receiver)
+peers_known C j m (what.Fulfilled hold preimage) h c a = tt
+peers_known C j m (what.Released hold cause) h c a = tt
+peers_known C j m (what.Credited c) hold credit ask = rw (peers_listed C) credit.known
+peers_known C j m (what.Asked a) hold credit ask = rw (peers_listed C) ask.known
+peers_known C j m (what.Confirmed ask) h c a = tt
+peers_known C j m (what.Undone ask) h c a = tt
+
+-- a settlement is asked for where fewer are open than there is room for
+pub room_to_ask : (C : Configuration) (j : Entries) (w : What) → IsAsk C j w → HasRoomToAsk j w
+room_to_ask C j (what.Hold h) ask = tt
+room_to_ask C j (what.Fulfilled hold preimage) ask = tt
+room_to_ask C j (what.Released hold cause) ask = tt
+room_to_ask C j (what.Credited c) ask = tt
+room_to_ask C j (what.Asked a) ask = omega (arith, ask.few_open)
+room_to_ask C j (what.Confirmed ask) a = tt
+room_to_ask C j (what.Undone ask) a = tt
+
+-- a credit's key is not kept yet
+pub key_fresh : (C : Configuration) (j : Entries) (w : What) → IsCredit C j w → IsFresh j w
+key_fresh C j (what.Hold h) credit = tt
+key_fresh C j (what.Fulfilled hold preimage) credit = tt
+key_fresh C j (what.Released hold cause) credit = tt
+key_fresh C j (what.Credited c) credit = credit.fresh
+key_fresh C j (what.Asked a) credit = tt
+key_fresh C j (what.Confirmed ask) credit = tt
+key_fresh C j (what.Undone ask) credit = tt

@@ -1,0 +1,7 @@
+mod RowLemmas
+mod StepSums
+mod StepLemmas
+mod Places
+pub mod AskLemmas
+pub mod Growing
+mod Beginning

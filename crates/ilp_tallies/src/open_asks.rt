@@ -1,0 +1,79 @@
+//! The open settlements to one peer.
+ghost use Rattle.std.specs.Prelude.{◌≡◌, ◌<◌, [], ◌∷◌, ◌++◌, length, filter, not, ◌==◌, slice_get};
+ghost use Rattle.ilp_tallies.specs.declared.open_asks.TheConstants.{MOST_OPEN};
+
+use std::marker::Model;
+
+/// How many settlements to one peer may be open at once. There is room for more than the one that
+/// a book allows, so that a book may allow more without memory in another form.
+pub(crate) const MOST_OPEN: usize = 4;
+
+/// The numbers of the open settlements to a peer, in the order in which they were asked for.
+#[derive(Drop)]
+pub(crate) struct OpenAsks {
+    numbers: [u32; MOST_OPEN],
+    count: usize,
+}
+
+impl Model for OpenAsks {
+    ghost use Rattle.std.specs.Prelude.{ℕ, List, ◌≤◌, take};
+    ghost use Rattle.ilp_tallies.specs.declared.open_asks.TheConstants.{MOST_OPEN};
+
+    ghost Value = { List ℕ };
+
+    ghost view = { λ a. take a.count a.numbers };
+
+    ghost invariant = { λ a. a.count ≤ MOST_OPEN };
+}
+
+impl OpenAsks {
+    /// No open settlement.
+    pub(crate) fn new() -> OpenAsks
+        ensures { result ≡ [] }
+    {
+        OpenAsks {
+            numbers: [0; MOST_OPEN],
+            count: 0,
+        }
+    }
+
+    /// How many are open.
+    pub(crate) fn len(&self) -> u32
+        ensures { result ≡ length self.now }
+    {
+        self.count as u32
+    }
+
+    /// The one that was asked for first.
+    pub(crate) fn first(&self) -> Option<u32>
+        ensures { result ≡ slice_get self.now 0 }
+    {
+        if self.count == 0 {
+            return None;
+        }
+        Some(self.numbers[0])
+    }
+
+    /// Adds the number of a settlement that is asked for.
+    pub(crate) fn push(&mut self, number: u32)
+        requires { length self.old < MOST_OPEN }
+        ensures { self.new ≡ self.old ++ number ∷ [] }
+    {
+        self.numbers[self.count] = number;
+        self.count += 1;
+    }
+
+    /// All but the settlement of this number.
+    pub(crate) fn without(&self, closed: u32) -> OpenAsks
+        ensures { result ≡ filter (λ number. not (number == closed)) self.now }
+    {
+        let mut left = OpenAsks::new();
+        for place in 0..self.count {
+            let number = self.numbers[place];
+            if number != closed {
+                left.push(number);
+            }
+        }
+        left
+    }
+}

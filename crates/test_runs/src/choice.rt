@@ -1,0 +1,176 @@
+//! Which call comes next, and with what.
+
+use crate::calls::{Call, Made, Payment, Sent};
+use crate::chance::Chance;
+use crate::configured::PEERS;
+use crate::locks::{condition, preimage};
+use crate::walks::{Ends, ask_at, first_open_ask, open_hold_at};
+use ilp_book::{Book, PeerReply};
+use ilp_settlement::Quantity;
+
+// How many keys each peer has.
+const KEYS: u32 = 30;
+
+/// The next call. Most moments rise by a few milliseconds, some by seconds, and some fall.
+pub(crate) fn next_call(chance: &mut Chance, book: &Book, ends: &Ends, clock: &mut i64) -> Made {
+    *clock = clock.wrapping_add(pass(chance));
+    let now = *clock;
+    Made {
+        call: choose(chance, book, ends, now),
+        actor: chance.below(6),
+        now: told(chance, now),
+    }
+}
+
+// By how much the clock goes on.
+fn pass(chance: &mut Chance) -> i64 {
+    if chance.is_one_in(25) {
+        return i64::from(chance.below(9_000));
+    }
+    i64::from(chance.below(40))
+}
+
+// What the clock tells; it may go wrong.
+fn told(chance: &mut Chance, now: i64) -> i64 {
+    match chance.below(40) {
+        0 => i64::MIN,
+        1 => 0,
+        2 | 3 => now.wrapping_sub(i64::from(chance.below(5_000))),
+        _ => now,
+    }
+}
+
+fn choose(chance: &mut Chance, book: &Book, ends: &Ends, now: i64) -> Call {
+    match chance.below(20) {
+        0..=6 => Call::Hold(sent(chance, now)),
+        7..=11 => Call::Answer {
+            number: hold_number(chance, book, ends),
+            reply: reply(chance),
+        },
+        12 | 13 => Call::Expire,
+        14 | 15 => Call::Credit(payment(chance)),
+        16 | 17 => Call::Ask {
+            peer: chance.below(PEERS),
+        },
+        _ => Call::Close {
+            number: ask_number(chance, book, ends),
+            accepted: chance.is_one_in(2),
+        },
+    }
+}
+
+// Expiries are whole seconds, so that several holds have one deadline.
+fn sent(chance: &mut Chance, now: i64) -> Sent {
+    let from = chance.below(PEERS);
+    let life = i64::from(chance.below(45_000));
+    let expires = now.wrapping_add(life);
+    Sent {
+        from,
+        to: receiver(chance, from),
+        amount: amount(chance),
+        expires: expires.wrapping_sub(expires % 1_000),
+        condition: condition(!chance.is_one_in(4)),
+    }
+}
+
+// Another peer, as a rule; else any, or none.
+fn receiver(chance: &mut Chance, from: u32) -> u32 {
+    if chance.is_one_in(12) {
+        return chance.below(PEERS + 1);
+    }
+    let step = chance.below(PEERS - 1).wrapping_add(1);
+    from.wrapping_add(step) % PEERS
+}
+
+fn amount(chance: &mut Chance) -> u64 {
+    let small = u64::from(chance.below(400));
+    match chance.below(50) {
+        0 => u64::MAX.wrapping_sub(small),
+        1 => (1u64 << 63).wrapping_sub(small),
+        2 => (1u64 << 60).wrapping_sub(small),
+        3 => small % 10,
+        _ => small,
+    }
+}
+
+// A recent entry, as a rule; else any, and some after the last.
+fn number(chance: &mut Chance, book: &Book) -> u32 {
+    let len = book.len();
+    if chance.is_one_in(8) {
+        return chance.below(len.wrapping_add(5));
+    }
+    let back = chance.below(30).wrapping_add(1);
+    len.saturating_sub(back)
+}
+
+// An open hold that stands a little before some entry; where there is none, that entry.
+fn hold_number(chance: &mut Chance, book: &Book, ends: &Ends) -> u32 {
+    let number = number(chance, book);
+    if chance.is_one_in(3) {
+        return number;
+    }
+    for back in 0..30 {
+        let before = number.saturating_sub(back);
+        if open_hold_at(book, ends, before).is_some() {
+            return before;
+        }
+    }
+    number
+}
+
+// The open settlement to some peer, or any settlement that stands a little before some entry.
+fn ask_number(chance: &mut Chance, book: &Book, ends: &Ends) -> u32 {
+    if chance.is_one_in(3) {
+        if let Some((number, _)) = first_open_ask(book, ends, chance.below(PEERS)) {
+            return number;
+        }
+    }
+    let number = number(chance, book);
+    for back in 0..30 {
+        let before = number.saturating_sub(back);
+        if ask_at(book, before).is_some() {
+            return before;
+        }
+    }
+    number
+}
+
+fn reply(chance: &mut Chance) -> PeerReply {
+    match chance.below(10) {
+        0 => PeerReply::BadFulfill,
+        1 => PeerReply::NoReply,
+        2 => PeerReply::Reject(*b"F99"),
+        3 => PeerReply::Reject(*b"T04"),
+        _ => PeerReply::Fulfill(preimage(!chance.is_one_in(4))),
+    }
+}
+
+fn payment(chance: &mut Chance) -> Payment {
+    let peer = chance.below(PEERS);
+    let key = chance.below(KEYS);
+    Payment {
+        peer,
+        key: u8::try_from(key).unwrap_or(0),
+        quantity: quantity(chance, key),
+    }
+}
+
+// As a rule the quantity that goes with a key.
+fn quantity(chance: &mut Chance, key: u32) -> Quantity {
+    if chance.is_one_in(8) {
+        return Quantity {
+            amount: u128::from(chance.below(50)),
+            scale: 1,
+        };
+    }
+    if chance.is_one_in(12) {
+        return Quantity {
+            amount: u128::from(u64::MAX).wrapping_sub(u128::from(chance.below(9))),
+            scale: u8::try_from(chance.below(4)).unwrap_or(0),
+        };
+    }
+    Quantity {
+        amount: u128::from(key).wrapping_mul(137),
+        scale: u8::try_from(key % 5).unwrap_or(0),
+    }
+}

@@ -1,0 +1,141 @@
+//! Which kinds of replies came up.
+
+use crate::calls::Reply;
+use ilp_assets::QuoteFault;
+use ilp_book::{AskFault, CreditFault, HoldFault, NotOpen, Outcome};
+use ilp_journal::Cause;
+
+/// A kind of a reply.
+#[derive(Clone, Copy)]
+enum Kind {
+    Held,
+    AmountTooLarge,
+    NoRoute,
+    BackToSender,
+    Expired,
+    TooShort,
+    OutTooLarge,
+    RoundsToNothing,
+    Full,
+    TotalFull,
+    BelowLeast,
+    Fulfilled,
+    Late,
+    WrongPreimage,
+    Peer,
+    NoReply,
+    AnsweredBefore,
+    NoHold,
+    Swept,
+    NothingDue,
+    Credited,
+    CreditedBefore,
+    TooLarge,
+    KeyTaken,
+    CreditFull,
+    Asked,
+    StillOpen,
+    NotDue,
+    AskFull,
+    Closed,
+    ClosedBefore,
+    NoAsk,
+    /// None that is to come up.
+    Other,
+}
+
+const KINDS: usize = Kind::Other as usize;
+
+/// Which kinds came up so far.
+#[derive(Drop)]
+pub(crate) struct Kinds {
+    came: [bool; KINDS],
+}
+
+impl Kinds {
+    /// None.
+    pub(crate) fn new() -> Kinds {
+        Kinds {
+            came: [false; KINDS],
+        }
+    }
+
+    /// Notes the kind of a reply.
+    pub(crate) fn note(&mut self, reply: &Reply) {
+        if let Some(came) = self.came.get_mut(kind_of(reply) as usize) {
+            *came = true;
+        }
+    }
+
+    /// Whether each kind came up.
+    pub(crate) fn have_all(&self) -> bool {
+        self.came.iter().all(|came| *came)
+    }
+}
+
+fn kind_of(reply: &Reply) -> Kind {
+    match reply {
+        Reply::Hold(Ok(_)) => Kind::Held,
+        Reply::Hold(Err(fault)) => kind_of_hold(fault),
+        Reply::Answer(Ok(outcome)) => kind_of_outcome(outcome),
+        Reply::Answer(Err(NotOpen { closer: Some(_) })) => Kind::AnsweredBefore,
+        Reply::Answer(Err(NotOpen { closer: None })) => Kind::NoHold,
+        Reply::Expire(Some(_)) => Kind::Swept,
+        Reply::Expire(None) => Kind::NothingDue,
+        Reply::Credit(Ok(kept)) if kept.fresh => Kind::Credited,
+        Reply::Credit(Ok(_)) => Kind::CreditedBefore,
+        Reply::Credit(Err(fault)) => kind_of_credit(fault),
+        Reply::Ask(Ok(_)) => Kind::Asked,
+        Reply::Ask(Err(fault)) => kind_of_ask(fault),
+        Reply::Close(Ok(_)) => Kind::Closed,
+        Reply::Close(Err(NotOpen { closer: Some(_) })) => Kind::ClosedBefore,
+        Reply::Close(Err(NotOpen { closer: None })) => Kind::NoAsk,
+        Reply::NotMade => Kind::Other,
+    }
+}
+
+fn kind_of_hold(fault: &HoldFault) -> Kind {
+    match fault {
+        HoldFault::AmountTooLarge { .. } => Kind::AmountTooLarge,
+        HoldFault::NoRoute => Kind::NoRoute,
+        HoldFault::BackToSender => Kind::BackToSender,
+        HoldFault::Expired => Kind::Expired,
+        HoldFault::TooShort => Kind::TooShort,
+        HoldFault::Quote(QuoteFault::OutTooLarge) => Kind::OutTooLarge,
+        HoldFault::Quote(QuoteFault::RoundsToNothing) => Kind::RoundsToNothing,
+        HoldFault::Quote(QuoteFault::NoPrice) | HoldFault::Memory => Kind::Other,
+        HoldFault::Full => Kind::Full,
+        HoldFault::TotalFull => Kind::TotalFull,
+        HoldFault::BelowLeast { .. } => Kind::BelowLeast,
+    }
+}
+
+fn kind_of_outcome(outcome: &Outcome) -> Kind {
+    let Outcome::Released { cause, .. } = outcome else {
+        return Kind::Fulfilled;
+    };
+    match cause {
+        Cause::Late => Kind::Late,
+        Cause::WrongPreimage => Kind::WrongPreimage,
+        Cause::NoReply => Kind::NoReply,
+        Cause::Peer(_) => Kind::Peer,
+    }
+}
+
+fn kind_of_credit(fault: &CreditFault) -> Kind {
+    match fault {
+        CreditFault::TooLarge => Kind::TooLarge,
+        CreditFault::KeyTaken { .. } => Kind::KeyTaken,
+        CreditFault::Full => Kind::CreditFull,
+        CreditFault::Memory => Kind::Other,
+    }
+}
+
+fn kind_of_ask(fault: &AskFault) -> Kind {
+    match fault {
+        AskFault::StillOpen { .. } => Kind::StillOpen,
+        AskFault::NotDue { .. } => Kind::NotDue,
+        AskFault::Full => Kind::AskFull,
+        AskFault::Memory => Kind::Other,
+    }
+}

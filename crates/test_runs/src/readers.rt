@@ -1,0 +1,59 @@
+//! The readers of a book, compared with walks over its entries.
+
+use crate::configured::{ASSETS, PEERS};
+use crate::walks::{self, Ends};
+use ilp_book::Book;
+use std::io;
+
+/// Whether each reader agrees with its walk; the first that does not is printed.
+pub(crate) fn readers_agree(rt: &impl Print, book: &Book, ends: &Ends) -> io::Result<bool> {
+    let fulfilled = walks::fulfilled(book);
+    if book.fulfilled() != fulfilled {
+        println!(rt;
+            "fulfilled is to be {fulfilled}, and is {}",
+            book.fulfilled()
+        )?;
+        return Ok(false);
+    }
+    for peer in 0..PEERS {
+        if !peer_agrees(rt, book, ends, peer)? {
+            return Ok(false);
+        }
+    }
+    for asset in 0..ASSETS {
+        if !asset_agrees(rt, book, ends, asset)? {
+            return Ok(false);
+        }
+    }
+    Ok(true)
+}
+
+fn peer_agrees(rt: &impl Print, book: &Book, ends: &Ends, peer: u32) -> io::Result<bool> {
+    let balance = walks::balance(book, peer);
+    if book.balance(peer) != balance {
+        println!(rt;
+            "balance {peer} is to be {balance}, and is {}",
+            book.balance(peer)
+        )?;
+        return Ok(false);
+    }
+    let open = walks::open_holds(book, ends, peer);
+    if book.open_holds(peer) != open {
+        println!(rt;
+            "open_holds {peer} is to be {open}, and is {}",
+            book.open_holds(peer)
+        )?;
+        return Ok(false);
+    }
+    Ok(true)
+}
+
+fn asset_agrees(rt: &impl Print, book: &Book, ends: &Ends, asset: u32) -> io::Result<bool> {
+    let sums = walks::sums(book, ends, asset);
+    let told = book.sums(asset);
+    if told != sums {
+        println!(rt; "sums {asset} are to be {sums:?}, and are {told:?}")?;
+        return Ok(false);
+    }
+    Ok(true)
+}

@@ -1,0 +1,77 @@
+//! Settlements.
+
+use crate::calls::key_octets;
+use crate::walks::{Ends, what_at};
+use ilp_book::Book;
+use ilp_journal::{Ask, What};
+
+/// The asked settlement under a number.
+pub(crate) fn ask_at(book: &Book, number: u32) -> Option<Ask> {
+    match what_at(book, number) {
+        Some(What::Asked(ask)) => Some(*ask),
+        _ => None,
+    }
+}
+
+/// The entry that confirms or undoes the settlement under a number, where there is one.
+pub(crate) fn closing_of(book: &Book, ends: &Ends, number: u32) -> Option<u32> {
+    let _ask = ask_at(book, number)?;
+    ends.closer_of(number)
+}
+
+/// The settlement under a number, if it is open.
+pub(crate) fn open_ask_at(book: &Book, ends: &Ends, number: u32) -> Option<Ask> {
+    if ends.closer_of(number).is_some() {
+        return None;
+    }
+    ask_at(book, number)
+}
+
+/// The first open settlement to a peer, with its number.
+pub(crate) fn first_open_ask(book: &Book, ends: &Ends, peer: u32) -> Option<(u32, Ask)> {
+    for number in 0..book.len() {
+        if let Some(ask) = open_ask_at(book, ends, number) {
+            if ask.peer == peer {
+                return Some((number, ask));
+            }
+        }
+    }
+    None
+}
+
+/// What is kept under a key.
+#[derive(Clone, Copy)]
+pub(crate) struct Kept {
+    pub(crate) number: u32,
+    pub(crate) named: u128,
+    pub(crate) scale: u8,
+    pub(crate) credited: u64,
+}
+
+/// The first credit of a peer under a key.
+pub(crate) fn kept_under(book: &Book, peer: u32, key: u8) -> Option<Kept> {
+    for number in 0..book.len() {
+        if let Some(kept) = kept_at(book, number, peer, key) {
+            return Some(kept);
+        }
+    }
+    None
+}
+
+// The entry of this number, where it is a credit of the peer under the key.
+fn kept_at(book: &Book, number: u32, peer: u32, key: u8) -> Option<Kept> {
+    match what_at(book, number) {
+        Some(What::Credited(credit)) => {
+            if credit.peer != peer || credit.key.as_slice() != key_octets(key).as_slice() {
+                return None;
+            }
+            Some(Kept {
+                number,
+                named: credit.named,
+                scale: credit.scale,
+                credited: credit.credited,
+            })
+        }
+        _ => None,
+    }
+}
