@@ -1,9 +1,9 @@
 #!/bin/sh
 # Runs the benchmark bench/NAME: main.rt.in, a Rattle program over this repository's crates, and
 # bench/baselines/NAME.rs, the same work in plain Rust. Prints the nanoseconds of a turn and their
-# ratio, and then the instructions of a turn, which don't move with the machine (but for `book`,
-# `desk` and `journal`, whose rows are no input). For `desk` it prints forwards a second too, and for
-# `journal` the same of one `Vec` in Rust, in rows that begin with `vec_`.
+# ratio, and then the instructions of a turn, which don't move with the machine (but for `desk` and
+# `journal`, whose rows are no input). For `desk` it prints forwards a second too, and for `journal` the
+# same of one `Vec` in Rust, in rows that begin with `vec_`.
 #
 #     scripts/bench.sh packets
 #     scripts/bench.sh quote
@@ -15,7 +15,8 @@
 #     scripts/bench.sh answer
 #     scripts/bench.sh report
 #
-# With LARGE=1 in the environment `book` has rows behind 16,000,000 entries too.
+# With LARGE=1 in the environment `book` has its rows behind 16,000,000 entries alone, which take 4 GB,
+# and counts no instructions.
 #
 # It works on a copy of the repository in a temporary folder (TMPDIR says where). It needs rt, rustc
 # and python3, and valgrind for the instructions. The Rattle program is proved before it is built
@@ -64,7 +65,7 @@ if [ "$rounds" -gt 0 ]; then
             END { for (i = 1; i <= n; i++) printf "%-30s %10d\n", rows[i], most[rows[i]] }' "$work/rows"
     fi
 fi
-if [ -s "$work/input" ] && command -v valgrind >/dev/null; then
+if [ -s "$work/input" ] && [ -z "${LARGE:-}" ] && command -v valgrind >/dev/null; then
     echo "Instructions of a turn, by callgrind."
     python3 "$top/scripts/benching/instructions.py" "$work/input" "out/bench_$name" "$work/baseline"
 fi

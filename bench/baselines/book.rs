@@ -41,9 +41,6 @@ const HOUR_MS: i64 = 3_600_000;
 // As by default, an outgoing packet expires so much sooner.
 const WINDOW_MS: i64 = 1_000;
 
-// How many entries stand before the rows of open holds.
-const BEFORE_OPEN: u32 = 1_000_000;
-
 // The settings of `CONFIG` in the Rattle program.
 fn config() -> Config {
     let mut config = lending();
@@ -67,13 +64,14 @@ enum Work {
 }
 
 impl Work {
-    fn name(self) -> &'static str {
-        match self {
-            Work::Fulfill => "fulfill",
-            Work::Release => "release",
-            Work::Expire => "expire",
-            Work::Credit => "credit",
-            Work::Settle => "settle",
+    fn parse(word: &str) -> Option<Work> {
+        match word {
+            "fulfill" | "newest" | "oldest" => Some(Work::Fulfill),
+            "release" => Some(Work::Release),
+            "expire" => Some(Work::Expire),
+            "credit" => Some(Work::Credit),
+            "settle" => Some(Work::Settle),
+            _ => None,
         }
     }
 
@@ -273,115 +271,83 @@ fn book_with(turns: &mut Turns, work: Work, entries: u32) -> Book {
 
 // ---- rows
 
-// How many entries stand before, how many turns are timed over a book, and over how many books.
+// What a line of input asks for: how many turns in all, over how many books, at most how many over
+// each, how many entries stand before, and how many holds are open then.
 #[derive(Clone, Copy)]
-struct Size {
-    before: u32,
+struct Row<'a> {
+    name: &'a str,
+    work: Work,
     turns: u32,
     books: u32,
+    each: u32,
+    before: u32,
+    open: u32,
 }
 
-impl Size {
-    fn new(before: u32, turns: u32, books: u32) -> Size {
-        Size { before, turns, books }
+impl<'a> Row<'a> {
+    fn parse(line: &'a str) -> Option<Row<'a>> {
+        let (name, rest) = line.split_once(' ')?;
+        let mut numbers = rest.split(' ').map_while(|word| word.parse().ok());
+        Some(Row {
+            name,
+            work: Work::parse(name.split_once('_')?.0)?,
+            turns: numbers.next()?,
+            books: numbers.next()?,
+            each: numbers.next()?,
+            before: numbers.next()?,
+            open: numbers.next()?,
+        })
+    }
+
+    // What makes the entries that stand before: beside open holds what takes least time.
+    fn filler(&self) -> Work {
+        if self.open > 0 { Work::Release } else { self.work }
     }
 }
 
-// Times the turns of a row over one more book.
-fn run_book(turns: &mut Turns, work: Work, size: Size) -> (u128, i128) {
-    let mut book = book_with(turns, work, size.before);
-    assert_eq!(book.len(), size.before);
-    let begun = Instant::now();
-    let sum = turns.work_often(&mut book, work, size.turns);
-    let nanoseconds = begun.elapsed().as_nanos();
-    assert_eq!(book.len(), size.before + size.turns * work.entries());
-    (nanoseconds, i128::from(sum).wrapping_add(sum_of(&book)))
+struct Done {
+    nanoseconds: u128,
+    sum: i128,
 }
 
-fn run_row(work: Work, size: Size) {
+// Times so many turns of a row over one more book.
+fn run_book(turns: &mut Turns, row: Row, count: u32) -> Done {
+    let mut book = book_with(turns, row.filler(), row.before);
+    turns.hold_often(&mut book, row.open);
+    let before = book.len();
+    assert_eq!(before, row.before + row.open);
+    let begun = Instant::now();
+    let sum = if row.name.starts_with("oldest") {
+        turns.pay_oldest_often(&mut book, row.open, count)
+    } else {
+        turns.work_often(&mut book, row.work, count)
+    };
+    let nanoseconds = begun.elapsed().as_nanos();
+    assert_eq!(book.len(), before + count * row.work.entries());
+    Done { nanoseconds, sum: i128::from(sum).wrapping_add(sum_of(&book)) }
+}
+
+// All books are made, whether or not turns are left for them.
+fn run_row(row: Row) -> Done {
     let mut turns = Turns::new();
-    let mut nanoseconds = 0u128;
-    let mut sum = 0i128;
-    for _ in 0..size.books {
-        let done = run_book(&mut turns, work, size);
-        nanoseconds += done.0;
-        sum = sum.wrapping_add(done.1);
+    let mut left = row.turns;
+    let mut whole = Done { nanoseconds: 0, sum: 0 };
+    for _book in 0..row.books {
+        let count = left.min(row.each);
+        let done = run_book(&mut turns, row, count);
+        whole.nanoseconds += done.nanoseconds;
+        whole.sum = whole.sum.wrapping_add(done.sum);
+        left -= count;
     }
-    let count = u64::from(size.turns) * u64::from(size.books);
-    println!("{}_{} {count} {nanoseconds} {sum}", work.name(), size.before);
-}
-
-fn run_open_row(open: u32, count: u32) {
-    let mut turns = Turns::new();
-    let mut book = book_with(&mut turns, Work::Fulfill, BEFORE_OPEN);
-    turns.hold_often(&mut book, open);
-    let begun = Instant::now();
-    let sum = turns.work_often(&mut book, Work::Fulfill, count);
-    let nanoseconds = begun.elapsed().as_nanos();
-    assert_eq!(book.len(), BEFORE_OPEN + open + 2 * count);
-    let sum = i128::from(sum).wrapping_add(sum_of(&book));
-    println!("fulfill_open_{open} {count} {nanoseconds} {sum}");
-}
-
-fn run_oldest_row(open: u32, count: u32) {
-    let mut turns = Turns::new();
-    let mut book = book_with(&mut turns, Work::Fulfill, BEFORE_OPEN);
-    turns.hold_often(&mut book, open);
-    let begun = Instant::now();
-    let sum = turns.pay_oldest_often(&mut book, open, count);
-    let nanoseconds = begun.elapsed().as_nanos();
-    assert_eq!(book.len(), BEFORE_OPEN + open + 2 * count);
-    let sum = i128::from(sum).wrapping_add(sum_of(&book));
-    println!("fulfill_oldest_{open} {count} {nanoseconds} {sum}");
-}
-
-fn run_behind_100() {
-    run_row(Work::Fulfill, Size::new(100, 100, 2_000));
-    run_row(Work::Release, Size::new(100, 100, 4_000));
-    run_row(Work::Expire, Size::new(100, 100, 4_000));
-    run_row(Work::Credit, Size::new(100, 100, 4_000));
-    run_row(Work::Settle, Size::new(100, 100, 10_000));
-}
-
-fn run_behind_10000() {
-    run_row(Work::Fulfill, Size::new(10_000, 2_000, 100));
-    run_row(Work::Release, Size::new(10_000, 2_000, 200));
-    run_row(Work::Expire, Size::new(10_000, 2_000, 200));
-    run_row(Work::Credit, Size::new(10_000, 2_000, 200));
-    run_row(Work::Settle, Size::new(10_000, 2_000, 500));
-}
-
-fn run_behind_1000000() {
-    run_row(Work::Fulfill, Size::new(1_000_000, 200_000, 1));
-    run_row(Work::Release, Size::new(1_000_000, 200_000, 1));
-    run_row(Work::Expire, Size::new(1_000_000, 200_000, 1));
-    run_row(Work::Credit, Size::new(1_000_000, 200_000, 1));
-    run_row(Work::Settle, Size::new(1_000_000, 800_000, 1));
-}
-
-fn run_behind_16000000() {
-    run_row(Work::Fulfill, Size::new(16_000_000, 200_000, 1));
-    run_row(Work::Release, Size::new(16_000_000, 200_000, 1));
-    run_row(Work::Expire, Size::new(16_000_000, 200_000, 1));
-    run_row(Work::Credit, Size::new(16_000_000, 200_000, 1));
-    run_row(Work::Settle, Size::new(16_000_000, 380_000, 1));
-}
-
-fn run_beside_open() {
-    run_open_row(1, 200_000);
-    run_open_row(100, 200_000);
-    run_open_row(100_000, 100_000);
-    run_oldest_row(1, 200_000);
-    run_oldest_row(100, 200_000);
-    run_oldest_row(100_000, 30_000);
+    assert_eq!(left, 0);
+    whole
 }
 
 fn main() {
-    run_behind_100();
-    run_behind_10000();
-    run_behind_1000000();
-    if std::env::var_os("LARGE").is_some() {
-        run_behind_16000000();
+    for line in std::io::stdin().lines().map_while(Result::ok) {
+        if let Some(row) = Row::parse(&line) {
+            let Done { nanoseconds, sum } = run_row(row);
+            println!("{} {} {nanoseconds} {sum}", row.name, row.turns);
+        }
     }
-    run_beside_open();
 }

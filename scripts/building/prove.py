@@ -5,10 +5,10 @@ First come those with the longest chain of others above them, and what stands al
     scripts/building/prove.py connector
 
 A command of the kit keeps all others out of the crates that its own stands on. So each proof runs in
-one of several copies of the sources, between which the kit shares what was proved, and the libraries
-of this repository are taken over from them in the end. What is proved already is not proved again. A
-line on standard error tells of each crate. Where a proof fails, what it said is printed, no more are
-begun, and the exit status is 1.
+one of several copies of the sources, into which what was proved of the libraries below is linked; and
+so is what it proved into this repository. What is proved already is not proved again. A line on
+standard error tells of each crate. Where a proof fails, what it said is printed, no more are begun, and
+the exit status is 1.
 """
 import concurrent.futures
 import os
@@ -73,27 +73,50 @@ def lane(room, number):
     return to
 
 
-def prove(lanes, name, jobs):
+def link(source, target):
+    """One file in two places, or a copy where they lie on two file systems."""
+    try:
+        os.link(source, target)
+    except OSError:
+        shutil.copy2(source, target)
+
+
+def hand_on(name, source, target, give=link):
+    """Gives one copy of the sources what another has proved of a library."""
+    proved, room = (f"{place}/crates/{name}/out" for place in (source, target))
+    if os.path.isdir(proved):
+        shutil.rmtree(room, ignore_errors=True)
+        shutil.copytree(proved, room, copy_function=give)
+
+
+def prove(lanes, lows, name, jobs):
     """Proves one library, whose own libraries are there, in a lane that is free, on so many processors."""
     place, begun = lanes.get(), time.monotonic()
     words = ["rt", "lib", "--jobs", str(jobs)]
     try:
+        for low in lows:
+            if not os.path.isdir(f"{place}/crates/{low}/out"):
+                hand_on(low, TOP, place)
+        # a check writes here: so nothing of it is linked
+        hand_on(name, TOP, place, give=shutil.copy2)
         proof = subprocess.run(words, cwd=f"{place}/crates/{name}", capture_output=True, text=True)
+        if proof.returncode == 0:
+            hand_on(name, place, TOP)
     finally:
         lanes.put(place)
     return proof, time.monotonic() - begun
 
 
 def prove_all(below, left, lanes):
-    """Proves the libraries, lowest first. Tells which are proved, and whether one is not: then no more are begun."""
+    """Proves the libraries, lowest first, and gives those that are. Where one is not, no more are begun."""
     chain, running, idle = chains(below, left), {}, LANES
-    done, failed = [], False
+    done = set()
     with concurrent.futures.ThreadPoolExecutor(LANES) as pool:
         while left or running:
-            ready = sorted((name for name in left if set(below[name]) <= set(done)), key=lambda name: -chain[name])
+            ready = sorted((name for name in left if done.issuperset(below[name])), key=lambda name: -chain[name])
             for place, name in enumerate(ready[:idle]):
                 jobs = max(1, idle // (len(ready) - place))
-                running[pool.submit(prove, lanes, name, jobs)] = name, jobs
+                running[pool.submit(prove, lanes, libraries(below, name), name, jobs)] = name, jobs
                 left.remove(name)
                 idle -= jobs
             ended, _ = concurrent.futures.wait(running, return_when=concurrent.futures.FIRST_COMPLETED)
@@ -101,14 +124,13 @@ def prove_all(below, left, lanes):
                 name, jobs = running.pop(proof)
                 idle += jobs
                 result, seconds = proof.result()
-                if result.returncode == 0:
-                    print(f"{name}: {seconds:.0f} seconds", file=sys.stderr)
-                    done.append(name)
-                else:
+                if result.returncode:
                     print(f"{result.stdout}{result.stderr}prove.py: {name} is not proved", file=sys.stderr)
-                    failed = True
                     left.clear()
-    return done, failed
+                    continue
+                print(f"{name}: {seconds:.0f} seconds", file=sys.stderr)
+                done.add(name)
+    return done
 
 
 def main():
@@ -116,17 +138,14 @@ def main():
     if len(sys.argv) != 2 or sys.argv[1] not in below:
         sys.exit("usage: scripts/building/prove.py CRATE")
     left = libraries(below, sys.argv[1])
+    count = len(left)
     with tempfile.TemporaryDirectory(prefix="prove-") as room:
         lanes = queue.Queue()
-        for number in range(min(LANES, len(left))):
+        for number in range(min(LANES, count)):
             lanes.put(lane(room, number))
-        done, failed = prove_all(below, left, lanes)
-        # while the copies are there, their libraries are taken over
-        for name in done:
-            subprocess.run(["rt", "lib"], cwd=f"{TOP}/crates/{name}", capture_output=True)
-        if failed:
+        if len(prove_all(below, left, lanes)) < count:
             sys.exit(1)
-        check = subprocess.run(["rt", "check"], cwd=f"{TOP}/crates/{sys.argv[1]}")
+    check = subprocess.run(["rt", "check"], cwd=f"{TOP}/crates/{sys.argv[1]}")
     sys.exit(check.returncode)
 
 
