@@ -312,6 +312,8 @@ struct Done {
 
 // Times so many turns of a row over one more book.
 fn run_book(turns: &mut Turns, row: Row, count: u32) -> Done {
+    // so that all books are filled alike, however many turns came before
+    turns.made = 0;
     let mut book = book_with(turns, row.filler(), row.before);
     turns.hold_often(&mut book, row.open);
     let before = book.len();

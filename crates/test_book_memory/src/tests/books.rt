@@ -120,7 +120,7 @@ fn ending_holds_takes_no_memory(rt: HostRuntime) -> Result<(), Fail> {
 fn end_over_each(rt: &(impl Abort + AllocGlobal), config: &Config) -> Result<(), Fail> {
     for granted in FIRST_OF_A_BOOK..GROWTHS {
         let heap = DenyingAllocator::after(rt.alloc(), granted);
-        end_over(rt, config, &heap)?;
+        end_over(rt, config, &heap, &heap)?;
         if !heap.has_denied() {
             return Ok(());
         }
@@ -130,18 +130,28 @@ fn end_over_each(rt: &(impl Abort + AllocGlobal), config: &Config) -> Result<(),
 }
 
 // Once the holds are made, the next growth is denied, unless one was: so where the last of them
-// was granted, no answer and no sweep makes one.
-fn end_over<B: Allocator>(
+// was granted, no answer and no sweep makes one. The heap is that of the book, by which denials are
+// seen.
+fn end_over<A: Allocator + Clone, B: Allocator>(
     rt: &impl Abort,
     config: &Config,
-    heap: &DenyingAllocator<B>,
+    heap: A,
+    denying: &DenyingAllocator<B>,
 ) -> Result<(), Fail> {
     let mut book = Book::new(heap, config)?;
-    hold_all(rt, &mut book);
-    let had_denied = heap.has_denied();
-    end_all(rt, &mut book);
-    assert_eq!(rt; heap.has_denied(), had_denied);
+    end_after(rt, &mut book, denying);
     Ok(())
+}
+
+fn end_after<A: Allocator + Clone, B: Allocator>(
+    rt: &impl Abort,
+    book: &mut Book<A>,
+    denying: &DenyingAllocator<B>,
+) {
+    hold_all(rt, book);
+    let had_denied = denying.has_denied();
+    end_all(rt, book);
+    assert_eq!(rt; denying.has_denied(), had_denied);
 }
 
 // The first holds are answered, and the others swept.

@@ -185,7 +185,7 @@ fn close_over_each(
 ) -> Result<(), Fail> {
     for granted in FIRST_OF_A_BOOK..GROWTHS {
         let heap = DenyingAllocator::after(rt.alloc(), granted);
-        close_over(rt, config, &heap, last)?;
+        close_over(rt, config, &heap, &heap, last)?;
         if !heap.has_denied() {
             return Ok(());
         }
@@ -195,25 +195,35 @@ fn close_over_each(
 }
 
 // Once the entries are made, the next growth is denied, unless one was: so where the last of them
-// was granted, the closing makes none.
-fn close_over<B: Allocator>(
+// was granted, the closing makes none. The heap is that of the book, by which denials are seen.
+fn close_over<A: Allocator + Clone, B: Allocator>(
     rt: &(impl Abort + AllocGlobal),
     config: &Config,
-    heap: &DenyingAllocator<B>,
+    heap: A,
+    denying: &DenyingAllocator<B>,
     last: Last,
 ) -> Result<(), Fail> {
     let mut book = Book::new(heap, config)?;
-    fill(rt, &mut book);
-    hold(rt, &mut book);
-    credit(rt, &mut book, ALICE, 0);
-    ask(rt, &mut book, ALICE, 1_700);
-    credit(rt, &mut book, BOB, 0);
-    ask(rt, &mut book, BOB, 1_800);
-    end_with(rt, &mut book, last);
-    let had_denied = heap.has_denied();
-    close(rt, &mut book, FILLED + 4, true);
-    assert_eq!(rt; heap.has_denied(), had_denied);
+    close_after(rt, &mut book, denying, last);
     Ok(())
+}
+
+fn close_after<A: Allocator + Clone, B: Allocator>(
+    rt: &(impl Abort + AllocGlobal),
+    book: &mut Book<A>,
+    denying: &DenyingAllocator<B>,
+    last: Last,
+) {
+    fill(rt, book);
+    hold(rt, book);
+    credit(rt, book, ALICE, 0);
+    ask(rt, book, ALICE, 1_700);
+    credit(rt, book, BOB, 0);
+    ask(rt, book, BOB, 1_800);
+    end_with(rt, book, last);
+    let had_denied = denying.has_denied();
+    close(rt, book, FILLED + 4, true);
+    assert_eq!(rt; denying.has_denied(), had_denied);
 }
 
 // Books holds, each of which is released.
