@@ -16,12 +16,12 @@ import sys
 import time
 from pathlib import Path
 
-from cases import clients, conversations, engines, links, operating
+from cases import clients, conversations, engines, links, operating, waiting
 from cases.case import CASES, Case, Differs
 from cases.laboratory import Laboratory
 
 # Each of them lists its cases as it is read.
-PARTS = (conversations, links, engines, clients, operating)
+PARTS = (conversations, links, engines, clients, operating, waiting)
 
 # In seconds; the longest case takes some 20.
 MOST_OF_A_CASE = 90

@@ -28,6 +28,6 @@ rows, *programs = sys.argv[1:]
 print(f"{'':30} {'Rattle':>12} {'Rust':>12} {'ratio':>6}")
 for line in open(rows, encoding="ascii"):
     name, timed, *rest = line.split()
-    turns = max(2, min(10_000, int(timed) // 1000))
+    turns = max(2, min(50_000, int(timed) // 4))
     rattle, rust = (of_a_turn(program, name, turns, rest) for program in programs)
     print(f"{name:30} {rattle:12,.1f} {rust:12,.1f} {rattle / rust:6.2f}", flush=True)

@@ -2,7 +2,7 @@
 import time
 
 from cases.case import case, expect, expect_that, expect_within
-from cases.laboratory import (Laboratory, close, expect_packet, expect_served, post_close,
+from cases.laboratory import (AT_ONCE, Laboratory, close, expect_packet, expect_served, post_close,
                               send_packet)
 from cases.messages import response, seconds_since, soon
 from cases.program import Program
@@ -88,14 +88,22 @@ def expect_late(program: Program, what: str) -> None:
 
 @case
 def late_peers(laboratory: Laboratory) -> None:
-    """A peer that never answers, or drips, or takes no connection, is R00 at the deadline."""
+    """A peer that never answers, or drips, is R00 at the deadline."""
     rows = [("never answers", never_answers), ("drips", drips(response(200, F99)))]
     for what, behaviour in rows:
         program = laboratory.serve(behaviour)
         expect_late(program, what)
         close(program)
+
+
+@case
+def peer_that_takes_no_connection(laboratory: Laboratory) -> None:
+    """A connection is given up after a second, though the packet has half a minute."""
     program = laboratory.serve(laboratory.full_house().port)
-    expect_late(program, "takes no connection")
+    start = time.monotonic()
+    expect_packet("a packet", program, soon(), T01)
+    expect_within("seconds", seconds_since(start), 0.9, 1.0 + AT_ONCE)
+    expect_that("the line does not say why", "not reached: timed out" in program.errors())
     close(program)
 
 

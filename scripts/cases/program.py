@@ -40,6 +40,8 @@ class Setup:
     key: str = field(default_factory=secret)
     out_path: str = "/ilp"
     least: int = -1_000_000
+    routes: dict[str, str] = field(
+        default_factory=lambda: {"test.alice": "alice", "test.bob": "bob"})
 
     @property
     def peers_port(self) -> int:
@@ -74,8 +76,8 @@ class Setup:
         if self.engine is not None:
             lines.append(f'engine = "{HERE}:{self.engine}"')
             lines += ["threshold = 1000", "settle_to = 200"] if self.levels else []
-        for name in ("alice", "bob"):
-            lines += ["[[route]]", f'prefix = "test.{name}"', f'peer = "{name}"']
+        for prefix, name in self.routes.items():
+            lines += ["[[route]]", f'prefix = "{prefix}"', f'peer = "{name}"']
         return "\n".join(lines) + "\n"
 
 

@@ -2,6 +2,7 @@
 ghost use Rattle.std.specs.Prelude.{◌≤◌, vec_len};
 ghost use Rattle.ilp_http.specs.declared.limits.TheConstants.{BUFFER_LENGTH};
 
+use crate::admission::Admission;
 use crate::limits::{ALLOWANCE_MS, PIECE};
 use crate::ready::ReadyConnection;
 use ilp_http::{BUFFER_LENGTH, Look, look_at};
@@ -14,35 +15,35 @@ use std::{io, net};
 
 /// A connection that waits. It has no more octets than the longest request.
 #[derive(Drop)]
-pub(crate) struct Connection {
+pub(crate) struct Connection<K> {
     // The number by which an event names it.
     number: usize,
     stream: TcpStream,
     octets: Vec<u8>,
     accepted: Duration,
-    stage: Stage,
+    stage: Stage<K>,
     ghost short: { vec_len octets ≤ BUFFER_LENGTH },
 }
 
 /// How far a connection is.
-#[derive(Clone, Copy, PartialEq, Eq)]
-pub(crate) enum Stage {
+#[derive(Clone, Copy)]
+pub(crate) enum Stage<K> {
     /// Its request has not come whole.
     Waiting,
-    /// It is to be given on.
-    Ready,
+    /// It is to be given on, and of this kind.
+    Ready(K),
     /// It is to be closed without an answer: a read failed, or memory for its octets was denied.
     Lost,
 }
 
-impl Connection {
+impl<K: Copy> Connection<K> {
     /// A connection of which nothing is read yet.
     pub(crate) fn new(
         alloc: Global,
         number: usize,
         stream: TcpStream,
         accepted: Duration,
-    ) -> Connection {
+    ) -> Connection<K> {
         Connection {
             number,
             stream,
@@ -58,8 +59,13 @@ impl Connection {
     }
 
     /// How far it is.
-    pub(crate) fn stage(&self) -> Stage {
+    pub(crate) fn stage(&self) -> Stage<K> {
         self.stage
+    }
+
+    /// Whether its request has not come whole.
+    pub(crate) fn is_waiting(&self) -> bool {
+        matches!(self.stage, Stage::Waiting)
     }
 
     /// When it was accepted.
@@ -68,17 +74,17 @@ impl Connection {
     }
 
     /// Reads what has come, and finds out how far the connection is.
-    pub(crate) fn read(&mut self) {
+    pub(crate) fn read<D: Admission<Kind = K>>(&mut self, admission: &mut D) {
         for _ in 0..=BUFFER_LENGTH {
             match self.read_piece() {
                 Ok(0) => {
-                    self.stage = Stage::Ready;
+                    self.stage = Stage::Ready(admission.kind_of(self.octets.as_slice()));
                     return;
                 }
                 Ok(_) => {}
                 Err(error) if error.kind() == ErrorKind::Interrupted => {}
                 Err(error) => {
-                    self.stage = self.stage_after(&error);
+                    self.stage = self.stage_after(&error, admission);
                     return;
                 }
             }
@@ -99,12 +105,17 @@ impl Connection {
     }
 
     // How far it is when nothing more can be read for now, or for good.
-    fn stage_after(&self, error: &io::Error) -> Stage {
+    fn stage_after<D: Admission<Kind = K>>(
+        &self,
+        error: &io::Error,
+        admission: &mut D,
+    ) -> Stage<K> {
+        let octets = self.octets.as_slice();
         match error.kind() {
-            ErrorKind::WouldBlock => match look_at(self.octets.as_slice()) {
+            ErrorKind::WouldBlock => match look_at(octets) {
                 Look::Unfinished => Stage::Waiting,
-                Look::Whole => Stage::Ready,
-                Look::Refused(_) => Stage::Ready,
+                Look::Whole => Stage::Ready(admission.kind_of(octets)),
+                Look::Refused(_) => Stage::Ready(admission.kind_of(octets)),
             },
             _ => Stage::Lost,
         }
@@ -115,7 +126,8 @@ impl Connection {
         self,
         registry: &Registry,
         now: Duration,
-    ) -> io::Result<ReadyConnection> {
+        kind: K,
+    ) -> io::Result<ReadyConnection<K>> {
         let Connection {
             number: _,
             mut stream,
@@ -133,6 +145,7 @@ impl Connection {
             stream,
             octets,
             left,
+            kind,
         })
     }
 }

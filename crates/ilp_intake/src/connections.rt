@@ -2,6 +2,7 @@
 ghost use Rattle.std.specs.Prelude.{◌<◌, ◌≤◌, vec_len};
 ghost use Rattle.ilp_intake.specs.declared.limits.TheConstants.{MOST_WAITING};
 
+use crate::admission::Admission;
 use crate::connection::{Connection, Stage};
 use crate::limits::{ALLOWANCE_MS, GRACE_MS, MOST_WAITING};
 use crate::ready::ReadyConnection;
@@ -13,8 +14,9 @@ use std::time::Duration;
 
 /// The connections that wait, those that came first in front. There are `MOST_WAITING` at most.
 #[derive(Drop)]
-pub(crate) struct Connections {
-    waiting: Vec<Connection>,
+pub(crate) struct Connections<K> {
+    waiting: Vec<Connection<K>>,
+    ready: Ready<K>,
     // The number of the next one.
     next: usize,
     // When the intake was closed.
@@ -22,11 +24,48 @@ pub(crate) struct Connections {
     ghost few: { vec_len waiting ≤ MOST_WAITING },
 }
 
-impl Connections {
+// Those of them that are ready, in their order: where each stands among those that wait, and of which
+// kind it is. The list is made anew each time that one is to be given on.
+#[derive(Drop)]
+struct Ready<K> {
+    places: Vec<usize>,
+    kinds: Vec<K>,
+}
+
+impl<K: Copy> Ready<K> {
+    fn new(alloc: Global) -> Result<Ready<K>, AllocError> {
+        Ok(Ready {
+            places: Vec::with_capacity(alloc, MOST_WAITING)?,
+            kinds: Vec::with_capacity(alloc, MOST_WAITING)?,
+        })
+    }
+
+    // There is room for as many as may wait, so none is left out.
+    fn list(&mut self, waiting: &[Connection<K>]) {
+        self.places.clear();
+        self.kinds.clear();
+        for (place, connection) in waiting.iter().enumerate() {
+            if let Stage::Ready(kind) = connection.stage() {
+                let _ = self.places.push(place);
+                let _ = self.kinds.push(kind);
+            }
+        }
+    }
+
+    // Where the one of this number in the list stands, and of which kind it is.
+    fn get(&self, chosen: usize) -> Option<(usize, K)> {
+        let place = self.places.get(chosen)?;
+        let kind = self.kinds.get(chosen)?;
+        Some((*place, *kind))
+    }
+}
+
+impl<K: Copy> Connections<K> {
     /// None yet.
-    pub(crate) fn new(alloc: Global) -> Result<Connections, AllocError> {
+    pub(crate) fn new(alloc: Global) -> Result<Connections<K>, AllocError> {
         Ok(Connections {
             waiting: Vec::with_capacity(alloc, MOST_WAITING)?,
+            ready: Ready::new(alloc)?,
             next: 0,
             closed: None,
         })
@@ -65,18 +104,18 @@ impl Connections {
         ensures { result < vec_len self.now.waiting }
     {
         let mut waiting = self.waiting.iter();
-        let oldest = waiting.position(|connection| connection.stage() == Stage::Waiting);
+        let oldest = waiting.position(|connection| connection.is_waiting());
         oldest.unwrap_or(0)
     }
 
     /// Reads what has come of the connection of this number, if it still waits.
-    pub(crate) fn read(&mut self, number: usize) {
+    pub(crate) fn read<D: Admission<Kind = K>>(&mut self, number: usize, admission: &mut D) {
         if let Some(place) = self
             .waiting
             .iter()
             .position(|connection| connection.number() == number)
         {
-            self.waiting[place].read();
+            self.waiting[place].read(admission);
         }
     }
 
@@ -85,24 +124,28 @@ impl Connections {
         let closed = self.closed;
         self.waiting.retain(|connection| match connection.stage() {
             Stage::Waiting => now < latest(connection.accepted(), closed),
-            Stage::Ready => true,
+            Stage::Ready(_) => true,
             Stage::Lost => false,
         });
     }
 
-    /// Takes out the first connection that is to be given on, if one is.
-    pub(crate) fn take_ready(
+    /// Takes out the connection that is to be given on now, if one is.
+    pub(crate) fn take_ready<D: Admission<Kind = K>>(
         &mut self,
         registry: &Registry,
         now: Duration,
-    ) -> Option<ReadyConnection> {
+        admission: &mut D,
+    ) -> Option<ReadyConnection<K>> {
         for _ in 0..MOST_WAITING {
-            let place = self
-                .waiting
-                .iter()
-                .position(|connection| connection.stage() == Stage::Ready)?;
-            if let Ok(ready) = self.waiting.remove(place).into_ready(registry, now) {
-                return Some(ready);
+            self.ready.list(self.waiting.as_slice());
+            let chosen = admission.admit(self.ready.kinds.as_slice())?;
+            let (place, kind) = self.ready.get(chosen)?;
+            if place >= self.waiting.len() {
+                return None;
+            }
+            match self.waiting.remove(place).into_ready(registry, now, kind) {
+                Ok(ready) => return Some(ready),
+                Err(_) => admission.give_back(kind),
             }
         }
         None
@@ -113,9 +156,17 @@ impl Connections {
         self.closed = Some(now);
     }
 
-    /// How much time the first connection has left. Until then none is to be closed for its time.
+    /// How long connections are still given on, where the intake is closed and they are for so long.
+    pub(crate) fn ending_left(&self, ending: Duration, now: Duration) -> Option<Duration> {
+        let closed = self.closed?;
+        Some(closed.saturating_add(ending).saturating_sub(now))
+    }
+
+    /// How much time the connection has left that waits longest for its request. Until then none is
+    /// to be closed for its time.
     pub(crate) fn time_left(&self, now: Duration) -> Option<Duration> {
-        let first = self.waiting.first()?;
+        let mut waiting = self.waiting.iter();
+        let first = waiting.find(|connection| connection.is_waiting())?;
         Some(latest(first.accepted(), self.closed).saturating_sub(now))
     }
 }

@@ -1,7 +1,9 @@
 //! Taking in connections: they are accepted and read without waiting, and given on once what they
-//! ask for has come whole. So a client that is idle or slow takes up a place here, and no worker.
+//! ask for has come whole and is admitted. So a client that is idle or slow, or one whose like are
+//! being served already, takes up a place here, and no worker.
 #![tactic(auto)]
 
+mod admission;
 mod connection;
 mod connections;
 mod intake;
@@ -10,7 +12,8 @@ mod listener;
 mod ready;
 mod watch;
 
-pub use intake::{CloseHandle, Intake};
+pub use admission::Admission;
+pub use intake::{Intake, IntakeHandle};
 pub use limits::{ALLOWANCE_MS, GRACE_MS, MOST_WAITING};
 pub use listener::{Listener, listen};
 pub use ready::ReadyConnection;

@@ -6,11 +6,13 @@ use std::time::Duration;
 /// A connection whose request has come whole or is refused as it stands, or whose client sends
 /// nothing more.
 #[derive(Drop)]
-pub struct ReadyConnection {
+pub struct ReadyConnection<K> {
     /// Reads and writes of it wait.
     pub stream: TcpStream,
     /// The octets that were read of it.
     pub octets: Vec<u8>,
     /// What is left of the time in which its request is to come.
     pub left: Duration,
+    /// Of which kind it is.
+    pub kind: K,
 }

@@ -1,6 +1,6 @@
 //! One request over a connection of its own.
 
-use crate::hurry::{HurriedReader, Hurry, connect_hurried};
+use crate::hurry::{HurriedReader, Hurry};
 use crate::no_answer::NoAnswer;
 use crate::time_left::{instant_after, left_until};
 use crate::timed::{TimedReader, TimedWriter};
@@ -11,9 +11,13 @@ use std::io::Read;
 use std::net::{Net, SocketAddr, TcpStream};
 use std::time::{Clock, Duration, Instant};
 
+// How long a connection may take to be made, in milliseconds. Nothing was handed over until it is, so
+// nothing is at risk where that is given up.
+const CONNECT_MS: u64 = 1_000;
+
 /// Sends a request over a connection of its own, which is closed after, and reads the response. All
-/// of it ends in so many milliseconds. A place is `IP:PORT`: no name is looked up, which could take
-/// any time.
+/// of it ends in so many milliseconds, and connecting in a second of them. A place is `IP:PORT`: no
+/// name is looked up, which could take any time.
 pub(crate) fn call<'b, R: Net<Stream = TcpStream> + Clock>(
     rt: &R,
     place: &str,
@@ -31,8 +35,8 @@ pub(crate) fn call<'b, R: Net<Stream = TcpStream> + Clock>(
     exchange(rt, &stream, &mut source, until, head, body, buffer)
 }
 
-/// Sends a request as `call` does. Once the connector ends, the response is waited for a second or two
-/// more at most.
+/// Sends a request as `call` does. Once the connector ends, the response is waited for a second more at
+/// most.
 pub(crate) fn call_hurried<'b, R: Net<Stream = TcpStream> + Clock>(
     rt: &R,
     place: &str,
@@ -43,7 +47,7 @@ pub(crate) fn call_hurried<'b, R: Net<Stream = TcpStream> + Clock>(
     buffer: &'b mut Buffer,
 ) -> Result<Response<'b>, NoAnswer> {
     let (address, until) = destination(rt, place, milliseconds)?;
-    let stream = match connect_hurried(rt, address, until, hurry) {
+    let stream = match connect(rt, address, until) {
         Ok(stream) => stream,
         Err(error) => return Err(NoAnswer::NotReached(error.kind())),
     };
@@ -69,13 +73,14 @@ fn destination(
     }
 }
 
-// A connection that sends each piece at once.
+// A connection that sends each piece at once. It is made within a second, and before that moment.
 fn connect<R: Net<Stream = TcpStream> + Clock>(
     rt: &R,
     address: SocketAddr,
     until: Instant,
 ) -> io::Result<TcpStream> {
-    let stream = TcpStream::connect_timeout(rt, &address, left_until(rt, until)?)?;
+    let left = left_until(rt, until)?.min(Duration::from_millis(CONNECT_MS));
+    let stream = TcpStream::connect_timeout(rt, &address, left)?;
     stream.set_nodelay(true)?;
     Ok(stream)
 }

@@ -4,16 +4,13 @@ ghost use Rattle.std.specs.Io.{ReadsAtMost};
 use crate::time_left::{instant_after, left_until};
 use std::io;
 use std::io::{ErrorKind, Read};
-use std::net::{Net, SocketAddr, TcpStream};
+use std::net::TcpStream;
 use std::sync::atomic::{AtomicBool, Ordering};
 use std::time::{Clock, Duration, Instant};
 
 // For how many milliseconds an engine's answer is waited for before it is seen again whether the
 // connector ends; and for how many in all, once it does.
 const PIECE_MS: u64 = 500;
-
-// The same for a connection, which the system may make at its second attempt only.
-const CONNECT_PIECE_MS: u64 = 1_000;
 
 // More such pieces than there are in the time of any call.
 const MOST_PIECES: usize = 10_000;
@@ -40,30 +37,6 @@ impl Hurry {
     pub(crate) fn is_told(&self) -> bool {
         self.told.load(Ordering::SeqCst)
     }
-}
-
-/// A connection to an engine. It fails with `TimedOut` at the moment at which all is to end, and a
-/// second or two after the connector begins to end.
-pub(crate) fn connect_hurried<R: Net<Stream = TcpStream> + Clock>(
-    rt: &R,
-    address: SocketAddr,
-    until: Instant,
-    hurry: &Hurry,
-) -> io::Result<TcpStream> {
-    let piece = Duration::from_millis(CONNECT_PIECE_MS);
-    for _ in 0..MOST_PIECES {
-        let is_last = hurry.is_told();
-        let left = left_until(rt, until)?;
-        match TcpStream::connect_timeout(rt, &address, left.min(piece)) {
-            Err(error) if error.kind() == ErrorKind::TimedOut && !is_last => {}
-            Err(error) => return Err(error),
-            Ok(stream) => {
-                stream.set_nodelay(true)?;
-                return Ok(stream);
-            }
-        }
-    }
-    Err(io::Error::from(ErrorKind::TimedOut))
 }
 
 /// Reads of what an engine answers. They all end by one moment, as those of `TimedReader`; and once the

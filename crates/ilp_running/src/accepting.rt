@@ -1,8 +1,12 @@
 //! What an intake's thread does: it hands connections to the workers.
 
+use crate::places::Places;
 use crossbeam_channel::Sender;
-use ilp_intake::{CloseHandle, Intake, ReadyConnection};
-use ilp_server::Side;
+use ilp_accounts::Config;
+use ilp_desk::{Desk, Naming};
+use ilp_http::Buffer;
+use ilp_intake::{Admission, Intake, ReadyConnection};
+use ilp_server::{Side, Work, work_of};
 use std::sync::Wait;
 use std::time::Clock;
 
@@ -10,31 +14,76 @@ use std::time::Clock;
 #[derive(Drop)]
 pub(crate) struct Job {
     pub(crate) side: Side,
-    pub(crate) connection: ReadyConnection,
+    pub(crate) connection: ReadyConnection<Work>,
 }
 
-/// What closes the intakes of both sides.
+/// What takes connections in at one side.
 #[derive(Drop)]
-pub(crate) struct CloseHandles {
-    pub(crate) peers: CloseHandle,
-    pub(crate) engines: CloseHandle,
+pub(crate) struct Acceptor {
+    pub(crate) side: Side,
+    pub(crate) intake: Intake<Work>,
+    /// Room for a request, by which it is found out what that asks for.
+    pub(crate) buffer: Buffer,
 }
 
-impl CloseHandles {
-    /// Has both sides accept no more.
-    pub(crate) fn close(&self) {
-        self.peers.close();
-        self.engines.close();
+// Gives a connection on where there is a place for it with the workers.
+#[derive(Drop)]
+struct Placing<'a, R> {
+    rt: &'a R,
+    config: &'a Config,
+    places: &'a Places,
+    side: Side,
+    buffer: Buffer,
+}
+
+impl<R: Wait> Admission for Placing<'_, R> {
+    type Kind = Work;
+
+    fn kind_of(&mut self, octets: &[u8]) -> Work {
+        let config = self.config;
+        work_of(
+            config.allocator(),
+            config,
+            self.side,
+            octets,
+            &mut self.buffer,
+        )
+    }
+
+    fn admit(&mut self, ready: &[Work]) -> Option<usize> {
+        self.places.admit(self.rt, ready)
+    }
+
+    fn give_back(&mut self, kind: Work) {
+        // This intake asks again at once, and the other one when the next job is done.
+        let _ = self.places.give_back(self.rt, kind);
     }
 }
 
-/// Hands the connections of one side to the workers, and waits for a worker where all are busy,
-/// until the intake is closed and none waits there. Then its sender of jobs is dropped: once both
-/// sides' are, the workers know that no more come.
-pub(crate) fn accept_all<R: Wait + Clock>(rt: &R, intake: Intake, side: Side, jobs: Sender<Job>) {
-    let mut intake = intake;
+/// Hands the connections of one side to the workers, as far as there are places for them, until the
+/// intake is closed and none waits there, or its time is over. Then its sender of jobs is dropped:
+/// once both sides' are, the workers know that no more come.
+pub(crate) fn accept_all<J: Naming, R: Wait + Clock>(
+    rt: &R,
+    desk: &Desk<J>,
+    places: &Places,
+    acceptor: Acceptor,
+    jobs: Sender<Job>,
+) {
+    let Acceptor {
+        side,
+        mut intake,
+        buffer,
+    } = acceptor;
+    let mut placing = Placing {
+        rt,
+        config: desk.config(),
+        places,
+        side,
+        buffer,
+    };
     for _ in rt.forever() {
-        let Some(connection) = intake.next(rt) else {
+        let Some(connection) = intake.next(rt, &mut placing) else {
             break;
         };
         if jobs.send(rt, Job { side, connection }).is_err() {

@@ -1,5 +1,6 @@
 //! The actors of a desk, ready to be started.
 
+use crate::fault::Unprinted;
 use ilp_desk::{Desk, Naming, Share};
 use ilp_http::Buffer;
 use ilp_links::Links;
@@ -25,16 +26,19 @@ pub(crate) struct Actors<J: Naming, C: Clock + Drop, U: Uplink + Drop, E: Engine
 // The actors whose links are made by `L`.
 type ActorsOf<J, L> = Actors<J, <L as Links>::Clock, <L as Links>::Uplink, <L as Links>::Engine>;
 
-/// The actors whose shares these are, the settler's last and the sweeper's before it.
+/// The actors whose shares these are, the settler's last and the sweeper's before it. It is refused
+/// where memory is denied, and where a share is missing, which a desk that was opened has.
 pub(crate) fn actors_of<J: Naming, L: Links>(
     desk: &Desk<J>,
     shares: Vec<Share<J>>,
     links: &L,
-) -> Result<ActorsOf<J, L>, AllocError> {
+) -> Result<ActorsOf<J, L>, Unprinted> {
     let alloc = desk.config().allocator();
     let mut shares = shares;
-    let settler = new_settler(alloc, shares.pop().ok_or(AllocError)?, links)?;
-    let share = shares.pop().ok_or(AllocError)?;
+    let workers = desk.config().workers();
+    let share = shares.pop().ok_or(missing(workers, 1))?;
+    let settler = new_settler(alloc, share, links)?;
+    let share = shares.pop().ok_or(missing(workers, 0))?;
     let sweeper = Sweeper::new(alloc, share, links.clock());
     let mut responders = Vec::new(alloc);
     for share in shares {
@@ -45,6 +49,13 @@ pub(crate) fn actors_of<J: Naming, L: Links>(
         sweeper,
         settler,
     })
+}
+
+// That the actor so many after the workers has no share.
+fn missing(workers: u32, after: u32) -> Unprinted {
+    Unprinted::Missing {
+        actor: workers.saturating_add(after),
+    }
 }
 
 fn new_responder<J: Naming, L: Links>(

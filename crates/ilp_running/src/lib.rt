@@ -7,7 +7,9 @@
 
 mod accepting;
 mod actors;
+mod ending;
 mod fault;
+mod places;
 mod responding;
 mod serving;
 mod shutdown;

@@ -1,7 +1,9 @@
 //! What a worker's thread does: it serves connections.
 
-use crate::accepting::{CloseHandles, Job};
+use crate::accepting::Job;
 use crate::actors::Responder;
+use crate::ending::Ending;
+use crate::places::Places;
 use crossbeam_channel::Receiver;
 use ilp_desk::{Desk, End, Naming};
 use ilp_intake::ReadyConnection;
@@ -17,7 +19,8 @@ use std::{io, time};
 // How long a response may take to be written, in milliseconds.
 const RESPONSE_MS: u64 = 10_000;
 
-/// Serves connections until no more come. After a close both sides are told to accept no more.
+/// Serves connections until no more come, and gives back the place of each. After a close both sides
+/// are told to accept no more; what has not begun when the time is over is closed unanswered.
 pub(crate) fn serve_connections<
     J: Naming,
     C: Clock + Drop,
@@ -29,12 +32,18 @@ pub(crate) fn serve_connections<
     desk: &Desk<J>,
     responder: Responder<J, C, U, E>,
     jobs: Receiver<Job>,
-    close_handles: &CloseHandles,
+    places: &Places,
+    ending: &Ending,
 ) -> End<J> {
     let mut responder = responder;
     for job in jobs.iter(rt) {
-        if let Ok(Handled::Close) = serve_connection(rt, desk, &mut responder, &job) {
-            close_handles.close();
+        if !ending.is_over(rt) {
+            if let Ok(Handled::Close) = serve_connection(rt, desk, &mut responder, &job) {
+                ending.close(rt);
+            }
+        }
+        if places.give_back(rt, job.connection.kind) {
+            ending.look_again();
         }
     }
     let Responder { worker, buffer: _ } = responder;
@@ -54,6 +63,7 @@ fn serve_connection<
         stream,
         octets,
         left,
+        kind: _,
     } = &job.connection;
     let until = instant_after(rt, *left)?;
     let mut source = octets.as_slice().chain(TimedReader::new(rt, stream, until));

@@ -4,15 +4,18 @@ ghost use Rattle.ilp_desk.specs.Desk as desk;
 ghost use Rattle.ilp_desk.specs.Desk.{base_of};
 ghost use Rattle.ilp_running.specs.Serving.{desk_of, EndsWithReport, IsClosed, Prints};
 
-use crate::accepting::CloseHandles;
+use crate::accepting::Acceptor;
 use crate::actors::actors_of;
+use crate::ending::{Ending, ending_after};
 use crate::fault::{ServeFault, Unprinted, not_gathered};
-use crate::telling::{tell_listening, tell_no_thread, tell_not_listening};
-use crate::threads::{Intakes, Shared, run};
+use crate::places::Places;
+use crate::telling::{tell_listening, tell_no_thread, tell_not_listening, tell_one_worker};
+use crate::threads::{Acceptors, Shared, run};
 use ilp_accounts::Config;
 use ilp_book::Book;
 use ilp_desk::{Closed, Desk, End, Naming, Share, gather};
-use ilp_intake::{CloseHandle, Intake, listen};
+use ilp_http::Buffer;
+use ilp_intake::{Intake, IntakeHandle, listen};
 use ilp_io::Sink;
 use ilp_links::{Links, Notices};
 use ilp_report::{Snapshot, print};
@@ -45,11 +48,11 @@ where
     print_report(&book, writer)
 }
 
-// What takes connections in at both sides, and what closes it.
+// What takes connections in at both sides, and what reaches it.
 #[derive(Drop)]
 struct Sides {
-    intakes: Intakes,
-    close_handles: CloseHandles,
+    acceptors: Acceptors,
+    ending: Ending,
 }
 
 // Listens at both sides.
@@ -57,14 +60,12 @@ fn open_sides<R>(rt: &R, config: &Config) -> Result<Sides, Unprinted>
 where
     R: Net<Listener = TcpListener, Stream = TcpStream> + Eprint,
 {
-    let (peers, close_peers) = open_side(rt, config, Side::Ilp, config.listen())?;
-    let (engines, close_engines) = open_side(rt, config, Side::Engine, config.engine_listen())?;
+    let (peers, peer_handle) = open_side(rt, config, Side::Ilp, config.listen())?;
+    let (engines, engine_handle) = open_side(rt, config, Side::Engine, config.engine_listen())?;
+    let after = ending_after(config.max_hold_ms());
     Ok(Sides {
-        intakes: Intakes { peers, engines },
-        close_handles: CloseHandles {
-            peers: close_peers,
-            engines: close_engines,
-        },
+        acceptors: Acceptors { peers, engines },
+        ending: Ending::new(peer_handle, engine_handle, after),
     })
 }
 
@@ -73,16 +74,26 @@ fn open_side<R>(
     config: &Config,
     side: Side,
     place: &str,
-) -> Result<(Intake, CloseHandle), Unprinted>
+) -> Result<(Acceptor, IntakeHandle), Unprinted>
 where
     R: Net<Listener = TcpListener, Stream = TcpStream> + Eprint,
 {
+    let alloc = config.allocator();
+    let buffer = Buffer::new(alloc)?;
+    let after = ending_after(config.max_hold_ms());
     let opened = match listen(rt, place) {
-        Ok(listener) => Intake::new(rt, config.allocator(), listener),
+        Ok(listener) => Intake::new(rt, alloc, listener, after),
         Err(error) => Err(error),
     };
     match opened {
-        Ok(opened) => Ok(opened),
+        Ok((intake, handle)) => Ok((
+            Acceptor {
+                side,
+                intake,
+                buffer,
+            },
+            handle,
+        )),
         Err(error) if error.kind() == ErrorKind::OutOfMemory => Err(Unprinted::Memory),
         Err(error) => {
             tell_not_listening(rt, place, &error);
@@ -134,20 +145,21 @@ where
     R: Threads + Wait + Clock + Eprint + Sync,
     L: Links,
 {
-    let notices = Notices::new(desk.config().allocator(), desk.config())?;
+    let config = desk.config();
+    let notices = Notices::new(config.allocator(), config)?;
     let actors = actors_of(desk, shares, links)?;
-    let Sides {
-        intakes,
-        close_handles,
-    } = sides;
-    tell_listening(rt, desk.config());
+    let places = Places::new(config.allocator(), config.workers(), config.peers())?;
+    let Sides { acceptors, ending } = sides;
+    tell_listening(rt, config);
+    tell_one_worker(rt, config);
     let shared = Shared {
         rt,
         desk,
-        close_handles: &close_handles,
+        places: &places,
+        ending: &ending,
         notices: &notices,
     };
-    let ends = run(shared, actors, intakes, links.hurry());
+    let ends = run(shared, actors, acceptors, links.hurry());
     if let Err(Unprinted::Spawn) = &ends {
         tell_no_thread(rt);
     }

@@ -26,6 +26,15 @@ fn try_tell_listening<R: Eprint>(rt: &R, config: &Config) -> io::Result<()> {
     eprintln!(rt; "")
 }
 
+/// Tells what one worker alone can't do, where there is only one.
+pub(crate) fn tell_one_worker<R: Eprint>(rt: &R, config: &Config) {
+    if config.workers() == 1 {
+        let _ = eprintln!(rt;
+            "one worker: while it waits for a peer or an engine, settlements, reports and the close wait too"
+        );
+    }
+}
+
 /// Tells that an address can't be listened at, and why.
 pub(crate) fn tell_not_listening<R: Eprint>(rt: &R, place: &str, error: &io::Error) {
     let _ = eprintln!(rt; "can't listen at {place}: {error}");

@@ -1,18 +1,18 @@
 //! The threads of a running connector.
 ghost use denote.Param.Send.{IsSend, IsSync};
 
-use crate::accepting::{CloseHandles, Job, accept_all};
+use crate::accepting::{Acceptor, Job, accept_all};
 use crate::actors::{Actors, Responder};
+use crate::ending::Ending;
 use crate::fault::Unprinted;
+use crate::places::Places;
 use crate::responding::serve_connections;
 use crate::shutdown::{KeepRunning, Shutdown, shutdown_pair};
 use crate::telling::tell_closing;
 use crate::turns::{settle, sweep};
 use crossbeam_channel::{Receiver, Sender, bounded};
 use ilp_desk::{Desk, End, Naming};
-use ilp_intake::Intake;
 use ilp_links::{Hurry, Notices};
-use ilp_server::Side;
 use ilp_settler::{Settler, Sweeper};
 use ilp_workers::{Clock, EngineLink, Uplink};
 use std::io::Eprint;
@@ -22,9 +22,9 @@ use std::{thread, time};
 
 /// What takes connections in, at both sides.
 #[derive(Drop)]
-pub(crate) struct Intakes {
-    pub(crate) peers: Intake,
-    pub(crate) engines: Intake,
+pub(crate) struct Acceptors {
+    pub(crate) peers: Acceptor,
+    pub(crate) engines: Acceptor,
 }
 
 /// What the threads of a connector work on.
@@ -32,7 +32,8 @@ pub(crate) struct Intakes {
 pub(crate) struct Shared<'a, J: Naming, R> {
     pub(crate) rt: &'a R,
     pub(crate) desk: &'a Desk<J>,
-    pub(crate) close_handles: &'a CloseHandles,
+    pub(crate) places: &'a Places,
+    pub(crate) ending: &'a Ending,
     pub(crate) notices: &'a Notices,
 }
 
@@ -82,8 +83,9 @@ where
     R: Wait + time::Clock + Sync + 's,
 {
     let jobs = jobs.clone()?;
-    let (rt, desk, close_handles) = (shared.rt, shared.desk, shared.close_handles);
-    match scope.spawn(move || serve_connections(rt, desk, responder, jobs, close_handles)) {
+    let (rt, desk) = (shared.rt, shared.desk);
+    let (places, ending) = (shared.places, shared.ending);
+    match scope.spawn(move || serve_connections(rt, desk, responder, jobs, places, ending)) {
         Ok(thread) => Ok(thread),
         Err(_) => Err(Unprinted::Spawn),
     }
@@ -114,21 +116,21 @@ where
 fn accept_at_both<'s, S, J, R>(
     scope: &'s Scope<'s, S>,
     shared: &Shared<'s, J, R>,
-    intakes: Intakes,
+    acceptors: Acceptors,
     jobs: Sender<Job>,
 ) -> Result<(), Unprinted>
 where
-    J: Naming + Sync + 's,
+    J: Naming + Send + Sync + 's,
     R: Threads + Wait + time::Clock + Sync + 's,
 {
-    let rt = shared.rt;
-    let Intakes { peers, engines } = intakes;
+    let (rt, desk, places) = (shared.rt, shared.desk, shared.places);
+    let Acceptors { peers, engines } = acceptors;
     let engine_jobs = jobs.clone()?;
-    let peer_thread = scope.spawn(move || accept_all(rt, peers, Side::Ilp, jobs))?;
-    match scope.spawn(move || accept_all(rt, engines, Side::Engine, engine_jobs)) {
+    let peer_thread = scope.spawn(move || accept_all(rt, desk, places, peers, jobs))?;
+    match scope.spawn(move || accept_all(rt, desk, places, engines, engine_jobs)) {
         Ok(thread) => thread.join(rt),
         Err(_) => {
-            shared.close_handles.close();
+            shared.ending.close_intakes();
             return Err(Unprinted::Spawn);
         }
     }
@@ -234,7 +236,7 @@ fn join_actors<J: Naming, R: Threads>(
 pub(crate) fn run<J, C, U, E, R>(
     shared: Shared<'_, J, R>,
     actors: Actors<J, C, U, E>,
-    intakes: Intakes,
+    acceptors: Acceptors,
     hurry: &Hurry,
 ) -> Result<Vec<End<J>>, Unprinted>
 where
@@ -245,7 +247,8 @@ where
     R: Threads + Wait + time::Clock + Eprint + Sync,
 {
     let alloc = shared.desk.config().allocator();
-    let (sender, jobs) = bounded(alloc, actors.responders.len())?;
+    // As many as there are places at most, so that no intake waits for a worker.
+    let (sender, jobs) = bounded(alloc, actors.responders.len().saturating_mul(2))?;
     thread::scope(
         thread::scope_env(),
         shared.rt,
@@ -253,7 +256,11 @@ where
             requires { IsSend J.row × IsSync J.row × IsSend C.row × IsSend U.row × IsSend E.row × IsSync R.row }
         {
             let threads = start_actors(scope, &shared, actors, jobs)?;
-            accept_at_both(scope, &shared, intakes, sender)?;
+            let accepted = accept_at_both(scope, &shared, acceptors, sender);
+            if accepted.is_err() {
+                hurry.tell();
+            }
+            accepted?;
             tell_closing(shared.rt);
             join_actors(shared.rt, threads, hurry)
         },

@@ -7,3 +7,4 @@ pub mod Exchange
 pub mod Replies
 pub mod Serving
 pub mod Connection
+pub mod Work

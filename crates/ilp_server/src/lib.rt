@@ -15,6 +15,7 @@ mod serving;
 mod short_text;
 mod target;
 mod unserved;
+mod work;
 
 pub use answering::answer_connection;
 pub use exchange::{PostFault, post};
@@ -29,3 +30,4 @@ pub use requests::{
 pub use short_text::ShortText;
 pub use target::{Side, Target, target_of};
 pub use unserved::{NotServed, unread};
+pub use work::{Work, work_of};

@@ -1,0 +1,21 @@
+//! Who decides which connections are given on.
+
+/// Decides which connections an intake gives on, and when.
+///
+/// It is asked of all connections that are ready at once. So those of one kind can wait, for a worker
+/// or for their turn, while others behind them are given on.
+pub trait Admission {
+    /// What it knows of a connection by its octets.
+    type Kind: Copy;
+
+    /// The kind of a connection whose request has come whole or is refused as it stands, or whose
+    /// client sends nothing more.
+    fn kind_of(&mut self, octets: &[u8]) -> Self::Kind;
+
+    /// The place of the connection that is given on next, of those that are ready, which stand in the
+    /// order in which they came; none where none may be given on now. It counts as given on then.
+    fn admit(&mut self, ready: &[Self::Kind]) -> Option<usize>;
+
+    /// A connection of this kind does not count as given on after all: it was lost.
+    fn give_back(&mut self, kind: Self::Kind);
+}

@@ -1,0 +1,74 @@
+//! How a close reaches the intakes and the workers.
+
+use ilp_intake::IntakeHandle;
+use std::sync::atomic::{AtomicU64, Ordering};
+use std::time::{Clock, Duration};
+
+// How long connections are still served after a close, beside the longest hold, in milliseconds.
+const MARGIN_MS: u64 = 10_000;
+
+/// For how long connections that were accepted are still served after a close, where packets are held
+/// for so many milliseconds at most.
+pub(crate) fn ending_after(max_hold_ms: u32) -> Duration {
+    Duration::from_millis(u64::from(max_hold_ms).saturating_add(MARGIN_MS))
+}
+
+/// What reaches the intakes of both sides, and whether what still waits is served. Threads share it by
+/// reference.
+#[derive(Drop)]
+pub(crate) struct Ending {
+    peers: IntakeHandle,
+    engines: IntakeHandle,
+    // For how long connections are served once it is closed.
+    after: Duration,
+    // When none is served any more, in milliseconds of the clock that never goes back; the greatest
+    // number while it is not closed.
+    over: AtomicU64,
+}
+
+impl Ending {
+    /// It is not closed.
+    pub(crate) fn new(peers: IntakeHandle, engines: IntakeHandle, after: Duration) -> Ending {
+        Ending {
+            peers,
+            engines,
+            after,
+            over: AtomicU64::new(u64::MAX),
+        }
+    }
+
+    /// Has both sides accept no more, and counts the time from here. A second close changes nothing.
+    pub(crate) fn close(&self, rt: &impl Clock) {
+        if let Ok(now) = rt.monotonic() {
+            let over = in_milliseconds(now.saturating_add(self.after));
+            let _ = self
+                .over
+                .compare_exchange(u64::MAX, over, Ordering::SeqCst, Ordering::SeqCst);
+        }
+        self.close_intakes();
+    }
+
+    /// Has both sides accept no more.
+    pub(crate) fn close_intakes(&self) {
+        self.peers.close();
+        self.engines.close();
+    }
+
+    /// Tells both intakes that a connection which waits there may be given on now.
+    pub(crate) fn look_again(&self) {
+        self.peers.look_again();
+        self.engines.look_again();
+    }
+
+    /// Whether what has not begun is not served any more. Where the clock can't be read, it is.
+    pub(crate) fn is_over(&self, rt: &impl Clock) -> bool {
+        match rt.monotonic() {
+            Ok(now) => self.over.load(Ordering::SeqCst) <= in_milliseconds(now),
+            Err(_) => false,
+        }
+    }
+}
+
+fn in_milliseconds(time: Duration) -> u64 {
+    u64::try_from(time.as_millis()).unwrap_or(u64::MAX)
+}
