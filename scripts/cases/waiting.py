@@ -101,7 +101,7 @@ def senders_take_turns(laboratory: Laboratory) -> None:
         expect("all packets", [one.result() for one in told], [response(200, FULFILL)] * 9)
     places = [place for place, name in enumerate(ended) if name == "bob"]
     expect_that(f"the packets ended in this order: {ended}", places[-1] <= 7)
-    close(program)
+    close(program, alice=-3, bob=3)
 
 
 @case

@@ -136,8 +136,9 @@ pub(crate) fn peer_accounts<A: Allocator + Copy, B: Allocator>(
     ensures { IfOk result (λ peers. peers.items
         ≡ map (peer_account book.now) (range_with_len 0 (length book.now.config.peers))) }
 {
-    let mut peers = Vec::new(alloc);
-    for peer in 0..book.config().peers() {
+    let count = book.config().peers();
+    let mut peers = Vec::with_capacity(alloc, count as usize)?;
+    for peer in 0..count {
         peers.push(peer_account(alloc, book, peer)?)?;
     }
     Ok(peers)
@@ -151,8 +152,9 @@ pub(crate) fn all_asset_books<A: Allocator + Copy, B: Allocator>(
     ensures { IfOk result (λ assets. assets.items
         ≡ map (asset_books book.now) (range_with_len 0 (length book.now.config.table.assets))) }
 {
-    let mut assets = Vec::new(alloc);
-    for asset in 0..book.config().assets().asset_count() {
+    let count = book.config().assets().asset_count();
+    let mut assets = Vec::with_capacity(alloc, count as usize)?;
+    for asset in 0..count {
         assets.push(asset_books(alloc, book, asset)?)?;
     }
     Ok(assets)

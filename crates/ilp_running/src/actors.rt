@@ -26,6 +26,11 @@ pub(crate) struct Actors<J: Naming, C: Clock + Drop, U: Uplink + Drop, E: Engine
 // The actors whose links are made by `L`.
 type ActorsOf<J, L> = Actors<J, <L as Links>::Clock, <L as Links>::Uplink, <L as Links>::Engine>;
 
+// The workers whose links are made by `L`, with their buffers.
+type RespondersOf<J, L> = Vec<
+    Responder<J, <L as Links>::Clock, <L as Links>::Uplink, <L as Links>::Engine>,
+>;
+
 /// The actors whose shares these are, the settler's last and the sweeper's before it. It is refused
 /// where memory is denied, and where a share is missing, which a desk that was opened has.
 pub(crate) fn actors_of<J: Naming, L: Links>(
@@ -40,10 +45,7 @@ pub(crate) fn actors_of<J: Naming, L: Links>(
     let settler = new_settler(alloc, share, links)?;
     let share = shares.pop().ok_or(missing(workers, 0))?;
     let sweeper = Sweeper::new(alloc, share, links.clock());
-    let mut responders = Vec::new(alloc);
-    for share in shares {
-        responders.push(new_responder(alloc, share, links)?)?;
-    }
+    let responders = new_responders(alloc, shares, links)?;
     Ok(Actors {
         responders,
         sweeper,
@@ -56,6 +58,18 @@ fn missing(workers: u32, after: u32) -> Unprinted {
     Unprinted::Missing {
         actor: workers.saturating_add(after),
     }
+}
+
+fn new_responders<J: Naming, L: Links>(
+    alloc: Global,
+    shares: Vec<Share<J>>,
+    links: &L,
+) -> Result<RespondersOf<J, L>, AllocError> {
+    let mut responders = Vec::new(alloc);
+    for share in shares {
+        responders.push(new_responder(alloc, share, links)?)?;
+    }
+    Ok(responders)
 }
 
 fn new_responder<J: Naming, L: Links>(

@@ -60,7 +60,7 @@ impl Ending {
         self.engines.look_again();
     }
 
-    /// Whether what has not begun is not served any more. Where the clock can't be read, it is.
+    /// Whether what has not begun is closed unanswered. While the clock can't be read, nothing is.
     pub(crate) fn is_over(&self, rt: &impl Clock) -> bool {
         match rt.monotonic() {
             Ok(now) => self.over.load(Ordering::SeqCst) <= in_milliseconds(now),
