@@ -269,7 +269,7 @@ def message_without_an_answer(laboratory: Laboratory) -> None:
 @case
 def message_to_a_silent_engine(laboratory: Laboratory) -> None:
     """An engine that never answers a message is T01, by the time of the longest hold at most."""
-    program = laboratory.serve(FULFILLS, engine_of(message=never_answers), levels=False, workers=2)
+    program = laboratory.serve(FULFILLS, engine_of(message=never_answers), levels=False, workers=3)
     setup = program.setup
     body = soon(0, MESSAGE, b"peer.settle", milliseconds=3000)
     with ThreadPoolExecutor(1) as pool:
