@@ -78,7 +78,7 @@ fn expected_number(field: Field) -> &'static str {
         Field::MaxHoldMs => "a whole number from 1 to 3600000",
         Field::SweepMs | Field::SettleMs => "a whole number from 1 to 60000",
         Field::Scale => "a whole number from 0 to 255",
-        Field::P | Field::Q => "a whole number from 0 to 4294967295",
+        Field::P | Field::Q => "a whole number from 1 to 4294967295",
         Field::FeePpm => "a whole number from 0 to 1000000",
         Field::MaxPacket => "a whole number from 0 to 9223372036854775807",
         _ => "a whole number",

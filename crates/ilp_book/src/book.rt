@@ -225,7 +225,7 @@ impl<A: Allocator> Book<A> {
     }
 }
 
-// The call that takes memory of the journal, and what it is made of.
+// The call that adds pages to the journal, and what it is made of.
 impl<A: Allocator + Clone> Book<A> {
     /// Holds a Prepare's amount against the balance of its sender, and takes the memory for the
     /// entry that ends the hold too. The refusals come in the order of `HoldFault`; each leaves

@@ -1,10 +1,11 @@
 //! What a line of a script asks for.
-ghost use Rattle.std.specs.Prelude.{◌≡◌, ◌<◌, ◌≤◌, ◌^◌, ◌∷◌, length, IfOk, IfSome, option_map};
+ghost use Rattle.std.specs.Prelude.{◌≡◌, ◌<◌, ◌≤◌, ◌^◌, ◌∷◌, length, IfOk, OnErr, IfSome, option_map};
 ghost use Rattle.std.specs.Char.{is_ascii_digit};
 ghost use Rattle.std.specs.List.{list_all, slice_split};
 ghost use Rattle.ilp_accounts.specs.Configuration.{peer_names, place_named};
 ghost use Rattle.ilp_connector.specs.Script as script;
 ghost use Rattle.ilp_book.specs.SettleStep.{verdict_of};
+ghost use Rattle.ilp_journal.specs.Keys.{IsKey};
 ghost use Rattle.ilp_connector.specs.Script.{moment_digits, form_of, form_of_fields, fields_of, is_space, is_printable, number_in};
 ghost use Rattle.ilp_connector.specs.Seen.{form_seen, IsOfPeers, fields_after, field_list};
 
@@ -191,6 +192,7 @@ fn credit_form<'a>(
         (script.moment_in now.now) (place_named (peer_names config.now.peers) peer.now)
         (script.key_in key.now) json.now) }
     ensures known { IfOk result (λ form. IsOfPeers (length config.now.peers) form) }
+    ensures denied { OnErr result (IsKey key.now) }
 {
     let Some(now) = number_in(now, MOMENT_DIGITS) else {
         return Ok(Form::Bad);
@@ -211,7 +213,8 @@ fn credit_form<'a>(
 
 // The key that a text is.
 fn key_in(config: &Config, text: &[u8]) -> Result<Option<Key>, AllocError>
-    ensures { IfOk result (λ key. key ≡ script.key_in text.now) }
+    ensures key { IfOk result (λ key. key ≡ script.key_in text.now) }
+    ensures denied { OnErr result (IsKey text.now) }
 {
     Key::new(config.allocator(), text)
 }

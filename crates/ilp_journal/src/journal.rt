@@ -39,8 +39,8 @@ impl<A: Allocator> Model for Journal<A> {
 }
 
 impl<A: Allocator> Journal<A> {
-    /// A journal with no entry, for at most `limit` of them. `AllocError` tells that memory is
-    /// short.
+    /// A journal with no entry, for at most `limit` of them. It takes memory for the list of its pages,
+    /// and none for entries. `AllocError` tells that memory is short.
     pub fn new(alloc: A, limit: u32) -> Result<Journal<A>, AllocError>
         ensures empty { IfOk result (λ j. j.entries ≡ []) }
         ensures limit { IfOk result (λ j. j.limit ≡ limit) }
@@ -103,7 +103,7 @@ impl<A: Allocator> Journal<A> {
     }
 
     /// Adds an entry, into room that is there: `spare` and `len` tell whether it is. What it answers
-    /// or closes stands in the journal.
+    /// or closes must stand in the journal: `hold` and `ask` tell whether it does.
     pub fn push_reserved(&mut self, entry: Entry)
         requires room { 1 ≤ self.old.spare }
         requires limit { length self.old.entries < self.old.limit }
@@ -147,7 +147,8 @@ impl<A: Allocator> Journal<A> {
 }
 
 impl<A: Allocator + Clone> Journal<A> {
-    /// Makes room for `additional` more entries. `AllocError` tells that memory is short.
+    /// Makes room for `additional` more entries. `AllocError` tells that memory is short, or could never
+    /// be enough for so many.
     pub fn reserve(&mut self, additional: usize) -> Result<(), AllocError>
         ensures entries { self.new.entries ≡ self.old.entries }
         ensures limit { self.new.limit ≡ self.old.limit }

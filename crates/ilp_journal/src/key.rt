@@ -36,7 +36,7 @@ impl Key {
 }
 
 impl<A: Allocator> Key<A> {
-    /// The key of these octets, and `None` where they can be none. `AllocError` tells that memory
+    /// The key of these octets, and `None` where there are not 1 to 128. `AllocError` tells that memory
     /// for a key is short.
     pub fn new(alloc: A, octets: &[u8]) -> Result<Option<Key<A>>, AllocError>
         ensures made { IfOk result (λ made. IsSome made ↔ IsKey octets.now) }
