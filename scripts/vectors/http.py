@@ -284,6 +284,9 @@ def cut_lines():
     size = len(whole)
     yield (f"of a request of {size} octets {size} proper prefixes are a bad request and look "
            f"unfinished, and {size} reads that fail are told")
+    in_body = len(PREPARE)
+    yield (f"of a request of {size} octets the first {size - in_body} prefixes look to be in the head, and "
+           f"the {in_body} after them in a body that is whole at {size} octets")
     whole = response(fields=(b"Content-Type: application/octet-stream", b"Content-Length: 35",
                              b"Connection: close"), body=FULFILL).octets()
     size = len(whole)

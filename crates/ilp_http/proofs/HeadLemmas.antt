@@ -11,8 +11,8 @@ use Rattle.httparse.specs.declared.spans.RequestSpans.{RequestSpans}
 use Rattle.httparse.proofs.GrammarLemmas.{ReadsRequest-append}
 use Rattle.ilp_http.specs.declared.limits.TheConstants.{HEAD_LIMIT, FIELD_LIMIT, BODY_LIMIT}
 use Rattle.ilp_http.specs.Framing.{framing, framing_by, length_of, is_number, values_named}
-use Rattle.ilp_http.specs.Request.{BeginsWithHead, HasNoHead, HasRefusedHead, IsRefused, EndsEarly, body_by, body_length, length_by, fields_of}
-use Rattle.ilp_http.specs.Layout.{IsUnfinished, StayRefused, length_at}
+use Rattle.ilp_http.specs.Request.{BeginsWithHead, HasNoHead, HasRefusedHead, IsRefused, body_by, body_length, length_by, fields_of}
+use Rattle.ilp_http.specs.Layout.{StayRefused, length_at}
 use Rattle.ilp_http.specs.declared.framing.Framing.{Framing}
 use Rattle.ilp_http.specs.declared.framing.Framing.TheVariants.{Octets, Unreadable, TooLong}
 use Rattle.ilp_http.specs.declared.refusal.Refusal.{Refusal}
@@ -106,6 +106,10 @@ body_length-announced head =
     cond_both (bytes_eq head.method (codes "POST")) (body_by (framing (fields_of head))) (Err MethodNotAllowed) IsAnnounced
     (λ _. announced_by (values_named (codes "transfer-encoding") (fields_of head)) (values_named (codes "content-length") (fields_of head))) (λ _. tt)
 
+-- the length of a body is within its limit
+pub small-body : (head : RequestHead) (body : ℕ) → body_length head ≡ Ok body → body ≤ BODY_LIMIT
+small-body head body announced = subst IsAnnounced announced (body_length-announced head)
+
 by_refusal : (octets : List ℕ) (refusal : Refusal) → IsOfHead refusal → HasRefusedHead octets refusal → IsRefused octets refusal
 by_refusal octets BadRequest may has = inr has
 by_refusal octets MethodNotAllowed may has = has
@@ -163,45 +167,3 @@ refused-never octets never more =
     inl (λ after head rest reads.
     never (behind ++ after) head rest
     (reads.0, sym (ap (λ xs. xs ++ after) (take_more_behind HEAD_LIMIT octets more) ∙ append_assoc front behind after) ∙ reads.1))
-
--- ---- octets that may become a request
-
--- a head has begun
-pub unfinished-head : (octets : List ℕ) → length octets < HEAD_LIMIT → HasNoRequest (take HEAD_LIMIT octets) → MayBecomeRequest (take HEAD_LIMIT octets)
-    → IsUnfinished octets (length octets + 1)
-unfinished-head octets short none may_become =
-    let all = take_all HEAD_LIMIT octets (omega arith) in
-    let early : EndsEarly octets = inl (record { none = subst HasNoRequest all none; may_become = subst MayBecomeRequest all may_become; short = short }) in
-    record {
-      ends = λ more few. subst EndsEarly (sym (ap (λ xs. octets ++ xs) (no_octets more (omega arith)) ∙ append-nil octets)) early;
-      more = omega arith;
-      room = omega arith;
-    }
-  where
-    no_octets : (xs : List ℕ) → length xs < 1 → xs ≡ []
-    no_octets [] few = refl
-    no_octets (x ∷ xs) few = absurd (omega arith)
-
--- a head is whole, and its body is not
-pub unfinished-body : (octets : List ℕ) (head : RequestHead) (len body : ℕ) → len ≡ length (print_request head) → BeginsWithHead octets head (drop len octets)
-    → body_length head ≡ Ok body → length octets - len < body → IsUnfinished octets (len + body)
-unfinished-body octets head len body size begins announced part =
-    let small : body ≤ BODY_LIMIT = subst IsAnnounced announced (body_length-announced head) in
-    let rest = length-drop len octets in
-    let fits : len ≤ length octets = omega (arith, ap length begins.reads.1, length-append (print_request head) (drop len octets)) in
-    record {
-      ends = λ more few. inr (
-        head,
-        drop len octets ++ more,
-        body,
-        BeginsWithHead-append octets head (drop len octets) more begins,
-        announced,
-        omega (arith, length-append (drop len octets) more),
-      );
-      more = omega arith;
-      room = omega (arith, begins.short);
-    }
-
--- unfinished octets end early
-pub early-now : (octets : List ℕ) (least : ℕ) → IsUnfinished octets least → EndsEarly octets
-early-now octets least unfinished = subst EndsEarly (append-nil octets) (unfinished.ends [] (omega (arith, unfinished.more)))

@@ -2,6 +2,7 @@ pub mod FrontLemmas
 pub mod FramingLemmas
 pub mod HeaderLemmas
 pub mod HeadLemmas
+pub mod EarlyLemmas
 pub mod SourceLemmas
 pub mod PartsLemmas
 pub mod PendingLemmas

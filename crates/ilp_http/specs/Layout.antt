@@ -1,17 +1,18 @@
 -- What an examination of octets finds, and where the parts of a request are in them.
-use Rattle.std.specs.Prelude.{◌≡◌, ℕ, ◌+◌, ◌<◌, ◌≤◌, List, ◌++◌, length, take, map, Result, Ok}
+use Rattle.std.specs.Prelude.{◌≡◌, ℕ, ◌+◌, ◌<◌, ◌≤◌, List, ◌++◌, length, take, map, Contains, Result, Ok}
+use Rattle.httparse.specs.Ascii.{line_feed}
 use Rattle.httparse.specs.Grammar.{RequestHead}
 use Rattle.httparse.specs.Spans.{span_bytes, header_bytes, IsRequestAt, IsRequestWithin}
 use Rattle.httparse.specs.declared.spans.HeaderSpan.{HeaderSpan}
 use Rattle.httparse.specs.declared.spans.RequestSpans.{RequestSpans}
 use Rattle.ilp_http.specs.declared.limits.TheConstants.{HEAD_LIMIT, BUFFER_LENGTH}
-use Rattle.ilp_http.specs.Request.{BeginsWithHead, HoldsRequest, EndsEarly, IsRefused, body_length, length_by}
+use Rattle.ilp_http.specs.Request.{BeginsWithHead, HoldsRequest, EndsInHead, EndsInBody, IsRefused, body_length, length_by}
 use Rattle.ilp_http.specs.declared.refusal.Refusal.{Refusal}
 use Rattle.ilp_http.specs.declared.examination.Look.{Look}
 use Rattle.ilp_http.specs.declared.examination.Look.TheVariants as Seen
 use Rattle.ilp_http.specs.declared.examination.Layout.{Layout}
 use Rattle.ilp_http.specs.declared.examination.Finding.{Finding}
-use Rattle.ilp_http.specs.declared.examination.Finding.TheVariants.{Whole, Unfinished, Refused}
+use Rattle.ilp_http.specs.declared.examination.Finding.TheVariants.{Whole, InHead, InBody, Refused}
 
 -- what the spans of a head announce
 abbrev pub length_at : List ℕ → List HeaderSpan → RequestSpans → Result ℕ Refusal
@@ -28,11 +29,18 @@ pub record IsLayoutAt (octets : List ℕ) (spans : List HeaderSpan) (layout : La
 abbrev pub IsLayoutOf : List ℕ → List HeaderSpan → Layout → Type 0
 IsLayoutOf octets spans layout = (head : RequestHead) × (rest : List ℕ) × IsLayoutAt octets spans layout head rest
 
--- the octets end early, and so do they with more behind them, while they are fewer than so many
-pub record IsUnfinished (octets : List ℕ) (least : ℕ) : Type 0 where
-  pub ends : (more : List ℕ) → length octets + length more < least → EndsEarly (octets ++ more)
-  pub more : length octets < least
-  pub room : least ≤ BUFFER_LENGTH
+-- the octets begin a head, and what makes them a request has a line feed
+pub record IsInHead (octets : List ℕ) : Type 0 where
+  pub ends : EndsInHead octets
+  pub takes_line_feed : (more : List ℕ) → HoldsRequest (octets ++ more) → Contains more line_feed
+
+-- the octets have a head, and with those that follow are a request once they are so many
+pub record IsInBody (octets : List ℕ) (whole : ℕ) : Type 0 where
+  pub ends : EndsInBody octets
+  pub below : (more : List ℕ) → length octets + length more < whole → EndsInBody (octets ++ more)
+  pub reached : (more : List ℕ) → whole ≤ length octets + length more → HoldsRequest (octets ++ more)
+  pub more : length octets < whole
+  pub room : whole ≤ BUFFER_LENGTH
 
 -- the octets are refused so, whatever follows
 abbrev pub StayRefused : List ℕ → Refusal → Type 0
@@ -41,11 +49,13 @@ StayRefused octets refusal = (more : List ℕ) → IsRefused (octets ++ more) re
 -- what the octets are, with the spans of their head
 abbrev pub IsExamined : List ℕ → List HeaderSpan → Finding → Type 0
 IsExamined octets spans (Whole layout) = IsLayoutOf octets spans layout
-IsExamined octets spans (Unfinished least) = IsUnfinished octets least
+IsExamined octets spans InHead = IsInHead octets
+IsExamined octets spans (InBody whole) = IsInBody octets whole
 IsExamined octets spans (Refused refusal) = StayRefused octets refusal
 
 -- what the octets are
 abbrev pub IsSeen : List ℕ → Look → Type 0
 IsSeen octets Seen.Whole = HoldsRequest octets
-IsSeen octets Seen.Unfinished = EndsEarly octets
+IsSeen octets Seen.InHead = IsInHead octets
+IsSeen octets (Seen.InBody whole) = IsInBody octets whole
 IsSeen octets (Seen.Refused refusal) = StayRefused octets refusal

@@ -14,9 +14,12 @@ use httparse::{Error, Status};
 pub enum Look {
     /// They begin with a whole request. Octets may stand after it.
     Whole,
-    /// They begin a head, or have a head and not yet its whole body. A stream that ended here would
-    /// be a bad request.
-    Unfinished,
+    /// They begin a head. They are no whole request before a line feed comes. A stream that ended
+    /// here would be a bad request.
+    InHead,
+    /// They have a head, and are a whole request once there are so many. A stream that ended before
+    /// would be a bad request.
+    InBody { whole: usize },
     /// They are refused, whatever follows.
     Refused(Refusal),
 }
@@ -33,8 +36,8 @@ pub(crate) struct Layout {
 #[derive(Clone, Copy, Debug)]
 pub(crate) enum Finding {
     Whole(Layout),
-    /// Fewer octets than so many are no whole request.
-    Unfinished(usize),
+    InHead,
+    InBody { whole: usize },
     Refused(Refusal),
 }
 
@@ -62,11 +65,13 @@ pub(crate) fn examine(octets: &[u8], spans: &mut [HeaderSpan]) -> Finding
     let front = &octets[..octets.len().min(HEAD_LIMIT)];
     match parse_request(front, spans) {
         Ok(Status::Complete(head)) => match announced(front, spans, &head) {
-            Ok(body) if octets.len() - head.len < body => Finding::Unfinished(head.len + body),
+            Ok(body) if octets.len() - head.len < body => Finding::InBody {
+                whole: head.len + body,
+            },
             Ok(body) => Finding::Whole(Layout { head, body }),
             Err(refusal) => Finding::Refused(refusal),
         },
-        Ok(Status::Partial) if octets.len() < HEAD_LIMIT => Finding::Unfinished(octets.len() + 1),
+        Ok(Status::Partial) if octets.len() < HEAD_LIMIT => Finding::InHead,
         Ok(Status::Partial) => Finding::Refused(Refusal::FieldsTooLarge),
         Err(error) => match error {
             Error::TooManyHeaders => Finding::Refused(Refusal::FieldsTooLarge),
@@ -76,7 +81,8 @@ pub(crate) fn examine(octets: &[u8], spans: &mut [HeaderSpan]) -> Finding
 }
 
 /// What octets that have come so far are, by the definitions that `read_request` answers by. A
-/// server asks it before it gives a connection to a worker.
+/// server asks it before it gives a connection to a worker. It tells what has to come until another
+/// look can find a whole request, so that a server needs no look at each piece.
 ///
 /// It reads nothing and takes no memory.
 pub fn look_at(octets: &[u8]) -> Look
@@ -85,7 +91,8 @@ pub fn look_at(octets: &[u8]) -> Look
     let mut spans = [EMPTY_HEADER_SPAN; FIELD_LIMIT];
     match examine(octets, &mut spans) {
         Finding::Whole(_) => Look::Whole,
-        Finding::Unfinished(_) => Look::Unfinished,
+        Finding::InHead => Look::InHead,
+        Finding::InBody { whole } => Look::InBody { whole },
         Finding::Refused(refusal) => Look::Refused(refusal),
     }
 }

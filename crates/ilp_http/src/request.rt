@@ -53,7 +53,8 @@ fn fill<S: Source>(
         if needed <= filled {
             match examine(&octets[..filled], spans) {
                 Finding::Whole(layout) => return Ok((filled, layout)),
-                Finding::Unfinished(least) => needed = least,
+                Finding::InHead => needed = filled + 1,
+                Finding::InBody { whole } => needed = whole,
                 Finding::Refused(refusal) => return Err(RequestFault::Refused(refusal)),
             }
         }

@@ -15,6 +15,7 @@ pub(crate) fn print_cuts<R: Files + Print + AllocGlobal>(rt: &R) -> io::Result<(
     let row = rows.lines().next().unwrap_or("");
     let octets = octets_of(rt.alloc(), row)?;
     print_cut_request(rt, octets.as_slice(), &mut buffer)?;
+    print_cut_looks(rt, octets.as_slice())?;
     let rows = fs::read_to_string(rt, "responses.txt")?;
     let row = rows.lines().next().unwrap_or("");
     let octets = octets_of(rt.alloc(), row)?;
@@ -33,7 +34,7 @@ fn print_cut_request<R: Print + AllocGlobal>(
         let mut source = Pieces::new(&octets[..length], 5);
         let fault = read_request(rt.alloc(), &mut source, buffer).err();
         let refused = Some(RequestFault::Refused(Refusal::BadRequest));
-        if fault == refused && look_at(&octets[..length]) == Look::Unfinished {
+        if fault == refused && looks_unfinished(look_at(&octets[..length])) {
             bad = bad.saturating_add(1);
         }
         let mut source = Pieces::failing(octets, 5, length);
@@ -44,6 +45,30 @@ fn print_cut_request<R: Print + AllocGlobal>(
     let size = octets.len();
     println!(rt;
         "of a request of {size} octets {bad} proper prefixes are a bad request and look unfinished, and {failed} reads that fail are told"
+    )
+}
+
+fn looks_unfinished(look: Look) -> bool {
+    match look {
+        Look::InHead | Look::InBody { .. } => true,
+        Look::Whole | Look::Refused(_) => false,
+    }
+}
+
+// Counts the prefixes that look to be in the head, and those after them that look to be in the body
+// of just this request.
+fn print_cut_looks<R: Print>(rt: &R, octets: &[u8]) -> io::Result<()> {
+    let size = octets.len();
+    let (mut in_head, mut in_body) = (0usize, 0usize);
+    for length in 0..size {
+        match look_at(&octets[..length]) {
+            Look::InHead if in_body == 0 => in_head = in_head.saturating_add(1),
+            Look::InBody { whole } if whole == size => in_body = in_body.saturating_add(1),
+            _ => {}
+        }
+    }
+    println!(rt;
+        "of a request of {size} octets the first {in_head} prefixes look to be in the head, and the {in_body} after them in a body that is whole at {size} octets"
     )
 }
 

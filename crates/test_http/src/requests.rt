@@ -96,7 +96,7 @@ fn print_look<R: Print + AllocGlobal>(
 fn agrees_on(look: Look, refusal: Refusal) -> bool {
     match look {
         Look::Whole => false,
-        Look::Unfinished => refusal == Refusal::BadRequest,
+        Look::InHead | Look::InBody { .. } => refusal == Refusal::BadRequest,
         Look::Refused(seen) => seen == refusal,
     }
 }

@@ -3,7 +3,8 @@ use Rattle.httparse.specs.Grammar.{HasNoRequest, NeverHasRequest, MayBecomeReque
 use Rattle.httparse.specs.Spans.{RequestOverflows, RequestExceeds}
 use Rattle.ilp_http.specs.declared.limits.TheConstants.{HEAD_LIMIT, FIELD_LIMIT}
 use Rattle.ilp_http.proofs.FrontLemmas.{take_cut}
-use Rattle.ilp_http.proofs.HeadLemmas.{found-head, refused-by_head, refused-many, refused-long, refused-never, unfinished-head, unfinished-body}
+use Rattle.ilp_http.proofs.HeadLemmas.{found-head, refused-by_head, refused-many, refused-long, refused-never}
+use Rattle.ilp_http.proofs.EarlyLemmas.{in-head, in-body}
 use Rattle.ilp_http.proofs.examination.examine.Goals as goal
 
 pub returns-in-Ok : goal.returns-in-Ok
@@ -12,7 +13,7 @@ returns-in-Ok c =
     let at = rw c.in-Ok-Complete.field-0-is at c.in-Ok-Complete.ensures.complete in
     let within = rw c.in-Ok-Complete.field-0-is at c.in-Ok-Complete.ensures.within in
     let found = found-head octets _ _ _ at.0 (take_cut octets c.min.result HEAD_LIMIT c.min.ensures) (c.parse_request.auto.headers ∙ c.requires) at.1 within in
-    unfinished-body octets at.0 c.in-Ok-Complete.head.len c.in-Ok.body found.parsed.len found.begins (sym found.announces ∙ sym c.announced.ensures ∙ c.in-Ok.is) c.if-octets-head.true
+    in-body octets at.0 c.in-Ok-Complete.head.len c.in-Ok.body found.parsed.len found.begins (sym found.announces ∙ sym c.announced.ensures ∙ c.in-Ok.is) c.if-octets-head.true
 
 pub returns-in-Ok-2 : goal.returns-in-Ok-2
 returns-in-Ok-2 c =
@@ -38,7 +39,7 @@ returns-in-Ok-Partial c =
     let cut = take_cut octets c.min.result HEAD_LIMIT c.min.ensures in
     let none = rw c.in-Ok-Partial.field-0-is at c.in-Ok-Partial.ensures.partial in
     let may_become = rw c.in-Ok-Partial.field-0-is at c.in-Ok-Partial.ensures.unfinished in
-    unfinished-head octets c.if-octets-lt-HEAD_LIMIT.true (subst HasNoRequest cut none) (subst MayBecomeRequest cut may_become)
+    in-head octets c.if-octets-lt-HEAD_LIMIT.true (subst HasNoRequest cut none) (subst MayBecomeRequest cut may_become)
 
 pub returns-in-Ok-Partial-2 : goal.returns-in-Ok-Partial-2
 returns-in-Ok-Partial-2 c =

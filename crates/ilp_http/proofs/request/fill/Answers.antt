@@ -1,4 +1,4 @@
-use Rattle.std.proofs.Common.{ℕ, ◌+◌, ◌-◌, ◌<◌, ◌≤◌, List, ◌++◌, length, take, sym, ap, ◌∙◌, subst, arith, append_assoc, length-append}
+use Rattle.std.proofs.Common.{ℕ, ◌+◌, ◌-◌, ◌<◌, ◌≤◌, List, ◌++◌, length, take, inr, sym, ap, ◌∙◌, subst, arith, append_assoc, length-append}
 use Rattle.std.specs.Io.KnownBytes.{Consumes}
 use Rattle.std.proofs.KnownBytes.{Consumes-trans}
 use Rattle.ilp_io.proofs.ReadingLemmas.{Consumes-stream}
@@ -7,8 +7,9 @@ use Rattle.ilp_http.specs.Request.{EndsEarly}
 use Rattle.ilp_http.specs.Answer.{IsFaultOf}
 use Rattle.ilp_http.specs.declared.refusal.RequestFault.TheVariants.{Refused}
 use Rattle.ilp_http.proofs.SourceLemmas.{Tallies-next, taken_more}
+use Rattle.ilp_http.proofs.EarlyLemmas.{ends-in_head}
 use Rattle.ilp_http.proofs.PartsLemmas.{IsFaultOf-refused}
-use Rattle.ilp_http.proofs.request.fill.Goals.{then-needed-filled+in-Unfinished, else-needed-filled}
+use Rattle.ilp_http.proofs.request.fill.Goals.{then-needed-filled+in-InHead, then-needed-filled+in-InBody, else-needed-filled}
 use Rattle.ilp_http.proofs.request.fill.Goals as goal
 
 pub returns-in-Refused-clause-refused : goal.returns-in-Refused-clause-refused
@@ -29,13 +30,15 @@ loop-needed-preserved g c =
     let taken = taken_more filled (length octets - filled) count octets room inside fits in
     let before : (more : List ℕ) → filled + length more < needed → EndsEarly (take filled octets ++ more) = λ more few.
     elim c.if-needed-filled.branch [
-      | then-needed-filled+in-Unfinished w ↦ w.in-Unfinished.ensures.ends more (omega (arith, w.needed-is, length-take-le filled octets inside))
+      | then-needed-filled+in-InHead w ↦ ends-in_head _ more w.in-InHead.ensures (omega (arith, w.needed-is))
+      | then-needed-filled+in-InBody w ↦ inr (w.in-InBody.ensures.below more (omega (arith, w.needed-is, length-take-le filled octets inside)))
       | else-needed-filled w ↦ c.loop-needed.invariant.early more (omega (arith, w.needed-is))
     ] in
     record {
       filled = omega (arith, fits);
       needed = elim c.if-needed-filled.branch [
-        | then-needed-filled+in-Unfinished w ↦ omega (arith, w.needed-is, w.in-Unfinished.ensures.room)
+        | then-needed-filled+in-InHead w ↦ omega (arith, w.needed-is, w.in-InHead.ensures.ends.short, length-take-le filled octets inside)
+        | then-needed-filled+in-InBody w ↦ omega (arith, w.needed-is, w.in-InBody.ensures.room)
         | else-needed-filled w ↦ omega (arith, w.needed-is, c.loop-needed.invariant.needed)
       ];
       reads = omega arith;
