@@ -1,11 +1,11 @@
 //! A connection that waits until its request has come.
-ghost use Rattle.std.specs.Prelude.{◌≤◌, vec_len};
-ghost use Rattle.ilp_http.specs.declared.limits.TheConstants.{BUFFER_LENGTH};
 
 use crate::admission::Admission;
+use crate::incoming::{Arrival, Incoming};
 use crate::limits::{ALLOWANCE_MS, PIECE};
 use crate::ready::ReadyConnection;
-use ilp_http::{BUFFER_LENGTH, Look, look_at};
+use crate::stage::Stage;
+use ilp_http::BUFFER_LENGTH;
 use mio::Registry;
 use mio::net::TcpStream;
 use std::alloc::Global;
@@ -13,27 +13,23 @@ use std::io::{ErrorKind, Read};
 use std::time::Duration;
 use std::{io, net};
 
-/// A connection that waits. It has no more octets than the longest request.
+/// A connection that waits.
 #[derive(Drop)]
 pub(crate) struct Connection<K> {
     // The number by which an event names it.
     number: usize,
     stream: TcpStream,
-    octets: Vec<u8>,
+    incoming: Incoming,
     accepted: Duration,
     stage: Stage<K>,
-    ghost short: { vec_len octets ≤ BUFFER_LENGTH },
 }
 
-/// How far a connection is.
+// What a read of a connection came to.
 #[derive(Clone, Copy)]
-pub(crate) enum Stage<K> {
-    /// Its request has not come whole.
-    Waiting,
-    /// It is to be given on, and of this kind.
-    Ready(K),
-    /// It is to be closed without an answer: a read failed, or memory for its octets was denied.
-    Lost,
+enum Reading {
+    Octets(Arrival),
+    // The client sends nothing more.
+    End,
 }
 
 impl<K: Copy> Connection<K> {
@@ -47,7 +43,7 @@ impl<K: Copy> Connection<K> {
         Connection {
             number,
             stream,
-            octets: Vec::new(alloc),
+            incoming: Incoming::new(alloc),
             accepted,
             stage: Stage::Waiting,
         }
@@ -73,51 +69,48 @@ impl<K: Copy> Connection<K> {
         self.accepted
     }
 
-    /// Reads what has come, and finds out how far the connection is.
-    pub(crate) fn read<D: Admission<Kind = K>>(&mut self, admission: &mut D) {
+    /// Takes in what an event of it tells. One that waits is read. One that is ready is not read on,
+    /// and is lost where the system tells of a failure.
+    pub(crate) fn handle_event<D: Admission<Kind = K>>(&mut self, admission: &mut D) {
+        match self.stage {
+            Stage::Waiting => self.read(admission),
+            Stage::Ready { .. } => {
+                if !matches!(self.stream.take_error(), Ok(None)) {
+                    self.stage = Stage::Lost;
+                }
+            }
+            Stage::Lost => {}
+        }
+    }
+
+    // Reads until it is ready or lost, or nothing more has come. Each read but those that were
+    // interrupted gives an octet at least, so there are no more reads than octets of a request.
+    fn read<D: Admission<Kind = K>>(&mut self, admission: &mut D) {
         for _ in 0..=BUFFER_LENGTH {
             match self.read_piece() {
-                Ok(0) => {
-                    self.stage = Stage::Ready(admission.kind_of(self.octets.as_slice()));
+                Ok(Reading::Octets(Arrival::Partial)) => {}
+                Ok(reading) => {
+                    self.stage = Stage::Ready {
+                        kind: admission.kind_of(self.incoming.octets()),
+                        refused: matches!(reading, Reading::Octets(Arrival::Refused)),
+                    };
                     return;
                 }
-                Ok(_) => {}
                 Err(error) if error.kind() == ErrorKind::Interrupted => {}
-                Err(error) => {
-                    self.stage = self.stage_after(&error, admission);
+                Err(error) if error.kind() == ErrorKind::WouldBlock => return,
+                Err(_) => {
+                    self.stage = Stage::Lost;
                     return;
                 }
             }
         }
     }
 
-    // Reads once. Nothing more is read, as at the end of the input, once there are as many octets as
-    // the longest request has.
-    fn read_piece(&mut self) -> io::Result<usize> {
+    fn read_piece(&mut self) -> io::Result<Reading> {
         let mut piece = [0; PIECE];
-        let room = PIECE.min(BUFFER_LENGTH - self.octets.len());
-        if room == 0 {
-            return Ok(0);
-        }
-        let count = self.stream.read(&mut piece[..room])?;
-        self.octets.extend_from_slice(&piece[..count])?;
-        Ok(count)
-    }
-
-    // How far it is when nothing more can be read for now, or for good.
-    fn stage_after<D: Admission<Kind = K>>(
-        &self,
-        error: &io::Error,
-        admission: &mut D,
-    ) -> Stage<K> {
-        let octets = self.octets.as_slice();
-        match error.kind() {
-            ErrorKind::WouldBlock => match look_at(octets) {
-                Look::Unfinished => Stage::Waiting,
-                Look::Whole => Stage::Ready(admission.kind_of(octets)),
-                Look::Refused(_) => Stage::Ready(admission.kind_of(octets)),
-            },
-            _ => Stage::Lost,
+        match self.stream.read(&mut piece)? {
+            0 => Ok(Reading::End),
+            count => Ok(Reading::Octets(self.incoming.add(&piece[..count])?)),
         }
     }
 
@@ -131,9 +124,9 @@ impl<K: Copy> Connection<K> {
         let Connection {
             number: _,
             mut stream,
-            octets,
+            incoming,
             accepted,
-            stage: _,
+            stage,
         } = self;
         registry.deregister(&mut stream)?;
         let stream = net::TcpStream::from(stream);
@@ -143,9 +136,10 @@ impl<K: Copy> Connection<K> {
             .saturating_sub(now);
         Ok(ReadyConnection {
             stream,
-            octets,
+            octets: incoming.into_octets(),
             left,
             kind,
+            refused: matches!(stage, Stage::Ready { refused: true, .. }),
         })
     }
 }

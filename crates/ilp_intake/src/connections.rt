@@ -1,31 +1,39 @@
 //! The connections that wait at an intake.
-ghost use Rattle.std.specs.Prelude.{◌<◌, ◌≤◌, vec_len};
+ghost use Rattle.std.specs.Prelude.{◌≡◌, ◌+◌, ◌<◌, ◌≤◌, ◌↔◌, vec_len, min, max, IfOk, IfSome, IsTrue, IsFalse};
 ghost use Rattle.ilp_intake.specs.declared.limits.TheConstants.{MOST_WAITING};
 
 use crate::admission::Admission;
-use crate::connection::{Connection, Stage};
-use crate::limits::{ALLOWANCE_MS, GRACE_MS, MOST_WAITING};
+use crate::connection::Connection;
+use crate::limits::MOST_WAITING;
+use crate::lingering::Lingering;
 use crate::ready::ReadyConnection;
+use crate::stage::Stage;
+use crate::times::{earlier, latest};
 use mio::net::TcpStream;
 use mio::{Interest, Registry, Token};
 use std::alloc::{AllocError, Global};
-use std::io;
 use std::time::Duration;
+use std::{io, net};
 
-/// The connections that wait, those that came first in front. There are `MOST_WAITING` at most.
+/// The connections that wait, those that came first in front, and those that linger, likewise.
+/// There are `most` in all.
 #[derive(Drop)]
 pub(crate) struct Connections<K> {
     waiting: Vec<Connection<K>>,
+    lingering: Vec<Lingering>,
     ready: Ready<K>,
+    most: usize,
     // The number of the next one.
     next: usize,
     // When the intake was closed.
     closed: Option<Duration>,
-    ghost few: { vec_len waiting ≤ MOST_WAITING },
+    ghost few: { vec_len waiting + vec_len lingering ≤ most },
+    ghost some: { 0 < most },
+    ghost bounded: { most ≤ MOST_WAITING },
 }
 
-// Those of them that are ready, in their order: where each stands among those that wait, and of which
-// kind it is. The list is made anew each time that one is to be given on.
+// Those that are ready, in their order: where each stands among those that wait, and of which kind it
+// is. The list is made anew each time that one is to be given on.
 #[derive(Drop)]
 struct Ready<K> {
     places: Vec<usize>,
@@ -33,10 +41,10 @@ struct Ready<K> {
 }
 
 impl<K: Copy> Ready<K> {
-    fn new(alloc: Global) -> Result<Ready<K>, AllocError> {
+    fn new(alloc: Global, most: usize) -> Result<Ready<K>, AllocError> {
         Ok(Ready {
-            places: Vec::with_capacity(alloc, MOST_WAITING)?,
-            kinds: Vec::with_capacity(alloc, MOST_WAITING)?,
+            places: Vec::with_capacity(alloc, most)?,
+            kinds: Vec::with_capacity(alloc, most)?,
         })
     }
 
@@ -45,7 +53,7 @@ impl<K: Copy> Ready<K> {
         self.places.clear();
         self.kinds.clear();
         for (place, connection) in waiting.iter().enumerate() {
-            if let Stage::Ready(kind) = connection.stage() {
+            if let Stage::Ready { kind, refused: _ } = connection.stage() {
                 let _ = self.places.push(place);
                 let _ = self.kinds.push(kind);
             }
@@ -61,24 +69,36 @@ impl<K: Copy> Ready<K> {
 }
 
 impl<K: Copy> Connections<K> {
-    /// None yet.
-    pub(crate) fn new(alloc: Global) -> Result<Connections<K>, AllocError> {
+    /// None yet. There will be so many at most, but one at least and `MOST_WAITING` at most.
+    pub(crate) fn new(alloc: Global, most: usize) -> Result<Connections<K>, AllocError>
+        ensures { IfOk result (λ connections. connections.most ≡ max 1 (min most MOST_WAITING)) }
+    {
+        let most = most.min(MOST_WAITING).max(1);
         Ok(Connections {
-            waiting: Vec::with_capacity(alloc, MOST_WAITING)?,
-            ready: Ready::new(alloc)?,
+            waiting: Vec::with_capacity(alloc, most)?,
+            lingering: Vec::with_capacity(alloc, most)?,
+            ready: Ready::new(alloc, most)?,
+            most,
             next: 0,
             closed: None,
         })
     }
 
-    /// Whether none waits.
+    /// Whether none waits. Some may linger.
     pub(crate) fn is_empty(&self) -> bool {
         self.waiting.is_empty()
     }
 
-    /// Adds a connection that was accepted at this time. Where as many wait as may, the first of them
-    /// whose request has not come is closed, and else the first. The added one is closed where the
-    /// system or want of memory refuses it.
+    // Whether there are as many as may be.
+    fn is_full(&self) -> bool
+        ensures { IsTrue result ↔ (vec_len self.now.waiting + vec_len self.now.lingering ≡ self.now.most) }
+    {
+        self.waiting.len() + self.lingering.len() == self.most
+    }
+
+    /// Adds a connection that was accepted at this time. Where there are as many as may be, one of
+    /// them is closed: one that could be missed, as `give_up_one` says, and else the first. The added
+    /// one is closed where the system or want of memory refuses it.
     pub(crate) fn add(&mut self, registry: &Registry, stream: TcpStream, now: Duration) {
         let _ = self.try_add(registry, stream, now);
     }
@@ -87,9 +107,8 @@ impl<K: Copy> Connections<K> {
         let mut stream = stream;
         stream.set_nodelay(true)?;
         registry.register(&mut stream, Token(self.next), Interest::READABLE)?;
-        if self.waiting.len() >= MOST_WAITING {
-            let oldest = self.oldest();
-            drop(self.waiting.remove(oldest));
+        if self.is_full() && !self.give_up_one() {
+            drop(self.waiting.remove(0));
         }
         let alloc = *self.waiting.allocator();
         let connection = Connection::new(alloc, self.next, stream, now);
@@ -98,24 +117,83 @@ impl<K: Copy> Connections<K> {
         Ok(())
     }
 
-    // The place of the one that has waited longest for its request, and else the first.
-    fn oldest(&self) -> usize
-        requires { 0 < vec_len self.now.waiting }
-        ensures { result < vec_len self.now.waiting }
+    /// Closes the connection that lingers longest, or else the one that has waited longest for its
+    /// request. False where neither is there.
+    pub(crate) fn give_up_one(&mut self) -> bool
+        ensures one { IsTrue result → vec_len self.new.waiting + vec_len self.new.lingering + 1
+            ≡ vec_len self.old.waiting + vec_len self.old.lingering }
+        ensures none { IsFalse result → (vec_len self.new.lingering ≡ 0)
+            × (vec_len self.old.lingering ≡ 0) × (vec_len self.new.waiting ≡ vec_len self.old.waiting) }
+        ensures most { self.new.most ≡ self.old.most }
     {
-        let mut waiting = self.waiting.iter();
-        let oldest = waiting.position(|connection| connection.is_waiting());
-        oldest.unwrap_or(0)
+        if !self.lingering.is_empty() {
+            drop(self.lingering.remove(0));
+            return true;
+        }
+        match self.oldest() {
+            Some(place) => {
+                drop(self.waiting.remove(place));
+                true
+            }
+            None => false,
+        }
     }
 
-    /// Reads what has come of the connection of this number, if it still waits.
-    pub(crate) fn read<D: Admission<Kind = K>>(&mut self, number: usize, admission: &mut D) {
-        if let Some(place) = self
-            .waiting
-            .iter()
-            .position(|connection| connection.number() == number)
-        {
-            self.waiting[place].read(admission);
+    // The place of the one that has waited longest for its request.
+    fn oldest(&self) -> Option<usize>
+        ensures { IfSome result (λ place. place < vec_len self.now.waiting) }
+    {
+        let mut waiting = self.waiting.iter();
+        waiting.position(|connection| connection.is_waiting())
+    }
+
+    /// Takes back a connection that was answered although more of its request may come. Where there
+    /// are as many as may be, the first that lingers is closed, and else this one.
+    pub(crate) fn linger(&mut self, registry: &Registry, stream: net::TcpStream, now: Duration) {
+        let _ = self.try_linger(registry, stream, now);
+    }
+
+    fn try_linger(
+        &mut self,
+        registry: &Registry,
+        stream: net::TcpStream,
+        now: Duration,
+    ) -> io::Result<()> {
+        if self.is_full() {
+            if self.lingering.is_empty() {
+                return Ok(());
+            }
+            drop(self.lingering.remove(0));
+        }
+        stream.set_nonblocking(true)?;
+        let mut stream = TcpStream::from_std(stream);
+        registry.register(&mut stream, Token(self.next), Interest::READABLE)?;
+        let lingering = Lingering::new(self.next, stream, now);
+        self.next = self.next.wrapping_add(1);
+        self.lingering.push(lingering)?;
+        Ok(())
+    }
+
+    /// Takes in what an event tells of the connection of this number, if it is still here.
+    pub(crate) fn handle_event<D: Admission<Kind = K>>(
+        &mut self,
+        number: usize,
+        admission: &mut D,
+    ) {
+        let mut waiting = self.waiting.iter();
+        match waiting.position(|connection| connection.number() == number) {
+            Some(place) => self.waiting[place].handle_event(admission),
+            None => self.drain(number),
+        }
+    }
+
+    // Reads what has come of the connection of this number, if it lingers.
+    fn drain(&mut self, number: usize) {
+        let mut lingering = self.lingering.iter();
+        if let Some(place) = lingering.position(|connection| connection.number() == number) {
+            if !self.lingering[place].drain() {
+                drop(self.lingering.remove(place));
+            }
         }
     }
 
@@ -124,9 +202,10 @@ impl<K: Copy> Connections<K> {
         let closed = self.closed;
         self.waiting.retain(|connection| match connection.stage() {
             Stage::Waiting => now < latest(connection.accepted(), closed),
-            Stage::Ready(_) => true,
+            Stage::Ready { .. } => true,
             Stage::Lost => false,
         });
+        self.lingering.retain(|connection| now < connection.until());
     }
 
     /// Takes out the connection that is to be given on now, if one is.
@@ -162,20 +241,12 @@ impl<K: Copy> Connections<K> {
         Some(closed.saturating_add(ending).saturating_sub(now))
     }
 
-    /// How much time the connection has left that waits longest for its request. Until then none is
-    /// to be closed for its time.
+    /// How much time is left until a connection may have to be closed for its time.
     pub(crate) fn time_left(&self, now: Duration) -> Option<Duration> {
         let mut waiting = self.waiting.iter();
-        let first = waiting.find(|connection| connection.is_waiting())?;
-        Some(latest(first.accepted(), self.closed).saturating_sub(now))
-    }
-}
-
-// By when the request of a connection that was accepted then is to have come.
-fn latest(accepted: Duration, closed: Option<Duration>) -> Duration {
-    let latest = accepted.saturating_add(Duration::from_millis(ALLOWANCE_MS));
-    match closed {
-        Some(closed) => latest.min(closed.saturating_add(Duration::from_millis(GRACE_MS))),
-        None => latest,
+        let first = waiting.find(|connection| connection.is_waiting());
+        let waits = first.map(|connection| latest(connection.accepted(), self.closed));
+        let lingers = self.lingering.first().map(|connection| connection.until());
+        Some(earlier(waits, lingers)?.saturating_sub(now))
     }
 }

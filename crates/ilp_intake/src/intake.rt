@@ -2,14 +2,15 @@
 
 use crate::admission::Admission;
 use crate::connections::Connections;
-use crate::limits::{MOST_AT_ONCE, MOST_EVENTS, REST_MS};
-use crate::listener::Listener;
+use crate::limits::{MOST_AT_ONCE, MOST_EVENTS, MOST_RETURNED, REST_MS};
+use crate::listener::{Listener, NotAccepted};
 use crate::ready::ReadyConnection;
+use crate::times::earlier;
 use crate::watch::Watch;
-use mio::{Events, Interest, Poll, Token, Waker};
+use crossbeam_channel::{Receiver, Sender, bounded};
+use mio::{Events, Poll, Token, Waker};
 use std::alloc::Global;
-use std::io::ErrorKind;
-use std::net::Net;
+use std::net::{Net, TcpStream};
 use std::sync::Wait;
 use std::time::{Clock, Duration};
 use std::{io, thread};
@@ -25,9 +26,12 @@ const LOOK: Token = Token(usize::MAX - 2);
 /// decides.
 ///
 /// What no clause can say, since the system holds it: connections are accepted and read without
-/// waiting for any one client, nor for whoever takes them; at most 1,024 wait, and past that the
-/// oldest goes; each has 10 seconds in all for its request, and is closed without an answer then; and
-/// its octets, at most 81,920, take as much memory as came.
+/// waiting for any one client, nor for whoever takes them; at most so many wait as it was made for,
+/// and past that, or where the system has no descriptor for one more, the oldest goes; each has 10
+/// seconds in all for its request, and is closed without an answer then; and its octets take 81,920
+/// of memory at most, and none while nothing came. One that was answered although more of its request
+/// may come is read for a second more and to 1 MiB, which takes no memory, and counts among those that
+/// wait.
 #[derive(Drop)]
 pub struct Intake<K> {
     poll: Poll,
@@ -36,6 +40,8 @@ pub struct Intake<K> {
     listener: Option<Listener>,
     backlog: Backlog,
     connections: Connections<K>,
+    // Connections that are handed back.
+    returned: Receiver<TcpStream>,
     // For how long connections are still given on once it is closed.
     ending: Duration,
     watch: Watch,
@@ -46,6 +52,7 @@ pub struct Intake<K> {
 pub struct IntakeHandle {
     close: Waker,
     look: Waker,
+    returned: Sender<TcpStream>,
 }
 
 impl IntakeHandle {
@@ -59,41 +66,57 @@ impl IntakeHandle {
     pub fn look_again(&self) {
         let _ = self.look.wake();
     }
+
+    /// Hands back a connection that was answered although more of its request may come. The intake
+    /// reads and drops that for a second at most, and to `MOST_DROPPED` octets, and closes the
+    /// connection then, so that the answer reaches its client. It waits for nobody: where too many are
+    /// on their way, or the intake has ended, the connection is closed at once.
+    pub fn linger(&self, rt: &impl Wait, stream: TcpStream) {
+        if self.returned.try_send(rt, stream).is_ok() {
+            let _ = self.look.wake();
+        }
+    }
 }
 
 // Whether connections wait at the listener to be accepted.
 #[derive(Clone, Copy, PartialEq, Eq)]
 enum Backlog {
+    // None that is known of.
     Empty,
-    // One may wait.
+    // One waits.
     Pending,
-    // One may wait, and could not be accepted.
+    // One waits, or did, and could not be accepted.
     Blocked,
 }
 
 impl<K: Copy> Intake<K> {
-    /// The intake of a listening socket, and what reaches it. Once it is closed, connections are given
-    /// on for so long at most. Where memory is denied the error's kind is `OutOfMemory`.
+    /// The intake of a listening socket, and what reaches it. So many connections wait at most, of
+    /// which each has a descriptor: at least 1 and at most `MOST_WAITING`, whatever is asked for. Once
+    /// it is closed, connections are given on for so long at most. Where memory is denied the error's
+    /// kind is `OutOfMemory`.
     pub fn new(
         rt: &impl Net,
         alloc: Global,
         listener: Listener,
+        most: usize,
         ending: Duration,
     ) -> io::Result<(Intake<K>, IntakeHandle)> {
         let mut listener = listener;
         let poll = Poll::new(rt)?;
+        let (sender, returned) = bounded(alloc, MOST_RETURNED)?;
         let handle = IntakeHandle {
             close: Waker::new(poll.registry(), CLOSE)?,
             look: Waker::new(poll.registry(), LOOK)?,
+            returned: sender,
         };
-        poll.registry()
-            .register(&mut listener.socket, LISTENER, Interest::READABLE)?;
+        listener.register(poll.registry(), LISTENER)?;
         let intake = Intake {
             poll,
             events: Events::with_capacity(alloc, MOST_EVENTS)?,
             listener: Some(listener),
             backlog: Backlog::Empty,
-            connections: Connections::new(alloc)?,
+            connections: Connections::new(alloc, most)?,
+            returned,
             ending,
             watch: Watch::new(),
         };
@@ -103,7 +126,7 @@ impl<K: Copy> Intake<K> {
     /// The next connection that is to be given on: of those whose request has come whole, is refused
     /// as it stands, or whose client sends nothing more, the one that is admitted. Waits until there
     /// is one. None once the intake was closed and no connection waits, or its time is over: those
-    /// that wait then are closed with it.
+    /// that wait then are closed with it, as are those that linger.
     pub fn next<R: Clock + Wait, D: Admission<Kind = K>>(
         &mut self,
         rt: &R,
@@ -129,20 +152,27 @@ impl<K: Copy> Intake<K> {
     }
 
     // Waits until events come or a connection's time is up, and handles both.
-    fn handle_events<D: Admission<Kind = K>>(&mut self, rt: &impl Clock, admission: &mut D) {
+    fn handle_events<R: Clock + Wait, D: Admission<Kind = K>>(
+        &mut self,
+        rt: &R,
+        admission: &mut D,
+    ) {
         let timeout = self.poll_timeout();
         if self.poll.poll(&mut self.events, timeout).is_err() {
             thread::sleep(rt, Duration::from_millis(REST_MS));
         }
         let now = self.watch.read(rt);
-        let mut closing = false;
+        let (mut closing, mut returning) = (false, false);
         for event in self.events.iter() {
             match event.token() {
                 LISTENER => self.backlog = Backlog::Pending,
                 CLOSE => closing = true,
-                LOOK => {}
-                Token(number) => self.connections.read(number, admission),
+                LOOK => returning = true,
+                Token(number) => self.connections.handle_event(number, admission),
             }
+        }
+        if returning {
+            self.take_returned(rt, now);
         }
         // Connections that came before the close are accepted.
         if closing || self.backlog != Backlog::Empty {
@@ -173,31 +203,46 @@ impl<K: Copy> Intake<K> {
         }
     }
 
+    // Takes back connections that were answered although more of their requests may come. There is an
+    // event for each that comes behind these.
+    fn take_returned(&mut self, rt: &impl Wait, now: Duration) {
+        for _ in 0..MOST_RETURNED {
+            let Ok(stream) = self.returned.try_recv(rt) else {
+                return;
+            };
+            self.connections.linger(self.poll.registry(), stream, now);
+        }
+    }
+
     // Accepts the connections that wait at the listener, some of them where there are many.
+    //
+    // Where the system is short of descriptors it says so also while none waits. So a connection is
+    // given up only for one that is known to wait, and else the listener's event tells whether one does.
     fn accept_pending(&mut self, now: Duration) {
-        let Some(listener) = &self.listener else {
+        let Some(listener) = &mut self.listener else {
             return;
         };
+        let registry = self.poll.registry();
+        let mut one_waits = self.backlog != Backlog::Empty;
+        self.backlog = Backlog::Empty;
         for _ in 0..MOST_AT_ONCE {
-            match listener.socket.accept() {
-                Ok((stream, _)) => self.connections.add(self.poll.registry(), stream, now),
-                Err(error) => {
-                    self.backlog = match error.kind() {
-                        ErrorKind::WouldBlock => Backlog::Empty,
-                        _ => Backlog::Blocked,
-                    };
+            match listener.accept() {
+                Ok(stream) => {
+                    self.connections.add(registry, stream, now);
+                    one_waits = false;
+                }
+                Err(NotAccepted::Lost) => one_waits = false,
+                Err(NotAccepted::NoneWaits) => return,
+                Err(NotAccepted::Short) if one_waits && self.connections.give_up_one() => {}
+                Err(NotAccepted::Short) if !one_waits => break,
+                Err(NotAccepted::Short | NotAccepted::Failed) => {
+                    self.backlog = Backlog::Blocked;
                     return;
                 }
             }
         }
-    }
-}
-
-// The shorter of two times, where there are any.
-fn earlier(one: Option<Duration>, other: Option<Duration>) -> Option<Duration> {
-    match (one, other) {
-        (Some(one), Some(other)) => Some(one.min(other)),
-        (one, None) => one,
-        (None, other) => other,
+        if listener.ask_again(registry, LISTENER).is_err() {
+            self.backlog = Backlog::Blocked;
+        }
     }
 }

@@ -6,14 +6,18 @@
 mod admission;
 mod connection;
 mod connections;
+mod incoming;
 mod intake;
 mod limits;
+mod lingering;
 mod listener;
 mod ready;
+mod stage;
+mod times;
 mod watch;
 
 pub use admission::Admission;
 pub use intake::{Intake, IntakeHandle};
-pub use limits::{ALLOWANCE_MS, GRACE_MS, MOST_WAITING};
+pub use limits::{ALLOWANCE_MS, GRACE_MS, LINGER_MS, MOST_DROPPED, MOST_WAITING};
 pub use listener::{Listener, listen};
 pub use ready::ReadyConnection;

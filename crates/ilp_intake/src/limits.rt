@@ -1,7 +1,8 @@
 //! How many connections wait, and for how long.
 
-/// How many connections wait at an intake. When one more comes, the one that has waited longest for
-/// its request is closed without an answer.
+/// How many connections wait at an intake at most, those that linger among them. When one more comes,
+/// one that lingers is closed, or else the one that has waited longest for its request, without an
+/// answer.
 pub const MOST_WAITING: usize = 1_024;
 
 /// How long a request may take to come, in milliseconds from the moment at which its connection was
@@ -10,6 +11,16 @@ pub const ALLOWANCE_MS: u64 = 10_000;
 
 /// How long a request may still take to come once the intake is closed, in milliseconds.
 pub const GRACE_MS: u64 = 1_000;
+
+/// How long a connection lingers that was answered although more of its request may come, in
+/// milliseconds. What comes is read and dropped, so that the answer is not lost by a reset.
+pub const LINGER_MS: u64 = 1_000;
+
+/// How many octets are read and dropped of a connection that lingers. Then it is closed.
+pub const MOST_DROPPED: usize = 1_048_576;
+
+// How many connections may be on their way back to an intake.
+pub(crate) const MOST_RETURNED: usize = 128;
 
 // How many connections are accepted before others are read: as many as the system has wait at a
 // listening socket of std.

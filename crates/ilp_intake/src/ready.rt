@@ -15,4 +15,7 @@ pub struct ReadyConnection<K> {
     pub left: Duration,
     /// Of which kind it is.
     pub kind: K,
+    /// Whether its request was refused as it stands, so that more of it may come. Once it is answered
+    /// it is to be handed back (`IntakeHandle::linger`).
+    pub refused: bool,
 }
