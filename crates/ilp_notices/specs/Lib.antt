@@ -1,0 +1,3 @@
+pub mod TimeText
+pub mod Pace
+pub mod Marks

@@ -1,0 +1,76 @@
+//! All that is told of one running connector.
+
+use crate::journal::Fullness;
+use crate::peers::OfPeer;
+use crate::rejects::Rejects;
+use crate::repeated::Repeated;
+use crate::work::Work;
+use ilp_accounts::Config;
+use std::alloc::{AllocError, Global};
+use std::io::Eprint;
+use std::sync::Wait;
+use std::time::Clock;
+
+/// What an operator is told on standard error of a running connector with one configuration. Threads
+/// share it by reference. A peer that the configuration does not have is passed over in each call.
+///
+/// What fails again and again is told at once, and then 1, 2, 4 and up to 60 seconds after the last
+/// line on it, with how many failures were left out since; and once more when it is over, with how
+/// many there were. What was well for 60 seconds begins at 1 second again. Who finds that it is over
+/// is `look`.
+#[derive(Drop)]
+pub struct Notices {
+    pub(crate) peers: Vec<OfPeer>,
+    pub(crate) work: Work,
+    pub(crate) fullness: Fullness,
+    pub(crate) clock: Repeated,
+    rejects: Rejects,
+}
+
+impl Notices {
+    /// Nothing was told yet. This takes all the memory that there is need of; `AllocError` tells that
+    /// memory is short.
+    pub fn new(alloc: Global, config: &Config) -> Result<Notices, AllocError> {
+        let mut peers = Vec::new(alloc);
+        for _peer in 0..config.peers() {
+            peers.push(OfPeer::new())?;
+        }
+        Ok(Notices {
+            peers,
+            work: Work::new(),
+            fullness: Fullness::new(),
+            clock: Repeated::new(),
+            rejects: Rejects::new(alloc, config.peers())?,
+        })
+    }
+
+    /// Counts a Reject with this code that went to this peer.
+    pub fn rejected(&self, rt: &impl Wait, peer: u32, code: [u8; 3]) {
+        if (peer as usize) < self.peers.len() {
+            self.rejects.count(rt, peer, code);
+        }
+    }
+
+    /// Tells what is over, and once a minute how many Rejects went to each peer. Somebody calls it each
+    /// second.
+    pub fn look<R: Clock + Eprint + Wait>(&self, rt: &R, config: &Config) {
+        self.tell_over(rt, config);
+        if self.rejects.are_due(rt) {
+            self.rejects.tell(rt, config);
+        }
+    }
+
+    /// Tells what is over, and at once of the Rejects that no line told of, since the connector ends.
+    pub fn last_look<R: Clock + Eprint + Wait>(&self, rt: &R, config: &Config) {
+        self.tell_over(rt, config);
+        self.rejects.tell(rt, config);
+    }
+
+    fn tell_over<R: Clock + Eprint>(&self, rt: &R, config: &Config) {
+        for peer in 0..config.peers() {
+            self.tell_reached(rt, config, peer);
+        }
+        self.work.tell_over(rt);
+        self.tell_clock_right(rt);
+    }
+}

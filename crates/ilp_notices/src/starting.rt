@@ -1,0 +1,100 @@
+//! What is told once: how the connector begins and ends.
+ghost use Rattle.std.specs.Prelude.{◌<◌, length};
+
+use crate::line::{Level, tell};
+use ilp_accounts::Config;
+use std::fmt::Display;
+use std::io::{Eprint, ErrorKind};
+use std::time::Clock;
+use std::{fmt, io};
+
+/// Tells that the connector listens: where, with how many workers, and for which peers.
+pub fn listening<R: Clock + Eprint>(rt: &R, config: &Config) {
+    tell(rt, Level::Info, WhereAndWho(config));
+}
+
+/// Tells what one worker alone can't do, where there is only one.
+pub fn one_worker<R: Clock + Eprint>(rt: &R, config: &Config) {
+    if config.workers() == 1 {
+        tell(
+            rt,
+            Level::Warn,
+            "one worker: while it waits for a peer or an engine, settlements, reports and the close wait too",
+        );
+    }
+}
+
+/// Tells that an address can't be listened at, and why.
+pub fn not_listening<R: Clock + Eprint>(rt: &R, place: &str, error: &io::Error) {
+    if error.kind() == ErrorKind::InvalidInput {
+        let text = format_args!("can't listen at {place}: it is no IP:PORT in digits");
+        tell(rt, Level::Error, text);
+    } else {
+        tell(
+            rt,
+            Level::Error,
+            format_args!("can't listen at {place}: {error}"),
+        );
+    }
+}
+
+/// Tells that a thread can't be started.
+pub fn no_thread<R: Clock + Eprint>(rt: &R) {
+    tell(rt, Level::Error, "a thread can't be started");
+}
+
+/// Tells that no connection is accepted any more.
+pub fn closing<R: Clock + Eprint>(rt: &R) {
+    tell(
+        rt,
+        Level::Info,
+        "closing: no connection is accepted any more",
+    );
+}
+
+/// Tells that the process may have so many open files at most, and how many it may need.
+pub fn few_files<R: Clock + Eprint>(rt: &R, limit: u64, wanted: u64) {
+    let text = format_args!(
+        "open files: {limit} at most, and this configuration may need {wanted}: set ulimit -n {wanted}"
+    );
+    tell(rt, Level::Warn, text);
+}
+
+/// Tells that the report goes to standard error.
+pub fn report_follows<R: Clock + Eprint>(rt: &R) {
+    tell(
+        rt,
+        Level::Error,
+        "the report can't be written to standard output, and follows here",
+    );
+}
+
+// The line on a connector that listens.
+#[derive(Clone, Copy)]
+struct WhereAndWho<'c>(&'c Config);
+
+impl Display for WhereAndWho<'_> {
+    fn fmt<W: fmt::Write>(&self, f: &mut fmt::Formatter<W>) -> fmt::Result {
+        let config = self.0;
+        let (peers_at, engines_at) = (config.listen(), config.engine_listen());
+        let (workers, peers) = (config.workers(), config.peers());
+        write!(
+            f,
+            "listening at {peers_at} for peers and at {engines_at} for engines: {workers} workers, {peers} peers"
+        )?;
+        for peer in 0..config.peers() {
+            write_peer(f, config, peer)?;
+        }
+        Ok(())
+    }
+}
+
+fn write_peer<W: fmt::Write>(f: &mut fmt::Formatter<W>, config: &Config, peer: u32) -> fmt::Result
+    requires { peer < length config.now.peers }
+{
+    let name = config.name(peer);
+    match config.engine(peer) {
+        Some(engine) => write!(f, ", {name} with the engine at {engine}"),
+        None => write!(f, ", {name} without an engine"),
+    }
+}
