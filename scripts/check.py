@@ -7,21 +7,24 @@
 
 Each case has a configuration, ports and tokens of its own, runs `connector serve` over real sockets
 on 127.0.0.1, and is told as `ok` or by what differed from the rules (docs/PROTOCOL.md,
-docs/OPERATING.md). The exit status is 1 where one differs, and 2 where the arguments are not
-understood. Without names all cases are played, which takes some four minutes. It needs Linux and
-Python 3.11, and shares nothing with the crates.
+docs/OPERATING.md). At its end each line on standard error is to have one of the forms of
+scripts/cases/lines.py. The exit status is 1 where one differs, and 2 where the arguments are not
+understood. Without names all cases are played, which takes some six minutes. It needs Linux, Python
+3.11 and at least 1,512 open files, and shares nothing with the crates.
 """
 import signal
 import sys
 import time
 from pathlib import Path
 
-from cases import clients, conversations, engines, links, operating, waiting
+from cases import (bodies, clients, conversations, ending, engines, links, operating, strangers, telling,
+                   telling_of_the_book, waiting)
 from cases.case import CASES, Case, Differs
 from cases.laboratory import Laboratory
 
 # Each of them lists its cases as it is read.
-PARTS = (conversations, links, engines, clients, operating, waiting)
+PARTS = (conversations, links, engines, clients, strangers, bodies, operating, telling,
+         telling_of_the_book, waiting, ending)
 
 # In seconds; the longest case takes some 20.
 MOST_OF_A_CASE = 90
@@ -38,7 +41,7 @@ def play(binary: Path, case: Case) -> tuple[str | None, list[str]]:
     with Laboratory(binary) as laboratory:
         try:
             case(laboratory)
-            laboratory.check_secrets()
+            laboratory.check_errors()
             return None, []
         except (Differs, OSError) as differs:
             what = str(differs) if isinstance(differs, Differs) else f"a connection: {differs!r}"
@@ -68,7 +71,7 @@ def main(arguments: list[str]) -> int:
         return 0
     if arguments == ["--list"]:
         for name, one in CASES.items():
-            print(f"{name}: {(one.__doc__ or '').strip()}")
+            print(f"{name}: {' '.join((one.__doc__ or '').split())}")
         return 0
     names = arguments[1:] or list(CASES)
     unknown = [name for name in names if name not in CASES]

@@ -4,7 +4,7 @@ from concurrent.futures import ThreadPoolExecutor
 from cases.case import case, expect, expect_that, expect_within
 from cases.laboratory import (Laboratory, close, credit, expect_packet, expect_served,
                               packet_request, send_packet)
-from cases.messages import (bearer, created, moment_of, now, packet, post, request, response,
+from cases.messages import (HERE, bearer, created, moment_of, now, packet, post, request, response,
                             sent, soon)
 from cases.program import Program, numbers_in, secret
 from cases.stand_ins import (FULFILLS, answers, answers_packet, closes, engine_of,
@@ -278,4 +278,5 @@ def message_to_a_silent_engine(laboratory: Laboratory) -> None:
         laboratory.engine.await_count("/accounts/bob/messages", 1)
         expect_served(program)
         expect("bob's message", told.result(), response(200, T01))
+    program.await_told(f"warn engine of bob at {HERE}:{setup.engine}: no answer in time")
     close(program)

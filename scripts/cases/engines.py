@@ -1,22 +1,17 @@
-"""Settlements that the server asks of engines which answer late, wrongly, or not at all."""
+"""Settlements that the server asks of engines which answer late, wrongly, or not at all, or refuse."""
+import re
 import time
 
 from cases.case import case, expect, expect_that
-from cases.laboratory import (Laboratory, close, credit, expect_served,
-                              post_close)
-from cases.messages import created, seconds_since, sent
-from cases.program import Program, numbers_in
-from cases.stand_ins import (ACCEPTS, FULFILLS, Behaviour, answers, closes, engine_of,
-                             in_turn, never_answers)
+from cases.laboratory import AT_ONCE, Laboratory, close, credit, expect_served, post_close
+from cases.messages import HERE, created, seconds_since, sent
+from cases.program import Program, Setup, numbers_in
+from cases.stand_ins import (ACCEPTS, FULFILLS, Behaviour, StandIn, answers, closes, engine_of,
+                             in_turn, never_answers, status)
 from connections import JSON, quantity
 
 SETTLEMENTS = "/accounts/bob/settlements"
 ACCOUNTS = "/accounts"
-
-
-def status(code: int) -> Behaviour:
-    """Answers a status alone."""
-    return answers(f"HTTP/1.1 {code} So\r\nContent-Length: 0\r\n\r\n".encode())
 
 
 def owe(laboratory: Laboratory, settles: Behaviour, account: Behaviour = ACCEPTS) -> Program:
@@ -83,20 +78,12 @@ def engine_that_is_not_there(laboratory: Laboratory) -> None:
     laboratory.engine.close()
     expect("a credit", credit(program, 1000), created(quantity(1000, 2)))
     expect_served(program, amount=10)
-    await_line(program, "bob")
+    program.await_told(f"warn engine of bob at {HERE}:{program.setup.engine}: not reached: .+")
     post_close(program)
     # The settlement stays open, asked for before the packet or after it; or no turn came to it.
     expect("the exit status", program.end(2.5), 0)
     expect_that(f"the report: {program.output()!r}",
                 numbers_in(program.output())[1] in (200, 210, 1010))
-
-
-def await_line(program: Program, word: str, within: float = 5.0) -> None:
-    """Waits for a line on standard error, after the first, that has this word."""
-    end = time.monotonic() + within
-    while not any(word in line for line in program.error_lines()[1:]):
-        expect_that(f"no line has {word!r}: {program.errors()!r}", time.monotonic() < end)
-        time.sleep(0.01)
 
 
 @case
@@ -120,16 +107,51 @@ def engine_that_never_tells_of_an_account(laboratory: Laboratory) -> None:
     expect_asked(laboratory)
 
 
+# ---- one that refuses
+
+def pay_alice_in_turns(program: Program, engine: StandIn, until: float) -> int:
+    """Owes alice a settlement again and again, each of which her engine is asked for at once."""
+    count = 0
+    while time.monotonic() < until:
+        count += 1
+        expect("alice's credit", credit(program, 1000 if count == 1 else 800, "alice", f"{count}"),
+               created(quantity(1000 if count == 1 else 800, 2)))
+        engine.await_count("/accounts/alice/settlements", count, AT_ONCE)
+        time.sleep(0.5)
+    return count
+
+
+def waits_told(program: Program) -> list[int]:
+    """How many seconds the next settlement of bob waits, line by line."""
+    form = (r"warn settlement \d+ with bob of 800: refused with the status \d{3}, and the amount is "
+            r"back; the next one waits (\d+) seconds?")
+    return [int(found[1]) for line in program.lines() if (found := re.fullmatch(form, line.said))]
+
+
 @case
-def settlement_kept_open(laboratory: Laboratory) -> None:
-    """An open settlement and its engine are told of, each not more than once a second."""
-    program = owe(laboratory, status(503))
+def engine_that_refuses(laboratory: Laboratory) -> None:
+    """An engine that refuses is asked after 1, 2, 4, .. seconds, until it accepts; another peer's
+    settlements go on meanwhile."""
+    refuses = in_turn(status(400), status(422), status(404), ACCEPTS, status(499), ACCEPTS)
+    engine, other = laboratory.stand_in(engine_of(refuses)), laboratory.stand_in(engine_of())
+    setup = Setup(engine=engine.port, engine_of_alice=other.port, top={"settle_ms": 20})
+    program = laboratory.start(setup)
+    program.await_listening()
+    expect("a credit", credit(program, 1000), created(quantity(1000, 2)))
+    engine.await_count(SETTLEMENTS, 1)
     start = time.monotonic()
-    laboratory.engine.await_count(SETTLEMENTS, 50, 20.0)
-    await_line(program, "settlement 1 with bob is kept open")
-    close(program, bob=200)
-    most = seconds_since(start) + 2
-    for beginning in ("engine of bob", "settlement 1 with bob"):
-        told = [line for line in program.error_lines() if line.startswith(beginning)]
-        what = f"{len(told)} lines on {beginning}, and not 1 to {most:.0f}"
-        expect_that(what, 1 <= len(told) <= most)
+    count = pay_alice_in_turns(program, other, start + 5.0)
+    asked = len(engine.of(SETTLEMENTS))
+    if seconds_since(start) < 6.5:
+        expect_that(f"bob's engine was asked {asked} times in 5 seconds", asked <= 3)
+    expect("alice's settlements", len(other.of("/accounts/alice/settlements")), count)
+    engine.await_count(SETTLEMENTS, 4, 6.0)
+    program.await_told(r"info settlement \d+ with bob of 800: confirmed")
+    # What was refused before counts no more.
+    expect("another credit", credit(program, 800, key="other"), created(quantity(800, 2)))
+    engine.await_count(SETTLEMENTS, 5, AT_ONCE)
+    program.await_told(r"info settlement \d+ with bob of 800: confirmed", count=2)
+    expect("the waits", waits_told(program), [1, 2, 4, 1])
+    expect("how often the account was asked for", len(engine.of(ACCOUNTS)), 1)
+    close(program, alice=200, bob=200)
+    expect("bob's settlements", len(engine.of(SETTLEMENTS)), 6)

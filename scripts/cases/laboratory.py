@@ -58,10 +58,10 @@ class Laboratory:
         return self.keep(connect(port))
 
     def start(self, setup: Setup, descriptors: int = DESCRIPTORS, errors: int | None = None,
-              argument: str | None = None) -> Program:
+              argument: str | None = None, output: int | None = None) -> Program:
         """A program that was started, and may not listen yet."""
         folder = Path(self.stack.enter_context(tempfile.TemporaryDirectory(prefix="server-check-")))
-        program = Program(self.binary, folder, setup, descriptors, errors, argument)
+        program = Program(self.binary, folder, setup, descriptors, errors, argument, output)
         self.stack.callback(program.kill)
         self.programs.append(program)
         return program
@@ -90,6 +90,12 @@ class Laboratory:
             if program.has_ended():
                 lines.append(f"it ended with status {program.child.returncode}")
         return lines
+
+    def check_errors(self) -> None:
+        """Standard error has lines of the rules, and no secret."""
+        self.check_secrets()
+        for program in self.programs:
+            program.check_lines()
 
     def check_secrets(self) -> None:
         """No token and no key is ever on standard error, and no octet that is no text."""
@@ -136,6 +142,15 @@ def credit(program: Program, amount: int, name: str = "bob", key: str | None = N
                 request(f"/accounts/{name}/settlements",
                         f"Idempotency-Key: {setup.key if key is None else key}",
                         body=quantity(amount, 2)))
+
+
+def expect_report_at_once(program: Program) -> None:
+    """A report is answered within a moment."""
+    start = time.monotonic()
+    octets = post(program.setup.engines_port, request("/report"))
+    expect_that(f"no report came: {octets!r}", octets.startswith(b"HTTP/1.1 200 OK"))
+    took = seconds_since(start)
+    expect_that(f"a report took {took:.2f} seconds", took < AT_ONCE)
 
 
 def post_close(program: Program) -> None:

@@ -1,10 +1,12 @@
 """Peers' servers that answer late, wrongly, or not at all."""
 import time
+from dataclasses import dataclass
 
 from cases.case import case, expect, expect_that, expect_within
 from cases.laboratory import (AT_ONCE, Laboratory, close, expect_packet, expect_served, post_close,
                               send_packet)
-from cases.messages import response, seconds_since, soon
+from cases.lines import BAD_200
+from cases.messages import HERE, response, seconds_since, soon
 from cases.program import Program
 from cases.stand_ins import (FULFILLS, Behaviour, answers, closes, drips, in_turn,
                              never_answers)
@@ -16,37 +18,69 @@ SHORT = 3000
 LEAST_HOLD, MOST_HOLD = 1.7, 3.2
 
 OK = "HTTP/1.1 200 OK\r\n"
-FAULTS: list[tuple[str, Behaviour]] = [
-    ("100,000 octets", answers(f"{OK}Content-Length: 100000\r\n\r\n".encode() + bytes(100_000))),
-    ("100,000 octets without a length", answers(f"{OK}\r\n".encode() + bytes(100_000))),
-    ("a head without an end", answers(OK.encode() + b"X: " + b"a" * 20_000)),
-    ("65 fields", answers((OK + "X: a\r\n" * 65 + "\r\n").encode())),
-    ("rubbish", answers(b"hello")),
-    ("nothing", closes),
-    ("status 500", answers(b"HTTP/1.1 500 No\r\nContent-Length: 35\r\n\r\n" + FULFILL)),
-    ("status 201", answers(b"HTTP/1.1 201 Made\r\nContent-Length: 35\r\n\r\n" + FULFILL)),
-    ("status 100", answers(b"HTTP/1.1 100 Go on\r\n\r\n" + response(200, FULFILL))),
-    ("status 302", answers(b"HTTP/1.1 302 Found\r\nLocation: /\r\nContent-Length: 0\r\n\r\n")),
-    ("chunks", answers(f"{OK}Transfer-Encoding: chunked\r\n\r\n23\r\n".encode() + FULFILL
-                       + b"\r\n0\r\n\r\n")),
-    ("an end in the body", answers(f"{OK}Content-Length: 36\r\n\r\n".encode() + FULFILL)),
-    ("two lengths", answers((OK + "Content-Length: 35\r\n" * 2 + "\r\n").encode() + FULFILL)),
-    ("a body that is no packet", answers(response(200, b"\x0c"))),
-    ("a Prepare", answers(response(200, prepare()))),
-    ("an empty body", answers(response(200))),
+
+
+@dataclass(frozen=True)
+class Fault:
+    """An answer that is none, and the level and the form of the text with which it is told."""
+
+    what: str
+    behaviour: Behaviour
+    level: str
+    why: str
+
+
+def no_http(what: str, behaviour: Behaviour) -> Fault:
+    """What can't be used as HTTP."""
+    return Fault(what, behaviour, "warn", "no response of HTTP: .+")
+
+
+def other_status(code: int, octets: bytes) -> Fault:
+    """A status that is no answer."""
+    return Fault(f"status {code}", answers(octets), "warn", f"status {code}")
+
+
+def no_packet(what: str, octets: bytes) -> Fault:
+    """A 200 without a Fulfill or a Reject."""
+    return Fault(what, answers(octets), "error", BAD_200)
+
+
+FAULTS = [
+    no_http("100,000 octets",
+            answers(f"{OK}Content-Length: 100000\r\n\r\n".encode() + bytes(100_000))),
+    no_http("100,000 octets without a length", answers(f"{OK}\r\n".encode() + bytes(100_000))),
+    no_http("a head without an end", answers(OK.encode() + b"X: " + b"a" * 20_000)),
+    no_http("65 fields", answers((OK + "X: a\r\n" * 65 + "\r\n").encode())),
+    no_http("no HTTP", answers(b"hello")),
+    no_http("nothing", closes),
+    no_http("an end in the body", answers(f"{OK}Content-Length: 36\r\n\r\n".encode() + FULFILL)),
+    no_http("two lengths",
+            answers((OK + "Content-Length: 35\r\n" * 2 + "\r\n").encode() + FULFILL)),
+    other_status(500, b"HTTP/1.1 500 No\r\nContent-Length: 35\r\n\r\n" + FULFILL),
+    other_status(201, b"HTTP/1.1 201 Made\r\nContent-Length: 35\r\n\r\n" + FULFILL),
+    other_status(100, b"HTTP/1.1 100 Go on\r\n\r\n" + response(200, FULFILL)),
+    other_status(302, b"HTTP/1.1 302 Found\r\nLocation: /\r\nContent-Length: 0\r\n\r\n"),
+    no_packet("chunks", f"{OK}Transfer-Encoding: chunked\r\n\r\n23\r\n".encode() + FULFILL
+              + b"\r\n0\r\n\r\n"),
+    no_packet("a body under a Transfer-Encoding",
+              f"{OK}Transfer-Encoding: identity\r\n\r\n".encode() + FULFILL),
+    no_packet("a body that is no packet", response(200, b"\x0c")),
+    no_packet("rubbish", response(200, b"hello")),
+    no_packet("a Prepare", response(200, prepare())),
+    no_packet("an octet after a Fulfill", response(200, FULFILL + b"a")),
+    no_packet("an empty body", response(200)),
 ]
 
 
 @case
 def faults_of_a_peer(laboratory: Laboratory) -> None:
     """What is no answer is T01 at once, and the hold is released."""
-    behaviours = [behaviour for _, behaviour in FAULTS]
-    program = laboratory.serve(in_turn(*behaviours, FULFILLS))
-    for what, _ in FAULTS:
+    program = laboratory.serve(in_turn(*(fault.behaviour for fault in FAULTS), FULFILLS))
+    for fault in FAULTS:
         start = time.monotonic()
-        expect_packet(what, program, soon(), T01)
+        expect_packet(fault.what, program, soon(), T01)
         took = seconds_since(start)
-        expect_that(f"{what}: it took {took:.2f} seconds", took < 2.0)
+        expect_that(f"{fault.what}: it took {took:.2f} seconds", took < 2.0)
     expect_served(program, amount=50)
     close(program, alice=-50, bob=50)
 
@@ -73,8 +107,7 @@ def peer_that_is_not_there(laboratory: Laboratory) -> None:
         expect_packet("a packet", program, soon(), T01)
         took = seconds_since(start)
         expect_that(f"it took {took:.2f} seconds", took < 1.0)
-    told = [line for line in program.error_lines()[1:] if "bob" in line]
-    expect_that(f"no line says that bob isn't reached: {program.errors()!r}", len(told) >= 1)
+    program.await_told(f"warn peer bob at {HERE}:{program.setup.bob}: not reached: connection refused")
     close(program)
 
 
@@ -103,7 +136,7 @@ def peer_that_takes_no_connection(laboratory: Laboratory) -> None:
     start = time.monotonic()
     expect_packet("a packet", program, soon(), T01)
     expect_within("seconds", seconds_since(start), 0.9, 1.0 + AT_ONCE)
-    expect_that("the line does not say why", "not reached: timed out" in program.errors())
+    program.await_told(f"warn peer bob at {HERE}:{program.setup.bob}: not reached: timed out")
     close(program)
 
 
@@ -124,4 +157,3 @@ def peer_that_comes_late(laboratory: Laboratory) -> None:
     expect_late(program, "an answer after the deadline")
     post_close(program)
     expect("the exit status", program.end(2.5), 0)
-    laboratory.check_secrets()

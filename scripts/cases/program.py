@@ -10,10 +10,14 @@ from dataclasses import dataclass, field
 from pathlib import Path
 
 from cases.case import Differs, expect, expect_that
+from cases.lines import Line, check_lines, read_lines
 from cases.messages import HERE
 from cases.stand_ins import free_port
 
 DESCRIPTORS = 4096
+
+# Where the program runs, clocks on walls are not those of UTC.
+ZONE = "AWAY-5:45"
 RUN = "r1"
 
 
@@ -24,11 +28,14 @@ def secret() -> str:
 
 @dataclass
 class Setup:
-    """A configuration of two peers, alice and bob, as the built-in one: ports, tokens, levels."""
+    """A configuration of two peers, alice and bob, as the built-in one: ports, tokens, levels. The
+    engine is bob's."""
 
     bob: int = field(default_factory=free_port)
     alice: int = field(default_factory=free_port)
+    bob_host: str | None = None
     engine: int | None = None
+    engine_of_alice: int | None = None
     levels: bool = True
     top: dict[str, int | str] = field(default_factory=dict)
     listen: str = field(default_factory=lambda: f"{HERE}:{free_port()}")
@@ -42,6 +49,8 @@ class Setup:
     least: int = -1_000_000
     routes: dict[str, str] = field(
         default_factory=lambda: {"test.alice": "alice", "test.bob": "bob"})
+    # Tables behind those of the two.
+    further: list[str] = field(default_factory=list)
 
     @property
     def peers_port(self) -> int:
@@ -58,11 +67,16 @@ class Setup:
         """What is never on standard error."""
         return [self.token, self.bob_token, self.to_alice, self.to_bob, self.key]
 
-    def peer(self, name: str, token: str, out_token: str, port: int) -> list[str]:
+    def peer(self, name: str, token: str, out_token: str, host: str,
+             engine: int | None) -> list[str]:
         """The table of a peer."""
-        return ["[[peer]]", f'name = "{name}"', 'asset = "USD/2"', f'token = "{token}"',
-                f'out_token = "{out_token}"', f'host = "{HERE}:{port}"',
-                f'out_path = "{self.out_path}"', f"least = {self.least}"]
+        lines = ["[[peer]]", f'name = "{name}"', 'asset = "USD/2"', f'token = "{token}"',
+                 f'out_token = "{out_token}"', f'host = "{host}"',
+                 f'out_path = "{self.out_path}"', f"least = {self.least}"]
+        if engine is not None:
+            lines.append(f'engine = "{HERE}:{engine}"')
+            lines += ["threshold = 1000", "settle_to = 200"] if self.levels else []
+        return lines
 
     def text(self) -> str:
         """The configuration as TOML."""
@@ -71,14 +85,13 @@ class Setup:
         lines = [f'{name} = "{value}"' if isinstance(value, str) else f"{name} = {value}"
                  for name, value in top.items()]
         lines += ["[[asset]]", 'code = "USD"', "scale = 2"]
-        lines += self.peer("alice", self.token, self.to_alice, self.alice)
-        lines += self.peer("bob", self.bob_token, self.to_bob, self.bob)
-        if self.engine is not None:
-            lines.append(f'engine = "{HERE}:{self.engine}"')
-            lines += ["threshold = 1000", "settle_to = 200"] if self.levels else []
+        lines += self.peer("alice", self.token, self.to_alice, f"{HERE}:{self.alice}",
+                           self.engine_of_alice)
+        lines += self.peer("bob", self.bob_token, self.to_bob,
+                           self.bob_host or f"{HERE}:{self.bob}", self.engine)
         for prefix, name in self.routes.items():
             lines += ["[[route]]", f'prefix = "{prefix}"', f'peer = "{name}"']
-        return "\n".join(lines) + "\n"
+        return "\n".join(lines + self.further) + "\n"
 
 
 # The labels and names of a report of alice and bob, line by line.
@@ -98,22 +111,27 @@ def numbers_in(text: str) -> list[int]:
 
 
 class Program:
-    """`connector serve` over a configuration, or with another argument that is given."""
+    """`connector serve` over a configuration, or with another argument that is given. Its two streams
+    go to files, or to other descriptors that are given."""
 
     def __init__(self, binary: Path, folder: Path, setup: Setup, descriptors: int = DESCRIPTORS,
-                 errors: int | None = None, argument: str | None = None) -> None:
+                 errors: int | None = None, argument: str | None = None,
+                 output: int | None = None) -> None:
         self.setup = setup
         self.folder = folder
+        self.started = time.time()
         configuration = folder / "connector.toml"
         configuration.write_text(setup.text())
 
         def limit() -> None:
             resource.setrlimit(resource.RLIMIT_NOFILE, (descriptors, descriptors))
 
-        with open(folder / "stdout", "wb") as output, open(folder / "stderr", "wb") as told:
+        with open(folder / "stdout", "wb") as printed, open(folder / "stderr", "wb") as told:
             self.child = subprocess.Popen(
                 [str(binary), "serve", argument or str(configuration)], stdin=subprocess.DEVNULL,
-                stdout=output, stderr=told if errors is None else errors, preexec_fn=limit)
+                stdout=printed if output is None else output,
+                stderr=told if errors is None else errors, preexec_fn=limit,
+                env={**os.environ, "TZ": ZONE})
 
     def output(self) -> str:
         """Standard output so far."""
@@ -126,6 +144,33 @@ class Program:
     def error_lines(self) -> list[str]:
         """The lines on standard error so far."""
         return self.errors().splitlines()
+
+    def lines(self) -> list[Line]:
+        """The lines on standard error so far, as a running connector tells them."""
+        return read_lines(self.errors())
+
+    def told(self, form: str) -> list[Line]:
+        """Those of them whose level and text have this form."""
+        return [line for line in self.lines() if re.fullmatch(form, line.said)]
+
+    def await_told(self, form: str, count: int = 1, within: float = 5.0) -> list[Line]:
+        """The same, once there are so many."""
+        end = time.monotonic() + within
+        while len(lines := self.told(form)) < count:
+            expect_that(f"within {within} seconds {len(lines)} lines had the form {form!r}, and not "
+                        f"{count}: {self.error_lines()[-10:]}", time.monotonic() < end)
+            time.sleep(0.01)
+        return lines
+
+    def check_lines(self) -> None:
+        """Each line on standard error is one of a running connector, if it came to run."""
+        if not self.refused_to_run():
+            check_lines(self.errors(), self.started, time.time())
+
+    def refused_to_run(self) -> bool:
+        """Whether its configuration was refused, which is told without a time."""
+        text = self.output()
+        return text.startswith("refused ") and not text.startswith("refused 66 ")
 
     def await_listening(self, within: float = 10.0) -> None:
         """Waits for the line that says that it listens."""

@@ -37,6 +37,11 @@ def answers_packet(octets: bytes, after: float = 0.0) -> Behaviour:
     return answers(response(200, octets), after)
 
 
+def status(code: int) -> Behaviour:
+    """Answers a status alone."""
+    return answers(f"HTTP/1.1 {code} So\r\nContent-Length: 0\r\n\r\n".encode())
+
+
 FULFILLS = answers_packet(FULFILL)
 REJECTS = answers_packet(reject(b"F99"))
 ACCEPTS = answers(response(201))

@@ -1,21 +1,15 @@
 """Work that waits for a peer, and work that waits for nobody."""
 import time
-from concurrent.futures import Future, ThreadPoolExecutor
+from concurrent.futures import ThreadPoolExecutor
 
 from cases.case import case, expect, expect_that, expect_within
-from cases.laboratory import (AT_ONCE, END, Laboratory, close, credit, expect_end, packet_request,
-                              post_close, send_packet)
-from cases.messages import (bearer, connect, created, post, request, response, seconds_since, soon)
+from cases.laboratory import (AT_ONCE, END, Laboratory, close, credit, packet_request, post_close,
+                              send_packet)
+from cases.messages import bearer, created, post, request, response, seconds_since, soon
 from cases.program import Program, Setup
 from cases.stand_ins import FULFILLS, answers_packet, never_answers
 from connections import quantity
-from scenes import FULFILL, R00
-
-# In seconds; by default a worker is kept for as long as a packet is held.
-HOLD = 2.0
-
-# What is still served after a close, beside the longest hold, in seconds.
-MARGIN = 10.0
+from scenes import FULFILL
 
 
 def packet_of_bob(program: Program, octets: bytes, within: float = 5.0) -> bytes:
@@ -131,43 +125,3 @@ def two_face_to_face(laboratory: Laboratory) -> None:
     expect_within("seconds", seconds_since(start), 0.0, 25.0)
     for program in programs:
         close(program, within=END)
-
-
-@case
-def one_worker(laboratory: Laboratory) -> None:
-    """Where there is one worker alone, a line says once what that means."""
-    program = laboratory.serve(FULFILLS, workers=1)
-    expect("a packet", send_packet(program, soon(1)), response(200, FULFILL))
-    expect("how many lines say so",
-           len([line for line in program.error_lines() if line.startswith("one worker: ")]), 1)
-    close(program, alice=-1, bob=1)
-
-
-# ---- the end
-
-@case
-def close_beside_waiting_packets(laboratory: Laboratory) -> None:
-    """A close is answered and nobody is accepted any more, though packets wait for places. What has not
-    begun after the longest hold and ten seconds is closed unanswered, and nothing of it is booked."""
-    program = laboratory.serve(never_answers, workers=4, max_hold_ms=int(HOLD * 1000))
-    with ThreadPoolExecutor(20) as pool:
-        told: list[Future[bytes]] = [
-            pool.submit(send_packet, program, soon(1, milliseconds=60_000), 40.0)
-            for _ in range(20)]
-        laboratory.bob.await_count("/ilp", 1)
-        start = time.monotonic()
-        post_close(program)
-        expect_at_once("the close", start)
-        time.sleep(0.5)
-        try:
-            connect(program.setup.peers_port).close()
-            expect_that("its port still takes connections", False)
-        except OSError:
-            pass
-        replies = [one.result() for one in told]
-    expect_within("seconds until the last is answered or closed", seconds_since(start),
-                  HOLD + MARGIN - 1.0, HOLD + MARGIN + HOLD + 1.0)
-    expect("what they are answered", set(replies), {response(200, R00), b""})
-    begun = replies.count(response(200, R00))
-    expect("how many packets bob has", len(laboratory.bob.of("/ilp")), begun)
-    expect_end(program, alice=0, bob=0)

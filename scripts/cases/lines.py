@@ -1,0 +1,120 @@
+"""The lines that a running connector tells on standard error: `TIME LEVEL TEXT`, and the forms of their
+texts."""
+import datetime
+import re
+from dataclasses import dataclass
+
+from cases.case import Differs, expect_that
+
+# A time in UTC (RFC 3339), a level and a text.
+WHOLE = re.compile(r"(\d{4}-\d\d-\d\dT\d\d:\d\d:\d\d\.\d{3})Z (info|warn|error) (\S.*)")
+
+# The report's lines come after this one, without a time, where standard output fails.
+FOLLOWS = "error the report can't be written to standard output, and follows here"
+LINES_OF_A_REPORT = 11
+
+# In seconds: how far times may go back, since threads look at the clock before they write.
+SLACK = 1.0
+
+# The doublings of a wait, in seconds, and how much later a line may be on a machine with other work.
+WAITS = (1.0, 2.0, 4.0, 8.0, 16.0, 32.0, 60.0)
+EARLY, TARDY = 0.1, 1.5
+
+NAME = r"[a-z0-9_-]{1,16}"
+PLACE = r"\S{1,64}"
+SECONDS = r"(1 second|\d+ seconds)"
+WAIT = rf"\d+ (waits? )?for (peer|the engine of) {NAME}"
+MORE = r"( \(([1-9]\d*) more since the last line\))?"
+WHY = (r"(no IP:PORT in digits|not reached: .+|no answer in time|no response of HTTP: .+"
+       r"|status \d{3})")
+BAD_200 = ("a 200 without a Fulfill or a Reject that can be read: it may have fulfilled the packet, at "
+           "the connector's cost")
+KEPT_OPEN = "kept open, since its engine said neither yes nor no"
+REACHED_AGAIN = r"reached again, after (1 failure|\d+ failures)"
+
+# Each line has one of these forms, level and text.
+FORMS = [re.compile(form) for form in (
+    rf"info listening at {PLACE} for peers and at {PLACE} for engines: \d+ workers?, \d+ peers?, .+",
+    r"warn one worker: .+",
+    r"warn open files: \d+ at most, and this configuration may need \d+: set ulimit -n \d+",
+    r"error can't listen at .+: .+",
+    r"info closing: no connection is accepted any more",
+    re.escape(FOLLOWS),
+    rf"warn (peer|engine of) {NAME} at {PLACE}: {WHY}{MORE}",
+    rf"error peer {NAME} at {PLACE}: {BAD_200}{MORE}",
+    rf"info (peer|engine of) {NAME} at {PLACE}: {REACHED_AGAIN}",
+    rf"info settlement \d+ with {NAME} of \d+: confirmed",
+    rf"warn settlement \d+ with {NAME} of \d+: refused with the status 4\d\d, and the amount is back; "
+    rf"the next one waits {SECONDS}",
+    rf"warn settlement \d+ with {NAME}: {KEPT_OPEN}{MORE}",
+    rf"info credit \d+ of {NAME}: \d+",
+    rf"info rejects to {NAME}: .+",
+    rf"warn work waits for a worker, for {SECONDS} now: of \d+ workers {WAIT}(, {WAIT})*{MORE}",
+    rf"info no work waits for a worker any more, after {SECONDS}",
+    r"warn journal: \d+ of \d+ entries, (80|90) percent",
+    r"error journal: \d+ of \d+ entries, 95 percent",
+    r"error journal: full, with \d+ of \d+ entries: packets get T03, and credits 503",
+    r"error clock: \d+\.\d{3} seconds behind the last moment of the book, so that packets come too late",
+)]
+
+
+@dataclass(frozen=True)
+class Line:
+    """A line: its time in seconds since 1970, and its level and text."""
+
+    moment: float
+    said: str
+
+    def left_out(self) -> int:
+        """How many of its kind were left out before it, as its end tells."""
+        found = re.fullmatch(f".*?{MORE}", self.said)
+        return int(found[2]) if found is not None and found[2] else 0
+
+
+def read_line(text: str) -> Line:
+    """A line of a running connector."""
+    found = WHOLE.fullmatch(text)
+    if found is None:
+        raise Differs(f"a line on standard error is not TIME LEVEL TEXT: {text!r}")
+    try:
+        then = datetime.datetime.fromisoformat(found[1] + "+00:00")
+    except ValueError:
+        raise Differs(f"a line on standard error has no time of a calendar: {text!r}") from None
+    return Line(then.timestamp(), f"{found[2]} {found[3]}")
+
+
+def split_report(errors: str) -> tuple[list[str], str]:
+    """The whole lines on standard error that have a time, and the report among them."""
+    texts = errors.rpartition("\n")[0].splitlines()
+    for place, text in enumerate(texts, start=1):
+        if text.endswith(f" {FOLLOWS}"):
+            end = place + LINES_OF_A_REPORT
+            report = "".join(line + "\n" for line in texts[place:end])
+            return texts[:place] + texts[end:], report
+    return texts, ""
+
+
+def read_lines(errors: str) -> list[Line]:
+    """The whole lines on standard error that have a time."""
+    return [read_line(text) for text in split_report(errors)[0]]
+
+
+def check_lines(errors: str, first: float, last: float) -> None:
+    """Each line has one of the forms, and a time between two moments that does not go back."""
+    latest = first
+    for line in read_lines(errors):
+        expect_that(f"a line on standard error has none of the forms: {line.said!r}",
+                    any(form.fullmatch(line.said) for form in FORMS))
+        expect_that(f"the time of a line goes back from {latest} to {line.moment}: {line.said!r}",
+                    line.moment >= latest - SLACK)
+        expect_that(f"the time of a line is to come: {line.moment} at {last}: {line.said!r}",
+                    line.moment <= last + SLACK)
+        latest = max(latest, line.moment)
+
+
+def expect_longer_waits(what: str, lines: list[Line]) -> None:
+    """What repeats without an end is told again 1, 2, 4, .. seconds after the last time."""
+    for wait, before, line in zip(WAITS, lines, lines[1:]):
+        took = line.moment - before.moment
+        expect_that(f"{what}: told again after {took:.2f} seconds, and not after {wait}",
+                    wait - EARLY <= took <= wait + TARDY)
