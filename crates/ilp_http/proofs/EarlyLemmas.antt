@@ -1,15 +1,15 @@
 -- Octets that may become a request, and what they become with more behind them.
 use Rattle.std.proofs.Common.{◌≡◌, ℕ, ◌+◌, ◌-◌, ◌<◌, ◌≤◌, List, [], ◌∷◌, ◌++◌, length, get_or, take, drop, sym, ap, ◌∙◌, subst, Ok, inl, inr, refl, arith, append_assoc, length-append, length-drop}
-use Rattle.std.specs.Prelude.{Contains, nat_le}
+use Rattle.std.specs.Prelude.{nat_le}
 use Rattle.std.proofs.Math.Seq.{get_or-append_seam}
 use Rattle.std.proofs.lemmas.Bool.{cases_Bool, leb-true, leb-false}
 use Rattle.std.proofs.lemmas.List.{take-append-drop, take-append-le, take_all, append-nil, length-take-le, get_or-append_right}
 use Rattle.httparse.specs.Ascii.{line_feed, space}
-use Rattle.httparse.specs.Grammar.{LineEnd, crlf, lf, print_end, print_blank, print_version, print_field, print_section, RequestHead, print_request, HasNoRequest, MayBecomeRequest}
+use Rattle.httparse.specs.Grammar.{LineEnd, crlf, lf, print_end, print_blank, print_version, print_section, RequestHead, print_request, HasNoRequest, MayBecomeRequest}
 use Rattle.httparse.proofs.GrammarLemmas.{print_request-append}
 use Rattle.ilp_http.specs.declared.limits.TheConstants.{HEAD_LIMIT}
-use Rattle.ilp_http.specs.Request.{BeginsWithHead, HoldsRequest, EndsInHead, EndsInBody, EndsEarly, body_length}
-use Rattle.ilp_http.specs.Layout.{IsInHead, IsInBody}
+use Rattle.ilp_http.specs.Request.{BeginsWithHead, HoldsRequest, EndsInHead, EndsEarly, body_length}
+use Rattle.ilp_http.specs.Layout.{HasLineFeed, TakesLineFeed, IsInHead, IsInBody}
 use Rattle.ilp_http.proofs.HeadLemmas.{BeginsWithHead-append, small-body}
 
 -- ---- a head ends in a line feed
@@ -47,7 +47,7 @@ head_within octets more front rest same within =
 
 -- what ends past the first octets has its line feed in those that follow
 line_feed_past : (octets more front rest : List ℕ) → octets ++ more ≡ front ++ rest → length octets < length front → EndsInLineFeed front
-    → Contains more line_feed
+    → HasLineFeed more
 line_feed_past octets more front rest same past ends =
     let at = length ends.0 in
     let size : length front ≡ at + 1 = ap length ends.1 ∙ length-append ends.0 (line_feed ∷ []) in
@@ -60,7 +60,7 @@ line_feed_past octets more front rest same past ends =
     )
 
 -- octets that hold no head become a request by a line feed
-line_feed_for_request : (octets more : List ℕ) → HasNoRequest octets → HoldsRequest (octets ++ more) → Contains more line_feed
+line_feed_for_request : (octets more : List ℕ) → HasNoRequest octets → HoldsRequest (octets ++ more) → HasLineFeed more
 line_feed_for_request octets more none holds =
     let front = print_request holds.0 in
     let reads = holds.3.begins.reads in
@@ -68,6 +68,14 @@ line_feed_for_request octets more none holds =
       | inl within ↦ absurd (none holds.0 _ (reads.0, head_within octets more front (holds.1 ++ holds.2) reads.1 (leb-true (length front) (length octets) within)))
       | inr past ↦ line_feed_past octets more front (holds.1 ++ holds.2) reads.1 (leb-false (length front) (length octets) past) (head_end holds.0)
     ]
+
+-- no octets are no head
+pub TakesLineFeed-none : TakesLineFeed []
+TakesLineFeed-none more =
+    line_feed_for_request [] more (λ head rest reads.
+    let end = head_end head in
+    let front = print_request head in
+    absurd (omega (arith, ap length reads.1, length-append front rest, ap length end.1, length-append end.0 (line_feed ∷ []))))
 
 -- ---- octets that may become a request
 

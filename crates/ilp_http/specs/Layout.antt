@@ -29,10 +29,18 @@ pub record IsLayoutAt (octets : List ℕ) (spans : List HeaderSpan) (layout : La
 abbrev pub IsLayoutOf : List ℕ → List HeaderSpan → Layout → Type 0
 IsLayoutOf octets spans layout = (head : RequestHead) × (rest : List ℕ) × IsLayoutAt octets spans layout head rest
 
--- the octets begin a head, and what makes them a request has a line feed
+-- a line feed is among the octets
+abbrev pub HasLineFeed : List ℕ → Type 0
+HasLineFeed octets = Contains octets line_feed
+
+-- what makes the octets a request has a line feed
+abbrev pub TakesLineFeed : List ℕ → Type 0
+TakesLineFeed octets = (more : List ℕ) → HoldsRequest (octets ++ more) → HasLineFeed more
+
+-- the octets begin a head, and are no request before a line feed comes
 pub record IsInHead (octets : List ℕ) : Type 0 where
   pub ends : EndsInHead octets
-  pub takes_line_feed : (more : List ℕ) → HoldsRequest (octets ++ more) → Contains more line_feed
+  pub takes_line_feed : TakesLineFeed octets
 
 -- the octets have a head, and with those that follow are a request once they are so many
 pub record IsInBody (octets : List ℕ) (whole : ℕ) : Type 0 where

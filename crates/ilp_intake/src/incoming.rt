@@ -1,6 +1,8 @@
 //! The octets of a request as they come.
-ghost use Rattle.std.specs.Prelude.{◌≤◌, vec_len};
+ghost use Rattle.std.specs.Prelude.{◌≡◌, ◌-◌, ◌≤◌, ◌++◌, [], take, drop, length, vec_len, IfOk, OnOk, IsFalse};
+ghost use Rattle.ilp_http.specs.Layout.{HasLineFeed};
 ghost use Rattle.ilp_http.specs.declared.limits.TheConstants.{BUFFER_LENGTH};
+ghost use Rattle.ilp_intake.specs.Incoming.{Wants, Are};
 
 use ilp_http::{BUFFER_LENGTH, HEAD_LIMIT, Look, look_at};
 use std::alloc::{AllocError, Global};
@@ -20,6 +22,7 @@ pub(crate) struct Incoming {
     limit: usize,
     ghost short: { vec_len octets ≤ limit },
     ghost bounded: { limit ≤ BUFFER_LENGTH },
+    ghost wants: { ∥ Wants octets.items limit wanted ∥₁ },
 }
 
 // What has to come before a look can find a whole request.
@@ -44,7 +47,9 @@ pub(crate) enum Arrival {
 
 impl Incoming {
     /// None yet. Takes no memory.
-    pub(crate) fn new(alloc: Global) -> Incoming {
+    pub(crate) fn new(alloc: Global) -> Incoming
+        ensures { result.octets.items ≡ [] }
+    {
         Incoming {
             octets: Vec::new(alloc),
             wanted: Wanted::LineFeed { seen: 0 },
@@ -54,7 +59,11 @@ impl Incoming {
 
     /// Adds a piece that came, and tells what the octets are now. Of a piece that goes on behind the
     /// body, what stands there is dropped.
-    pub(crate) fn add(&mut self, piece: &[u8]) -> Result<Arrival, AllocError> {
+    pub(crate) fn add(&mut self, piece: &[u8]) -> Result<Arrival, AllocError>
+        ensures told { IfOk result (Are self.new.octets.items) }
+        ensures added { OnOk result (self.new.octets.items
+            ≡ self.old.octets.items ++ take (self.old.limit - vec_len self.old.octets) piece.now) }
+    {
         let kept = piece.len().min(self.limit - self.octets.len());
         self.octets.extend_from_slice(&piece[..kept])?;
         match self.wanted {
@@ -66,7 +75,10 @@ impl Incoming {
     }
 
     // Looks at the octets, and keeps what the look found.
-    fn look(&mut self) -> Result<Arrival, AllocError> {
+    fn look(&mut self) -> Result<Arrival, AllocError>
+        ensures told { IfOk result (Are self.new.octets.items) }
+        ensures same { self.new.octets.items ≡ self.old.octets.items }
+    {
         match look_at(self.octets.as_slice()) {
             Look::Whole => Ok(Arrival::Whole),
             Look::InHead => {
@@ -86,12 +98,16 @@ impl Incoming {
     }
 
     /// The octets that are kept.
-    pub(crate) fn octets(&self) -> &[u8] {
+    pub(crate) fn octets(&self) -> &[u8]
+        ensures { result.now ≡ self.now.octets.items }
+    {
         self.octets.as_slice()
     }
 
     /// The octets that are kept, in their memory.
-    pub(crate) fn into_octets(self) -> Vec<u8> {
+    pub(crate) fn into_octets(self) -> Vec<u8>
+        ensures { result.items ≡ self.octets.items }
+    {
         let Incoming {
             octets,
             wanted: _,
@@ -104,7 +120,10 @@ impl Incoming {
 // Whether octets may have a head by now, or be refused, where so many of them began one. Only a line
 // feed ends a head. What can never become one is found once there are twice as many, and a head that
 // is too long once there are as many as the longest has.
-fn may_hold_head(seen: usize, octets: &[u8]) -> bool {
-    let came = &octets[seen.min(octets.len())..];
+fn may_hold_head(seen: usize, octets: &[u8]) -> bool
+    requires { seen ≤ length octets.now }
+    ensures { IsFalse result → ¬ (HasLineFeed (drop seen octets.now)) }
+{
+    let came = &octets[seen..];
     came.contains(&b'\n') || octets.len() / 2 >= seen || octets.len() >= HEAD_LIMIT
 }
