@@ -23,13 +23,16 @@ TRIES = 6.0
 
 
 def post_all_first(what: str, port: int, head: bytes, octets: int) -> bytes:
-    """What is answered to a client that sends a head and so many octets before it reads."""
+    """What is answered to a client that sends a head and so many octets before it reads. It may be
+    closed before it has sent all; the answer came before that."""
     with connect(port, 10.0) as link:
         try:
             link.sendall(head)
             link.sendall(bytes(octets))
+        except (BrokenPipeError, ConnectionResetError):
+            pass
         except OSError as fault:
-            raise Differs(f"{what}: not all could be sent: {fault!r}") from None
+            raise Differs(f"{what}: it could not be sent: {fault!r}") from None
         return read_to_end(link)
 
 

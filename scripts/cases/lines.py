@@ -49,7 +49,7 @@ FORMS = [re.compile(form) for form in (
     rf"warn settlement \d+ with {NAME}: {KEPT_OPEN}{MORE}",
     rf"info credit \d+ of {NAME}: \d+",
     rf"info rejects to {NAME}: .+",
-    rf"warn work waits for a worker, for {SECONDS} now: of \d+ workers {WAIT}(, {WAIT})*{MORE}",
+    rf"warn work waits for a worker, for {SECONDS} now: of \d+ workers? {WAIT}(, {WAIT})*{MORE}",
     rf"info no work waits for a worker any more, after {SECONDS}",
     r"warn journal: \d+ of \d+ entries, (80|90) percent",
     r"error journal: \d+ of \d+ entries, 95 percent",

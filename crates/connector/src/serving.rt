@@ -3,7 +3,8 @@
 use crate::Exit;
 use crate::configuring::configured;
 use ilp_connector::Refusal;
-use ilp_links::{Hurry, Notices, SystemClock, TcpLinks};
+use ilp_links::{Hurry, SystemClock, TcpLinks};
+use ilp_notices::Notices;
 use ilp_running::{ServeFault, serve};
 use std::io;
 use std::net::{Net, TcpListener, TcpStream};

@@ -5,9 +5,9 @@ ghost use Rattle.ilp_server.specs.declared.quantity.TheConstants.{LONGEST_QUANTI
 use crate::calling::call_hurried;
 use crate::hurry::Hurry;
 use crate::no_answer::NoAnswer;
-use crate::notices::Notices;
 use ilp_accounts::Config;
 use ilp_http::{Buffer, Outgoing, Response};
+use ilp_notices::Notices;
 use ilp_oer::Octets;
 use ilp_server::{
     LONGEST_QUANTITY, account_head, account_text, has_account, message_head, message_reply,
@@ -28,7 +28,8 @@ const ENGINE_WAIT: u64 = 10_000;
 ///
 /// A peer that is unknown or has no engine in the configuration has no account; a settlement with it
 /// is Unknown and a message to it a fault, and nothing is sent. So it is where the engine gives no
-/// answer that can be used, which is told to the notices.
+/// answer that can be used, which is told to the notices. They are told too of an answer that can be
+/// used, and with which status a settlement was refused.
 #[derive(Drop)]
 pub struct EngineWay<'c, R: Copy> {
     rt: R,
@@ -68,8 +69,15 @@ impl<'c, R: Copy> EngineWay<'c, R> {
 impl<R: Net<Stream = TcpStream> + Clock + Eprint + Copy> EngineWay<'_, R> {
     // Tells why the peer's engine gave no answer that can be used.
     fn tell(&self, peer: u32, why: NoAnswer) {
-        self.notices
-            .no_answer_of_engine(&self.rt, self.config, peer, why);
+        self.notices.engine_failed(&self.rt, self.config, peer, why);
+    }
+
+    // Notes what the peer's engine said of a settlement.
+    fn note(&self, peer: u32, said: Said) {
+        self.notices.engine_answered(peer);
+        if said.reply == EngineReply::Refused {
+            self.notices.settlement_refused_with(peer, said.status);
+        }
     }
 }
 
@@ -80,6 +88,7 @@ impl<R: Net<Stream = TcpStream> + Clock + Eprint + Copy> EngineLink for EngineWa
         };
         let text = account_text(self.config, peer);
         let head = account_head(engine);
+        self.notices.waits_for_engine(peer);
         let came = call_engine(
             &self.rt,
             self.hurry,
@@ -88,8 +97,12 @@ impl<R: Net<Stream = TcpStream> + Clock + Eprint + Copy> EngineLink for EngineWa
             text.as_slice(),
             &mut self.buffer,
         );
+        self.notices.engine_is_over(peer);
         match came.and_then(account_in) {
-            Ok(()) => true,
+            Ok(()) => {
+                self.notices.engine_answered(peer);
+                true
+            }
             Err(why) => {
                 self.tell(peer, why);
                 false
@@ -105,9 +118,14 @@ impl<R: Net<Stream = TcpStream> + Clock + Eprint + Copy> EngineLink for EngineWa
         let target = settlements_target(self.config, peer);
         let head = settlement_head(engine, &target, key);
         let body = self.quantity.as_slice();
+        self.notices.waits_for_engine(peer);
         let came = call_engine(&self.rt, self.hurry, engine, &head, body, &mut self.buffer);
-        match came.and_then(reply_in) {
-            Ok(reply) => reply,
+        self.notices.engine_is_over(peer);
+        match came.and_then(said_in) {
+            Ok(said) => {
+                self.note(peer, said);
+                said.reply
+            }
             Err(why) => {
                 self.tell(peer, why);
                 EngineReply::Unknown
@@ -126,6 +144,7 @@ impl<R: Net<Stream = TcpStream> + Clock + Eprint + Copy> EngineLink for EngineWa
         };
         let target = messages_target(self.config, peer);
         let head = message_head(engine, &target);
+        self.notices.waits_for_engine(peer);
         let came = call_engine(
             &self.rt,
             self.hurry,
@@ -134,8 +153,12 @@ impl<R: Net<Stream = TcpStream> + Clock + Eprint + Copy> EngineLink for EngineWa
             octets,
             &mut self.buffer,
         );
+        self.notices.engine_is_over(peer);
         match came.and_then(answer_in) {
-            Ok(answer) => reply.append(answer).map_err(|_| LinkFault),
+            Ok(answer) => {
+                self.notices.engine_answered(peer);
+                reply.append(answer).map_err(|_| LinkFault)
+            }
             Err(why) => {
                 self.tell(peer, why);
                 Err(LinkFault)
@@ -176,11 +199,19 @@ fn account_in(response: Response<'_>) -> Result<(), NoAnswer> {
     }
 }
 
+// What an engine says of a settlement, and with which status.
+#[derive(Clone, Copy)]
+struct Said {
+    reply: EngineReply,
+    status: u16,
+}
+
 // What the engine says of the settlement, where that is known.
-fn reply_in(response: Response<'_>) -> Result<EngineReply, NoAnswer> {
+fn said_in(response: Response<'_>) -> Result<Said, NoAnswer> {
+    let status = response.status;
     match settlement_reply(Ok(response)) {
-        EngineReply::Unknown => Err(NoAnswer::Status(response.status)),
-        reply => Ok(reply),
+        EngineReply::Unknown => Err(NoAnswer::Status(status)),
+        reply => Ok(Said { reply, status }),
     }
 }
 

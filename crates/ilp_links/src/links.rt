@@ -2,9 +2,9 @@
 
 use crate::engine_way::EngineWay;
 use crate::hurry::Hurry;
-use crate::notices::Notices;
 use crate::peer_link::PeerLink;
 use ilp_accounts::Config;
+use ilp_notices::Notices;
 use ilp_workers::{Clock, EngineLink, Uplink};
 use std::alloc::AllocError;
 use std::io::Eprint;
@@ -34,10 +34,13 @@ pub trait Links {
     /// By this the links are told that all requests are answered and the connector ends: no engine is
     /// to keep it waiting for long from then on.
     fn hurry(&self) -> &Hurry;
+
+    /// What is told on standard error of peers and engines, and of the connector beside them.
+    fn notices(&self) -> &Notices;
 }
 
-/// The links over TCP of a connector with this configuration, which tell its notices of peers and
-/// engines that give no answer.
+/// The links over TCP of a connector with this configuration, which tell its notices what comes of
+/// calls of peers and engines.
 #[derive(Clone, Copy)]
 pub struct TcpLinks<'c, R: Copy, C: Clock + Copy> {
     rt: R,
@@ -92,5 +95,9 @@ impl<
 
     fn hurry(&self) -> &Hurry {
         self.hurry
+    }
+
+    fn notices(&self) -> &Notices {
+        self.notices
     }
 }

@@ -9,7 +9,7 @@ use thiserror::Error;
 #[derive(Clone, Copy, Debug, PartialEq, Eq, Error)]
 pub(crate) enum NoAnswer {
     /// What the configuration says where it is is no `IP:PORT`.
-    #[error("it has no IP:PORT")]
+    #[error("no IP:PORT in digits")]
     NoPlace,
     /// No connection was made.
     #[error("not reached: {0}")]

@@ -3,11 +3,12 @@ ghost use Rattle.std.specs.Prelude.{◌<◌, length};
 
 use crate::calling::call;
 use crate::no_answer::NoAnswer;
-use crate::notices::Notices;
 use crate::time_left::time_left;
 use ilp_accounts::Config;
 use ilp_http::Buffer;
+use ilp_notices::Notices;
 use ilp_oer::Octets;
+use ilp_packet::Packet;
 use ilp_server::{packet_head, packet_reply};
 use ilp_workers::{Clock, LinkFault, Uplink};
 use std::alloc::{AllocError, Allocator};
@@ -22,6 +23,9 @@ use std::net::{Net, TcpStream};
 /// is no `IP:PORT`; a peer that isn't reached, gives no answer in time, none that is a response of
 /// HTTP, or another status than 200; want of memory for the reply. All but the first two and the
 /// last are told to the notices.
+///
+/// The octets of a 200 are handed on whatever they are. Those that are no Fulfill and no Reject are
+/// told to the notices too.
 #[derive(Drop)]
 pub struct PeerLink<'c, R: Copy, C: Clock + Copy> {
     rt: R,
@@ -66,11 +70,20 @@ impl<R: Net<Stream = TcpStream> + std::time::Clock + Eprint + Copy, C: Clock + C
         if left == 0 {
             return Err(LinkFault);
         }
-        match packet_answer(&self.rt, self.config, to, packet, left, &mut self.buffer) {
-            Ok(octets) => reply.append(octets).map_err(|_| LinkFault),
+        self.notices.waits_for_peer(to);
+        let came = packet_answer(&self.rt, self.config, to, packet, left, &mut self.buffer);
+        self.notices.peer_is_over(to);
+        match came {
+            Ok(octets) => {
+                if is_answer(octets) {
+                    self.notices.peer_answered(to);
+                } else {
+                    self.notices.peer_unreadable(&self.rt, self.config, to);
+                }
+                reply.append(octets).map_err(|_| LinkFault)
+            }
             Err(why) => {
-                self.notices
-                    .no_answer_of_peer(&self.rt, self.config, to, why);
+                self.notices.peer_failed(&self.rt, self.config, to, why);
                 Err(LinkFault)
             }
         }
@@ -91,4 +104,12 @@ fn packet_answer<'b, R: Net<Stream = TcpStream> + std::time::Clock>(
     let head = packet_head(config, to);
     let response = call(rt, config.host(to), left, &head, packet, buffer)?;
     packet_reply(Ok(response)).map_err(|_| NoAnswer::Status(response.status))
+}
+
+// Whether the octets are a Fulfill or a Reject.
+fn is_answer(octets: &[u8]) -> bool {
+    match Packet::read(octets) {
+        Ok(Packet::Fulfill(_) | Packet::Reject(_)) => true,
+        Ok(Packet::Prepare(_)) | Err(_) => false,
+    }
 }

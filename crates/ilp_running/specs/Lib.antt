@@ -1,1 +1,3 @@
+pub mod OpenFiles
+pub mod Pauses
 pub mod Serving

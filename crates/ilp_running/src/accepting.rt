@@ -36,7 +36,7 @@ struct Placing<'a, R> {
     buffer: Buffer,
 }
 
-impl<R: Wait> Admission for Placing<'_, R> {
+impl<R: Wait + Clock> Admission for Placing<'_, R> {
     type Kind = Work;
 
     fn kind_of(&mut self, octets: &[u8]) -> Work {
@@ -51,7 +51,7 @@ impl<R: Wait> Admission for Placing<'_, R> {
     }
 
     fn admit(&mut self, ready: &[Work]) -> Option<usize> {
-        self.places.admit(self.rt, ready)
+        self.places.admit(self.rt, self.side, ready)
     }
 
     fn give_back(&mut self, kind: Work) {

@@ -1,6 +1,8 @@
 //! The actors of a desk, ready to be started.
 
 use crate::fault::Unprinted;
+use crate::pauses::Pauses;
+use crate::turns::PausedSettler;
 use ilp_desk::{Desk, Naming, Share};
 use ilp_http::Buffer;
 use ilp_links::Links;
@@ -15,12 +17,20 @@ pub(crate) struct Responder<J: Naming, C: Clock + Drop, U: Uplink + Drop, E: Eng
     pub(crate) buffer: Buffer,
 }
 
+/// The sweeper and the settler, who take turns and rest between them, and the clock of the watcher, who
+/// does so too.
+#[derive(Drop)]
+pub(crate) struct Turning<J: Naming, C: Clock + Drop, E: EngineLink + Drop> {
+    pub(crate) sweeper: Sweeper<J, C>,
+    pub(crate) settler: PausedSettler<J, C, E>,
+    pub(crate) clock: C,
+}
+
 /// The actors of a desk, with all the memory that they are given.
 #[derive(Drop)]
 pub(crate) struct Actors<J: Naming, C: Clock + Drop, U: Uplink + Drop, E: EngineLink + Drop> {
     pub(crate) responders: Vec<Responder<J, C, U, E>>,
-    pub(crate) sweeper: Sweeper<J, C>,
-    pub(crate) settler: Settler<J, C, E>,
+    pub(crate) turning: Turning<J, C, E>,
 }
 
 // The actors whose links are made by `L`.
@@ -42,14 +52,21 @@ pub(crate) fn actors_of<J: Naming, L: Links>(
     let mut shares = shares;
     let workers = desk.config().workers();
     let share = shares.pop().ok_or(missing(workers, 1))?;
-    let settler = new_settler(alloc, share, links)?;
+    let settler = PausedSettler {
+        settler: new_settler(alloc, share, links)?,
+        pauses: Pauses::new(alloc, desk.config().peers())?,
+    };
     let share = shares.pop().ok_or(missing(workers, 0))?;
     let sweeper = Sweeper::new(alloc, share, links.clock());
     let responders = new_responders(alloc, shares, links)?;
-    Ok(Actors {
-        responders,
+    let turning = Turning {
         sweeper,
         settler,
+        clock: links.clock(),
+    };
+    Ok(Actors {
+        responders,
+        turning,
     })
 }
 

@@ -1,6 +1,9 @@
 //! How a close reaches the intakes and the workers.
 
 use ilp_intake::IntakeHandle;
+use ilp_server::Side;
+use std::net::TcpStream;
+use std::sync::Wait;
 use std::sync::atomic::{AtomicU64, Ordering};
 use std::time::{Clock, Duration};
 
@@ -58,6 +61,15 @@ impl Ending {
     pub(crate) fn look_again(&self) {
         self.peers.look_again();
         self.engines.look_again();
+    }
+
+    /// Has the intake of this side read on, for a moment, what the client of an answered connection
+    /// still sends.
+    pub(crate) fn linger(&self, rt: &impl Wait, side: Side, stream: TcpStream) {
+        match side {
+            Side::Ilp => self.peers.linger(rt, stream),
+            Side::Engine => self.engines.linger(rt, stream),
+        }
     }
 
     /// Whether what has not begun is closed unanswered. While the clock can't be read, nothing is.

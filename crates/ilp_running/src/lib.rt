@@ -9,13 +9,17 @@ mod accepting;
 mod actors;
 mod ending;
 mod fault;
+mod open_files;
+mod outcome;
+mod pauses;
 mod places;
+mod printing;
 mod responding;
 mod serving;
 mod shutdown;
-mod telling;
 mod threads;
 mod turns;
+mod watching;
 
 pub use fault::{ServeFault, Unprinted};
 pub use serving::serve;

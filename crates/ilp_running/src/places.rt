@@ -1,8 +1,9 @@
 //! How many connections of each kind the workers have at once, and whose turn it is.
 
-use ilp_server::Work;
+use ilp_server::{Side, Work};
 use std::alloc::{AllocError, Global};
 use std::sync::{Mutex, Wait};
+use std::time::{Clock, Duration};
 
 /// How many connections the workers may have at once, taken up or not.
 #[derive(Clone, Copy)]
@@ -45,6 +46,33 @@ struct Taken {
     turns: u64,
     // Whether one was not given to them for want of a place.
     held_back: bool,
+    waits: Waits,
+}
+
+// Since when connections have waited for a place at each side, and none there was given one; by the
+// clock that never goes back.
+#[derive(Clone, Copy, Drop)]
+struct Waits {
+    peers: Option<Duration>,
+    engines: Option<Duration>,
+}
+
+impl Waits {
+    fn at(&mut self, side: Side) -> &mut Option<Duration> {
+        match side {
+            Side::Ilp => &mut self.peers,
+            Side::Engine => &mut self.engines,
+        }
+    }
+
+    // The earlier of both.
+    fn since(self) -> Option<Duration> {
+        match (self.peers, self.engines) {
+            (Some(one), Some(other)) => Some(one.min(other)),
+            (one, None) => one,
+            (None, other) => other,
+        }
+    }
 }
 
 // Of one peer: how many remote ones the workers have, and how many had been given to them when the
@@ -67,25 +95,42 @@ impl Places {
                 peers,
                 turns: 0,
                 held_back: false,
+                waits: Waits {
+                    peers: None,
+                    engines: None,
+                },
             }),
         })
     }
 
-    /// Takes a place for one of these connections, those that came first in front, and tells which it
-    /// is: the first that waits for nobody outside, and else the first of the peer whose turn it is.
-    pub(crate) fn admit(&self, rt: &impl Wait, ready: &[Work]) -> Option<usize> {
+    /// Takes a place for one of these connections of a side, those that came first in front, and tells
+    /// which it is: the first that waits for nobody outside, and else the first of the peer whose turn
+    /// it is.
+    pub(crate) fn admit<R: Wait + Clock>(
+        &self,
+        rt: &R,
+        side: Side,
+        ready: &[Work],
+    ) -> Option<usize> {
         let mut taken = self.taken.lock(rt);
         let taken = &mut *taken;
         match taken.choose(self.limits, ready) {
             Some(place) => {
                 taken.take(*ready.get(place)?);
+                *taken.waits.at(side) = None;
                 Some(place)
             }
             None => {
-                taken.held_back = taken.held_back || !ready.is_empty();
+                taken.hold_back(rt, side, !ready.is_empty());
                 None
             }
         }
+    }
+
+    /// For how long connections have waited for a place, while none beside them was given one.
+    pub(crate) fn waited<R: Wait + Clock>(&self, rt: &R) -> Option<Duration> {
+        let since = self.taken.lock(rt).waits.since()?;
+        Some(rt.monotonic().ok()?.saturating_sub(since))
     }
 
     /// Gives the place of a connection back. Tells whether another waits for one.
@@ -100,6 +145,17 @@ impl Places {
 }
 
 impl Taken {
+    // Notes whether connections of this side wait for a place now.
+    fn hold_back(&mut self, rt: &impl Clock, side: Side, waits: bool) {
+        self.held_back = self.held_back || waits;
+        let since = self.waits.at(side);
+        if !waits {
+            *since = None;
+        } else if since.is_none() {
+            *since = rt.monotonic().ok();
+        }
+    }
+
     // The place of the one that is given to the workers next.
     fn choose(&self, limits: Limits, ready: &[Work]) -> Option<usize> {
         let local = ready.iter().position(|work| *work == Work::Local);

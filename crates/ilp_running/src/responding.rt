@@ -2,15 +2,15 @@
 
 use crate::accepting::Job;
 use crate::actors::Responder;
-use crate::ending::Ending;
-use crate::places::Places;
+use crate::outcome::{Booked, tell_outcome};
+use crate::threads::Shared;
 use crossbeam_channel::Receiver;
 use ilp_desk::{Desk, End, Naming};
 use ilp_intake::ReadyConnection;
 use ilp_links::{TimedReader, TimedWriter, instant_after};
 use ilp_server::{Handled, answer_connection};
 use ilp_workers::{Clock, EngineLink, Uplink};
-use std::io::{Read, Write};
+use std::io::{Eprint, Read, Write};
 use std::net::{Shutdown, TcpStream};
 use std::sync::Wait;
 use std::time::{Duration, Instant};
@@ -19,35 +19,62 @@ use std::{io, time};
 // How long a response may take to be written, in milliseconds.
 const RESPONSE_MS: u64 = 10_000;
 
-/// Serves connections until no more come, and gives back the place of each. After a close both sides
-/// are told to accept no more; what has not begun when the time is over is closed unanswered.
+/// Serves connections until no more come, and gives back the place of each. What has not begun when the
+/// time after a close is over is closed unanswered.
 pub(crate) fn serve_connections<
     J: Naming,
     C: Clock + Drop,
     U: Uplink + Drop,
     E: EngineLink + Drop,
-    R: Wait + time::Clock,
->(
-    rt: &R,
-    desk: &Desk<J>,
-    responder: Responder<J, C, U, E>,
-    jobs: Receiver<Job>,
-    places: &Places,
-    ending: &Ending,
-) -> End<J> {
+    R: Wait + time::Clock + Eprint,
+>(shared: Shared<'_, J, R>, responder: Responder<J, C, U, E>, jobs: Receiver<Job>) -> End<J> {
     let mut responder = responder;
+    let rt = shared.rt;
     for job in jobs.iter(rt) {
-        if !ending.is_over(rt) {
-            if let Ok(Handled::Close) = serve_connection(rt, desk, &mut responder, &job) {
-                ending.close(rt);
-            }
+        let kind = job.connection.kind;
+        if !shared.ending.is_over(rt) {
+            serve_job(&shared, &mut responder, job);
         }
-        if places.give_back(rt, job.connection.kind) {
-            ending.look_again();
+        if shared.places.give_back(rt, kind) {
+            shared.ending.look_again();
         }
     }
     let Responder { worker, buffer: _ } = responder;
     worker.into_end()
+}
+
+// Serves a connection, and tells what there is to tell of it. After a close both sides are told to
+// accept no more. The client of a request that was refused may still be sending it: what comes is read
+// on elsewhere for a moment, since a connection that is closed before it was read takes the answer with
+// it.
+fn serve_job<
+    J: Naming,
+    C: Clock + Drop,
+    U: Uplink + Drop,
+    E: EngineLink + Drop,
+    R: Wait + time::Clock + Eprint,
+>(shared: &Shared<'_, J, R>, responder: &mut Responder<J, C, U, E>, job: Job) {
+    let rt = shared.rt;
+    let booked = Booked::of(&responder.worker);
+    let handled = serve_connection(rt, shared.desk, responder, &job);
+    let Job { side, connection } = job;
+    match handled {
+        Ok(Handled::Close) => shared.ending.close(rt),
+        Ok(Handled::Done(status)) => {
+            tell_outcome(
+                shared,
+                &responder.worker,
+                booked,
+                side,
+                connection.kind,
+                status,
+            )
+        }
+        _ => {}
+    }
+    if connection.refused {
+        shared.ending.linger(rt, side, connection.stream);
+    }
 }
 
 // Serves a connection: its request is what was read, and what is still to be read in what is left
@@ -64,6 +91,7 @@ fn serve_connection<
         octets,
         left,
         kind: _,
+        refused: _,
     } = &job.connection;
     let until = instant_after(rt, *left)?;
     let mut source = octets.as_slice().chain(TimedReader::new(rt, stream, until));

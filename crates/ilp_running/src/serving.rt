@@ -8,21 +8,25 @@ use crate::accepting::Acceptor;
 use crate::actors::actors_of;
 use crate::ending::{Ending, ending_after};
 use crate::fault::{ServeFault, Unprinted, not_gathered};
+use crate::open_files::{open_files, waiting_by, wanted};
 use crate::places::Places;
-use crate::telling::{tell_listening, tell_no_thread, tell_not_listening, tell_one_worker};
+use crate::printing::tell_report;
 use crate::threads::{Acceptors, Shared, run};
+use crate::watching::Seen;
 use ilp_accounts::Config;
 use ilp_book::Book;
 use ilp_desk::{Closed, Desk, End, Naming, Share, gather};
 use ilp_http::Buffer;
-use ilp_intake::{Intake, IntakeHandle, listen};
+use ilp_intake::{Intake, IntakeHandle, MOST_WAITING, listen};
 use ilp_io::Sink;
-use ilp_links::{Links, Notices};
+use ilp_links::Links;
+use ilp_notices::{few_files, listening, no_thread, not_listening, one_worker};
 use ilp_report::{Snapshot, print};
 use ilp_server::Side;
 use std::io::{Eprint, ErrorKind};
 use std::marker::Brand;
 use std::net::{Net, TcpListener, TcpStream};
+use std::rt::Files;
 use std::sync::Wait;
 use std::sync::ledger::Blank;
 use std::thread::Threads;
@@ -33,7 +37,13 @@ use std::time::Clock;
 #[tactic(auto, using(crate::proofs::Printed::ends_with_report))]
 pub fn serve<R, L, W>(rt: &R, config: &Config, links: &L, writer: &mut W) -> Result<(), ServeFault>
 where
-    R: Net<Listener = TcpListener, Stream = TcpStream> + Threads + Wait + Clock + Eprint + Sync,
+    R: Net<Listener = TcpListener, Stream = TcpStream>
+        + Threads
+        + Wait
+        + Clock
+        + Eprint
+        + Files
+        + Sync,
     L: Links,
     W: Sink,
     ensures { EndsWithReport (desk_of config.now) (W.contents writer.old) (W.contents writer.new) result }
@@ -45,7 +55,7 @@ where
     };
     let blanks = Blank::new(u64::from(config.workers()) + 2);
     let book = serve_desk::<Brand, R, L>(rt, config, book, blanks, links, sides)?;
-    print_report(&book, writer)
+    print_report(rt, &book, writer)
 }
 
 // What takes connections in at both sides, and what reaches it.
@@ -53,20 +63,40 @@ where
 struct Sides {
     acceptors: Acceptors,
     ending: Ending,
+    // How many files the process may have open, where the system says so.
+    open_files: Option<u64>,
 }
 
 // Listens at both sides.
 fn open_sides<R>(rt: &R, config: &Config) -> Result<Sides, Unprinted>
 where
-    R: Net<Listener = TcpListener, Stream = TcpStream> + Eprint,
+    R: Net<Listener = TcpListener, Stream = TcpStream> + Clock + Eprint + Files,
 {
-    let (peers, peer_handle) = open_side(rt, config, Side::Ilp, config.listen())?;
-    let (engines, engine_handle) = open_side(rt, config, Side::Engine, config.engine_listen())?;
+    let open_files = open_files(rt);
+    let most = most_waiting(open_files, config.workers());
+    let (peers, peer_handle) = open_side(rt, config, Side::Ilp, config.listen(), most)?;
+    let (engines, engine_handle) = open_side(
+        rt,
+        config,
+        Side::Engine,
+        config.engine_listen(),
+        most,
+    )?;
     let after = ending_after(config.max_hold_ms());
     Ok(Sides {
         acceptors: Acceptors { peers, engines },
         ending: Ending::new(peer_handle, engine_handle, after),
+        open_files,
     })
+}
+
+// How many connections may wait at each side. Where the system does not say how many files may be open,
+// as many wait as ever do.
+fn most_waiting(open_files: Option<u64>, workers: u32) -> usize {
+    match open_files {
+        Some(limit) => waiting_by(limit, workers),
+        None => MOST_WAITING,
+    }
 }
 
 fn open_side<R>(
@@ -74,15 +104,16 @@ fn open_side<R>(
     config: &Config,
     side: Side,
     place: &str,
+    most: usize,
 ) -> Result<(Acceptor, IntakeHandle), Unprinted>
 where
-    R: Net<Listener = TcpListener, Stream = TcpStream> + Eprint,
+    R: Net<Listener = TcpListener, Stream = TcpStream> + Clock + Eprint,
 {
     let alloc = config.allocator();
     let buffer = Buffer::new(alloc)?;
     let after = ending_after(config.max_hold_ms());
     let opened = match listen(rt, place) {
-        Ok(listener) => Intake::new(rt, alloc, listener, after),
+        Ok(listener) => Intake::new(rt, alloc, listener, most, after),
         Err(error) => Err(error),
     };
     match opened {
@@ -96,7 +127,7 @@ where
         )),
         Err(error) if error.kind() == ErrorKind::OutOfMemory => Err(Unprinted::Memory),
         Err(error) => {
-            tell_not_listening(rt, place, &error);
+            not_listening(rt, place, &error);
             Err(Unprinted::Listen(side))
         }
     }
@@ -146,24 +177,40 @@ where
     L: Links,
 {
     let config = desk.config();
-    let notices = Notices::new(config.allocator(), config)?;
     let actors = actors_of(desk, shares, links)?;
     let places = Places::new(config.allocator(), config.workers(), config.peers())?;
-    let Sides { acceptors, ending } = sides;
-    tell_listening(rt, config);
-    tell_one_worker(rt, config);
+    let seen = Seen::new();
+    let Sides {
+        acceptors,
+        ending,
+        open_files,
+    } = sides;
+    tell_start(rt, config, open_files);
     let shared = Shared {
         rt,
         desk,
         places: &places,
         ending: &ending,
-        notices: &notices,
+        notices: links.notices(),
+        seen: &seen,
     };
     let ends = run(shared, actors, acceptors, links.hurry());
     if let Err(Unprinted::Spawn) = &ends {
-        tell_no_thread(rt);
+        no_thread(rt);
     }
     ends
+}
+
+// Tells that the connector listens, and what it can't do with one worker or so many open files.
+fn tell_start<R: Clock + Eprint>(rt: &R, config: &Config, open_files: Option<u64>) {
+    listening(rt, config);
+    one_worker(rt, config);
+    let wanted = wanted(config.workers());
+    if let Some(limit) = open_files {
+        if limit < wanted {
+            few_files(rt, limit, wanted);
+        }
+    }
 }
 
 // Closes a desk whose actors handed these in.
@@ -182,8 +229,13 @@ fn close_desk<J: Naming>(
     }
 }
 
-// Prints the report of a book. Nothing is printed where memory is denied.
-fn print_report<W: Sink>(book: &Book, writer: &mut W) -> Result<(), ServeFault>
+// Prints the report of a book. Nothing is printed where memory is denied. Where a write fails the report
+// is told on standard error.
+fn print_report<R: Clock + Eprint, W: Sink>(
+    rt: &R,
+    book: &Book,
+    writer: &mut W,
+) -> Result<(), ServeFault>
     ensures { Prints book.now (W.contents writer.old) (W.contents writer.new) result }
 {
     let Ok(snapshot) = Snapshot::of(book.config().allocator(), book) else {
@@ -191,6 +243,9 @@ fn print_report<W: Sink>(book: &Book, writer: &mut W) -> Result<(), ServeFault>
     };
     match print(&snapshot, writer) {
         Ok(()) => Ok(()),
-        Err(_) => Err(ServeFault::Write),
+        Err(_) => {
+            tell_report(rt, &snapshot);
+            Err(ServeFault::Write)
+        }
     }
 }

@@ -2,18 +2,19 @@
 ghost use denote.Param.Send.{IsSend, IsSync};
 
 use crate::accepting::{Acceptor, Job, accept_all};
-use crate::actors::{Actors, Responder};
+use crate::actors::{Actors, Responder, Turning};
 use crate::ending::Ending;
 use crate::fault::Unprinted;
 use crate::places::Places;
 use crate::responding::serve_connections;
 use crate::shutdown::{KeepRunning, Shutdown, shutdown_pair};
-use crate::telling::tell_closing;
-use crate::turns::{settle, sweep};
+use crate::turns::{PausedSettler, settle, sweep};
+use crate::watching::{Seen, Watcher, watch};
 use crossbeam_channel::{Receiver, Sender, bounded};
 use ilp_desk::{Desk, End, Naming};
-use ilp_links::{Hurry, Notices};
-use ilp_settler::{Settler, Sweeper};
+use ilp_links::Hurry;
+use ilp_notices::{Notices, closing};
+use ilp_settler::Sweeper;
 use ilp_workers::{Clock, EngineLink, Uplink};
 use std::io::Eprint;
 use std::sync::Wait;
@@ -35,13 +36,29 @@ pub(crate) struct Shared<'a, J: Naming, R> {
     pub(crate) places: &'a Places,
     pub(crate) ending: &'a Ending,
     pub(crate) notices: &'a Notices,
+    pub(crate) seen: &'a Seen,
 }
 
-// The threads of the sweeper and the settler.
+impl<'a, J: Naming, R> Shared<'a, J, R> {
+    // The same, for another thread.
+    fn another(&self) -> Shared<'a, J, R> {
+        Shared {
+            rt: self.rt,
+            desk: self.desk,
+            places: self.places,
+            ending: self.ending,
+            notices: self.notices,
+            seen: self.seen,
+        }
+    }
+}
+
+// The threads of the sweeper, the settler and the watcher.
 #[derive(Drop)]
 struct TurnThreads<J: Naming> {
     sweeping: JoinHandle<End<J>>,
     settling: JoinHandle<End<J>>,
+    watching: JoinHandle<()>,
 }
 
 // Starts a thread for each worker.
@@ -56,7 +73,7 @@ where
     C: Clock + Drop + Send + 's,
     U: Uplink + Drop + Send + 's,
     E: EngineLink + Drop + Send + 's,
-    R: Wait + time::Clock + Sync + 's,
+    R: Wait + time::Clock + Eprint + Sync + 's,
 {
     let mut threads = Vec::new(shared.desk.config().allocator());
     for responder in responders {
@@ -80,23 +97,77 @@ where
     C: Clock + Drop + Send + 's,
     U: Uplink + Drop + Send + 's,
     E: EngineLink + Drop + Send + 's,
-    R: Wait + time::Clock + Sync + 's,
+    R: Wait + time::Clock + Eprint + Sync + 's,
 {
     let jobs = jobs.clone()?;
-    let (rt, desk) = (shared.rt, shared.desk);
-    let (places, ending) = (shared.places, shared.ending);
-    match scope.spawn(move || serve_connections(rt, desk, responder, jobs, places, ending)) {
+    let shared = shared.another();
+    match scope.spawn(move || serve_connections(shared, responder, jobs)) {
         Ok(thread) => Ok(thread),
         Err(_) => Err(Unprinted::Spawn),
     }
 }
 
-// Starts the threads of the sweeper and the settler.
-fn start_turns<'s, S, J, C, E, R>(
+// Starts the thread of the sweeper.
+fn start_sweeper<'s, S, J, C, R>(
     scope: &'s Scope<'s, S>,
     shared: &Shared<'s, J, R>,
     sweeper: Sweeper<J, C>,
-    settler: Settler<J, C, E>,
+    shutdown: Shutdown,
+) -> Result<JoinHandle<End<J>>, Unprinted>
+where
+    J: Naming + Send + Sync + 's,
+    C: Clock + Drop + Send + 's,
+    R: Wait + time::Clock + Sync + 's,
+{
+    let (rt, desk) = (shared.rt, shared.desk);
+    Ok(scope.spawn(move || sweep(rt, desk, sweeper, shutdown))?)
+}
+
+// Starts the thread of the settler.
+fn start_settler<'s, S, J, C, E, R>(
+    scope: &'s Scope<'s, S>,
+    shared: &Shared<'s, J, R>,
+    settler: PausedSettler<J, C, E>,
+    shutdown: Shutdown,
+) -> Result<JoinHandle<End<J>>, Unprinted>
+where
+    J: Naming + Send + Sync + 's,
+    C: Clock + Drop + Send + 's,
+    E: EngineLink + Drop + Send + 's,
+    R: Wait + time::Clock + Eprint + Sync + 's,
+{
+    let shared = shared.another();
+    Ok(scope.spawn(move || settle(shared, settler, shutdown))?)
+}
+
+// Starts the thread of the watcher, who has this clock.
+fn start_watcher<'s, S, J, C, R>(
+    scope: &'s Scope<'s, S>,
+    shared: &Shared<'s, J, R>,
+    clock: C,
+    shutdown: Shutdown,
+) -> Result<JoinHandle<()>, Unprinted>
+where
+    J: Naming + Send + Sync + 's,
+    C: Clock + Drop + Send + 's,
+    R: Wait + time::Clock + Eprint + Sync + 's,
+{
+    let rt = shared.rt;
+    let watcher = Watcher {
+        desk: shared.desk,
+        clock,
+        places: shared.places,
+        notices: shared.notices,
+        seen: shared.seen,
+    };
+    Ok(scope.spawn(move || watch(rt, watcher, shutdown))?)
+}
+
+// Starts the threads of the sweeper, the settler and the watcher.
+fn start_turns<'s, S, J, C, E, R>(
+    scope: &'s Scope<'s, S>,
+    shared: &Shared<'s, J, R>,
+    turning: Turning<J, C, E>,
     shutdown: &Shutdown,
 ) -> Result<TurnThreads<J>, Unprinted>
 where
@@ -105,11 +176,19 @@ where
     E: EngineLink + Drop + Send + 's,
     R: Wait + time::Clock + Eprint + Sync + 's,
 {
-    let (rt, desk, notices) = (shared.rt, shared.desk, shared.notices);
-    let (sweeper_shutdown, settler_shutdown) = (shutdown.try_clone()?, shutdown.try_clone()?);
-    let sweeping = scope.spawn(move || sweep(rt, desk, sweeper, sweeper_shutdown))?;
-    let settling = scope.spawn(move || settle(rt, desk, settler, notices, settler_shutdown))?;
-    Ok(TurnThreads { sweeping, settling })
+    let Turning {
+        sweeper,
+        settler,
+        clock,
+    } = turning;
+    let sweeping = start_sweeper(scope, shared, sweeper, shutdown.try_clone()?)?;
+    let settling = start_settler(scope, shared, settler, shutdown.try_clone()?)?;
+    let watching = start_watcher(scope, shared, clock, shutdown.try_clone()?)?;
+    Ok(TurnThreads {
+        sweeping,
+        settling,
+        watching,
+    })
 }
 
 // Accepts connections at both sides, each in a thread, until both are closed.
@@ -153,15 +232,20 @@ fn ends_of<J: Naming, R: Threads>(
     Ok(ends)
 }
 
-// What the sweeper and the settler hand in, after what the workers did.
+// What the sweeper and the settler hand in, after what the workers did. The watcher is over then too.
 fn with_turns<J: Naming, R: Threads>(
     rt: &R,
     turns: TurnThreads<J>,
     workers: Vec<End<J>>,
 ) -> Result<Vec<End<J>>, Unprinted> {
     let mut ends = workers;
-    let TurnThreads { sweeping, settling } = turns;
+    let TurnThreads {
+        sweeping,
+        settling,
+        watching,
+    } = turns;
     let (swept, settled) = (sweeping.join(rt), settling.join(rt));
+    watching.join(rt);
     if ends.push(swept).is_err() || ends.push(settled).is_err() {
         return Err(Unprinted::Memory);
     }
@@ -194,14 +278,13 @@ where
 {
     let Actors {
         responders,
-        sweeper,
-        settler,
+        turning,
     } = actors;
     let alloc = shared.desk.config().allocator();
     let room = Vec::with_capacity(alloc, responders.len().saturating_add(2))?;
     let workers = start_workers(scope, shared, responders, &jobs)?;
     let (keep_running, shutdown) = shutdown_pair(alloc)?;
-    let turns = start_turns(scope, shared, sweeper, settler, &shutdown)?;
+    let turns = start_turns(scope, shared, turning, &shutdown)?;
     Ok(ActorThreads {
         workers,
         turns,
@@ -261,7 +344,7 @@ where
                 hurry.tell();
             }
             accepted?;
-            tell_closing(shared.rt);
+            closing(shared.rt);
             join_actors(shared.rt, threads, hurry)
         },
     )

@@ -1,9 +1,10 @@
 //! What the sweeper's thread and the settler's do: turns, and rests between them.
-ghost use Rattle.std.specs.Prelude.{◌≡◌};
 
+use crate::pauses::Pauses;
 use crate::shutdown::Shutdown;
-use ilp_desk::{Desk, End, Naming};
-use ilp_links::Notices;
+use crate::threads::Shared;
+use ilp_book::AskFault;
+use ilp_desk::{Desk, End, Naming, Recorded};
 use ilp_settler::{Settler, Sweeper, Turn};
 use ilp_workers::{Clock, EngineLink};
 use std::io::Eprint;
@@ -29,47 +30,113 @@ pub(crate) fn sweep<J: Naming, C: Clock + Drop, R: Wait + time::Clock>(
     sweeper.into_end()
 }
 
+/// The settler, and how long the peers' turns rest.
+#[derive(Drop)]
+pub(crate) struct PausedSettler<J: Naming, C: Clock + Drop, E: EngineLink + Drop> {
+    pub(crate) settler: Settler<J, C, E>,
+    pub(crate) pauses: Pauses,
+}
+
 /// Has the settler take a turn for each peer, and then rest for `settle_ms`, until the connector
-/// ends. A settlement that is kept open is told on standard error.
+/// ends. What becomes of a settlement is told.
 pub(crate) fn settle<J: Naming, C: Clock + Drop, E: EngineLink + Drop, R>(
-    rt: &R,
-    desk: &Desk<J>,
-    settler: Settler<J, C, E>,
-    notices: &Notices,
+    shared: Shared<'_, J, R>,
+    paused: PausedSettler<J, C, E>,
     shutdown: Shutdown,
 ) -> End<J>
 where
     R: Wait + time::Clock + Eprint,
 {
-    let mut settler = settler;
-    let rest = Duration::from_millis(u64::from(desk.config().settle_ms()));
+    let mut paused = paused;
+    let rt = shared.rt;
+    let rest = Duration::from_millis(u64::from(shared.desk.config().settle_ms()));
     for _ in rt.forever() {
-        settle_all(rt, desk, &mut settler, notices, &shutdown);
+        settle_all(&shared, &mut paused, &shutdown);
         if shutdown.rest(rt, rest) {
             break;
         }
     }
+    let PausedSettler { settler, pauses: _ } = paused;
     settler.into_end()
 }
 
-// Has the settler take a turn for each peer; none is begun once the connector ends.
+// Has the settler take a turn for each peer whose turns don't rest; none is begun once the connector
+// ends.
 fn settle_all<J: Naming, C: Clock + Drop, E: EngineLink + Drop, R>(
-    rt: &R,
-    desk: &Desk<J>,
-    settler: &mut Settler<J, C, E>,
-    notices: &Notices,
+    shared: &Shared<'_, J, R>,
+    paused: &mut PausedSettler<J, C, E>,
     shutdown: &Shutdown,
 )
 where
     R: Wait + time::Clock + Eprint,
 {
-    for peer in 0..desk.config().peers() {
-        if shutdown.has_begun(rt) {
+    for peer in 0..shared.desk.config().peers() {
+        if shutdown.has_begun(shared.rt) {
             return;
         }
-        // Where memory is denied, a later turn tries again.
-        if let Ok(Turn::Kept { number }) = settler.turn(rt, desk, peer) {
-            notices.kept_open(rt, desk.config(), peer, number);
+        if paused.pauses.is_resting(peer, milliseconds(shared.rt)) {
+            continue;
         }
+        // Where memory is denied, a later turn tries again.
+        if let Ok(turn) = paused.settler.turn(shared.rt, shared.desk, peer) {
+            tell_turn(shared, paused, peer, turn);
+        }
+    }
+}
+
+// Tells what became of a settlement with a peer. After a refusal the peer's turns rest.
+fn tell_turn<J: Naming, C: Clock + Drop, E: EngineLink + Drop, R>(
+    shared: &Shared<'_, J, R>,
+    paused: &mut PausedSettler<J, C, E>,
+    peer: u32,
+    turn: Turn,
+)
+where
+    R: Wait + time::Clock + Eprint,
+{
+    let (rt, config, notices) = (shared.rt, shared.desk.config(), shared.notices);
+    match turn {
+        Turn::NoAccount => {}
+        Turn::Idle(AskFault::Full) => shared.seen.note_full(),
+        Turn::Idle(_) => {}
+        Turn::Kept { number } => notices.settlement_kept_open(rt, config, peer, number),
+        Turn::Closed {
+            number,
+            accepted: true,
+        } => {
+            paused.pauses.accepted(peer);
+            let amount = last_amount(&paused.settler);
+            notices.settlement_confirmed(rt, config, peer, number, amount);
+        }
+        Turn::Closed {
+            number,
+            accepted: false,
+        } => {
+            let rest = paused.pauses.refused(peer, milliseconds(rt));
+            let amount = last_amount(&paused.settler);
+            let rest = Duration::from_millis(rest);
+            notices.settlement_refused(rt, config, peer, number, amount, rest);
+        }
+    }
+}
+
+// The amount of the settlement that was closed last.
+fn last_amount<J: Naming, C: Clock + Drop, E: EngineLink + Drop>(
+    settler: &Settler<J, C, E>,
+) -> u64 {
+    match settler.records().last() {
+        Some(record) => match record.what {
+            Recorded::Closed { amount, .. } => amount,
+            _ => 0,
+        },
+        None => 0,
+    }
+}
+
+// The time by the clock that never goes back, in milliseconds; 0 where it can't be read.
+fn milliseconds(rt: &impl time::Clock) -> u64 {
+    match rt.monotonic() {
+        Ok(time) => u64::try_from(time.as_millis()).unwrap_or(u64::MAX),
+        Err(_) => 0,
     }
 }

@@ -2,7 +2,9 @@
 //! `docs/PROTOCOL.md`, written out by hand.
 
 mod calls;
+mod events;
 mod hearing;
+mod lines;
 mod stage;
 mod stand_in;
 
@@ -10,8 +12,7 @@ use super::sockets::accept;
 use super::{FULFILL, START, Still};
 use calls::{Scene, answer_of, reply_of};
 use hearing::{At, Hearing};
-use ilp_accounts::Config;
-use ilp_links::{Links, Notices, SystemClock, TcpLinks, TimedReader, TimedWriter, instant_after};
+use ilp_links::{Links, SystemClock, TcpLinks, TimedReader, TimedWriter, instant_after};
 use ilp_workers::{Clock, EngineLink, EngineReply, Uplink};
 use stage::{Play, stage};
 use stand_in::Does;
@@ -98,6 +99,8 @@ fn send_to_alice<R: Threads + std::time::Clock + Abort + Copy + Sync, U: Uplink>
     link: &mut U,
 ) -> io::Result<()> {
     let request = packet_request(scene)?;
+    let rubbish = b"HTTP/1.1 200 OK\r\nContent-Length: 7\r\n\r\nrubbish";
+    scene.replies(link, request.as_bytes(), rubbish, b"rubbish")?;
     fulfill(scene, link, request.as_bytes())?;
     flood(scene, link, request.len())?;
     fail(scene, link, request.len())
@@ -114,8 +117,21 @@ where
         + Send
         + Sync,
 {
+    let hearing = Hearing::new(*scene.rt, scene.alloc, 0);
+    heard_of_alice(scene, &hearing)?;
+    // What she answered first is handed on, but is no answer to a packet.
+    assert!(scene.rt; hearing.wrote("1970-01-01T00:00:00.000Z error peer alice at 127.0.0.1:"));
+    Ok(())
+}
+
+// Sends them, and has what is told of them heard.
+fn heard_of_alice<R, H>(scene: Scene<'_, R>, hearing: &H) -> io::Result<()>
+where
+    R: Threads + std::time::Clock + Abort + Copy + Sync,
+    H: Net<Stream = TcpStream> + std::time::Clock + Eprint + Sync,
+{
     let mut link = TcpLinks::new(
-        *scene.rt,
+        hearing,
         scene.config,
         Still,
         scene.notices,
@@ -152,11 +168,11 @@ where
         + Send
         + Sync,
 {
-    let hearing = Hearing::new(*scene.rt, scene.alloc);
+    let hearing = Hearing::new(*scene.rt, scene.alloc, 0);
     heard_of_nobody(scene, &hearing)?;
     assert!(scene.rt;
         hearing.wrote_only(
-            "peer bob at 127.0.0.1:0: not reached: connection refused\npeer carol at localhost:7001: it has no IP:PORT\n"
+            "1970-01-01T00:00:00.000Z warn peer bob at 127.0.0.1:0: not reached: connection refused\n1970-01-01T00:00:00.000Z warn peer carol at localhost:7001: no IP:PORT in digits\n"
         )
     );
     // Nobody connected.
@@ -254,10 +270,10 @@ where
         + Send
         + Sync,
 {
-    let hearing = Hearing::new(*scene.rt, scene.alloc);
+    let hearing = Hearing::new(*scene.rt, scene.alloc, 0);
     heard_of_engines(scene, &hearing)?;
     // Bob's engine was not told of before, and then at most once a second.
-    assert!(scene.rt; hearing.wrote("engine of bob at 127.0.0.1:"));
+    assert!(scene.rt; hearing.wrote("1970-01-01T00:00:00.000Z warn engine of bob at 127.0.0.1:"));
     Ok(())
 }
 
@@ -284,54 +300,6 @@ where
 #[test]
 fn calls_of_engines(rt: HostRuntime) -> Result<(), Fail> {
     stage(&rt, rt.alloc(), Play::Engines)?;
-    Ok(())
-}
-
-// Whether this is told of a settlement with a peer that stays open at this time.
-fn tells(
-    alloc: Global,
-    notices: &Notices,
-    config: &Config,
-    (time, peer): (u64, u32),
-    text: &str,
-) -> bool {
-    let hearing = Hearing::new(At(time), alloc);
-    notices.kept_open(&hearing, config, peer, 7);
-    hearing.wrote_only(text)
-}
-
-fn play_limits<R>(scene: Scene<'_, R>) -> io::Result<()>
-where
-    R: Net<Stream = TcpStream, Listener = TcpListener>
-        + Threads
-        + std::time::Clock
-        + Eprint
-        + Abort
-        + Copy
-        + Send
-        + Sync,
-{
-    let rows = [
-        ((0, 1), "settlement 7 with bob is kept open\n"),
-        ((0, 1), ""),
-        ((1, 1), ""),
-        ((999, 1), ""),
-        ((999, 0), "settlement 7 with alice is kept open\n"),
-        (
-            (1_000, 1),
-            "settlement 7 with bob is kept open (3 more since the last line)\n",
-        ),
-        ((1_001, 3), ""),
-    ];
-    for (at, text) in rows {
-        assert!(scene.rt; tells(scene.alloc, scene.notices, scene.config, at, text));
-    }
-    Ok(())
-}
-
-#[test]
-fn lines_are_limited(rt: HostRuntime) -> Result<(), Fail> {
-    stage(&rt, rt.alloc(), Play::Limits)?;
     Ok(())
 }
 
@@ -395,5 +363,9 @@ fn timed_streams(rt: HostRuntime) -> Result<(), Fail> {
 #[test]
 fn clocks(rt: HostRuntime) {
     assert!(rt; SystemClock::new(rt).now() > START);
-    assert_eq!(rt; SystemClock::new(At(START as u64)).now(), START);
+    let standing = At {
+        rt,
+        milliseconds: START as u64,
+    };
+    assert_eq!(rt; SystemClock::new(standing).now(), START);
 }

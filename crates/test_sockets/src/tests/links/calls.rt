@@ -3,7 +3,8 @@
 use super::stand_in::{Does, stand_in};
 use crate::tests::START;
 use ilp_accounts::Config;
-use ilp_links::{Hurry, Notices};
+use ilp_links::Hurry;
+use ilp_notices::Notices;
 use ilp_oer::Octets;
 use ilp_workers::{EngineLink, EngineReply, LinkFault, Uplink};
 use std::alloc::Global;

@@ -5,23 +5,26 @@ use std::fmt::Display;
 use std::io;
 use std::io::Eprint;
 use std::net::{Net, SocketAddr};
-use std::sync::Mutex;
+use std::sync::{Mutex, Wait};
 use std::time::{Clock, Duration};
 
-/// The network and the clock of another runtime. What is written to standard error stands in its
-/// text.
+/// The network, the waits and the clock that never goes back of another runtime, at a moment that stands
+/// still. What is written to standard error stands in its text.
 #[derive(Drop)]
 pub(super) struct Hearing<R: Copy> {
     rt: R,
     alloc: Global,
+    // In milliseconds since 1970.
+    moment: u64,
     text: Mutex<String>,
 }
 
 impl<R: Copy> Hearing<R> {
-    pub(super) fn new(rt: R, alloc: Global) -> Hearing<R> {
+    pub(super) fn new(rt: R, alloc: Global, moment: u64) -> Hearing<R> {
         Hearing {
             rt,
             alloc,
+            moment,
             text: Mutex::new(String::new(alloc)),
         }
     }
@@ -65,9 +68,11 @@ impl<R: Clock + Copy> Clock for Hearing<R> {
     }
 
     fn since_1970(&self) -> io::Result<Duration> {
-        self.rt.since_1970()
+        Ok(Duration::from_millis(self.moment))
     }
 }
+
+impl<R: Wait + Copy> Wait for Hearing<R> {}
 
 impl<R: Net + Copy> Net for Hearing<R> {
     type Stream = R::Stream;
@@ -87,16 +92,21 @@ impl<R: Net + Copy> Net for Hearing<R> {
     }
 }
 
-/// A clock that stands at so many milliseconds.
+/// Another runtime, with clocks that stand at so many milliseconds.
 #[derive(Clone, Copy)]
-pub(super) struct At(pub(super) u64);
+pub(super) struct At<R> {
+    pub(super) rt: R,
+    pub(super) milliseconds: u64,
+}
 
-impl Clock for At {
+impl<R> Clock for At<R> {
     fn monotonic(&self) -> io::Result<Duration> {
-        Ok(Duration::from_millis(self.0))
+        Ok(Duration::from_millis(self.milliseconds))
     }
 
     fn since_1970(&self) -> io::Result<Duration> {
-        Ok(Duration::from_millis(self.0))
+        Ok(Duration::from_millis(self.milliseconds))
     }
 }
+
+impl<R: Wait> Wait for At<R> {}

@@ -2,9 +2,10 @@
 
 use super::calls::Scene;
 use super::stand_in::config_at;
-use super::{play_engines, play_limits, play_nobody, play_packets, play_timed};
+use super::{play_engines, play_nobody, play_packets, play_timed};
 use ilp_accounts::Config;
-use ilp_links::{Hurry, Notices};
+use ilp_links::Hurry;
+use ilp_notices::Notices;
 use std::alloc::Global;
 use std::io;
 use std::io::Eprint;
@@ -22,8 +23,6 @@ pub(super) enum Play {
     Nobody,
     /// Calls of engines.
     Engines,
-    /// Lines that would come too often.
-    Limits,
     /// Reads and writes until a moment.
     Timed,
 }
@@ -94,7 +93,6 @@ where
         Play::Packets => play_packets(scene),
         Play::Nobody => play_nobody(scene),
         Play::Engines => play_engines(scene),
-        Play::Limits => play_limits(scene),
         Play::Timed => play_timed(scene),
     }
 }

@@ -54,6 +54,33 @@ pub(crate) const CLOSE: &[u8] = b"POST /close HTTP/1.1\r\nHost: hub\r\nContent-L
 pub(crate) const CLOSED: &[u8] =
     b"HTTP/1.1 200 OK\r\nContent-Length: 0\r\nConnection: close\r\n\r\n";
 
+/// The head of a request whose body is longer than one may be.
+pub(crate) const TOO_LONG: &[u8] = b"POST /ilp HTTP/1.1\r\nHost: hub\r\n\
+Authorization: Bearer a-token\r\nContent-Length: 10000000\r\n\r\n";
+
+/// What it is answered.
+pub(crate) const TOO_LONG_TOLD: &[u8] =
+    b"HTTP/1.1 413 Content Too Large\r\nContent-Length: 0\r\nConnection: close\r\n\r\n";
+
+/// What a packet is answered whose peer gave no reply: a Reject T01 of `test.hub` (RFC 0027).
+pub(crate) const UNREACHABLE: &[u8] = b"HTTP/1.1 200 OK\r\n\
+Content-Type: application/octet-stream\r\nContent-Length: 32\r\nConnection: close\r\n\r\n\
+\x0e\x1eT01\x08test.hub\x10peer unreachable\0";
+
+/// What is printed in the end of a connector with a silent peer.
+pub(crate) const PRINTED_OF_SILENCE: &[u8] =
+    b"balance   alice                                            0\n\
+balance   bob                                           1000\n\
+open      alice                                            0\n\
+open      bob                                              0\n\
+held      USD/2                                            0\n\
+fees      USD/2                                            0\n\
+bought    USD/2                                            0\n\
+sold      USD/2                                            0\n\
+settled   USD/2                                         1000\n\
+entries                                                    5\n\
+fulfilled                                                  0\n";
+
 /// What is printed in the end.
 pub(crate) const PRINTED: &[u8] = b"balance   alice                                         -100\n\
 balance   bob                                            200\n\

@@ -1,0 +1,132 @@
+//! What happens to notices, and what is written then.
+
+use super::hearing::{At, Hearing};
+use super::stand_in::config_at;
+use ilp_accounts::Config;
+use ilp_notices::Notices;
+use std::alloc::Global;
+use std::io;
+use std::io::Eprint;
+use std::net::{Ipv4Addr, SocketAddr};
+use std::process::Abort;
+use std::sync::Wait;
+use std::time::{Clock, Duration};
+
+/// What happens, to the peer of this place where there is one: alice, bob and carol.
+#[derive(Clone, Copy)]
+pub(super) enum Event {
+    Looks,
+    LooksLast,
+    Fails(u32),
+    Answers(u32),
+    Unreadable(u32),
+    EngineFails(u32),
+    EngineAnswers(u32),
+    Rejected(u32, [u8; 3]),
+    Waits(u32),
+    IsOver(u32),
+    WaitsForEngine(u32),
+    EngineIsOver(u32),
+    WorkWaits(u64),
+    WorkGoesOn,
+    JournalHas(u32),
+    JournalIsFull,
+    ClockBehind(u64),
+    ClockRight,
+    Confirmed(u32),
+    RefusedWith(u32, u16),
+    Refused(u32),
+    KeptOpen(u32),
+    Credited(u32),
+}
+
+/// At so many milliseconds this happens, and this is written.
+#[derive(Clone, Copy)]
+pub(super) struct Row(pub(super) u64, pub(super) Event, pub(super) &'static str);
+
+// What happens to peers.
+fn happen_to_peers<R: Clock + Eprint>(rt: &R, notices: &Notices, config: &Config, event: Event) {
+    match event {
+        Event::Fails(peer) => notices.peer_failed(rt, config, peer, "no answer"),
+        Event::Answers(peer) => notices.peer_answered(peer),
+        Event::Unreadable(peer) => notices.peer_unreadable(rt, config, peer),
+        Event::EngineFails(peer) => notices.engine_failed(rt, config, peer, "no answer"),
+        Event::EngineAnswers(peer) => notices.engine_answered(peer),
+        Event::Waits(peer) => notices.waits_for_peer(peer),
+        Event::IsOver(peer) => notices.peer_is_over(peer),
+        Event::WaitsForEngine(peer) => notices.waits_for_engine(peer),
+        Event::EngineIsOver(peer) => notices.engine_is_over(peer),
+        _ => {}
+    }
+}
+
+// What happens to settlements.
+fn happen_to_settlements<R: Clock + Eprint>(
+    rt: &R,
+    notices: &Notices,
+    config: &Config,
+    event: Event,
+) {
+    match event {
+        Event::Confirmed(peer) => notices.settlement_confirmed(rt, config, peer, 7, 250),
+        Event::RefusedWith(peer, status) => notices.settlement_refused_with(peer, status),
+        Event::Refused(peer) => {
+            notices.settlement_refused(rt, config, peer, 7, 250, Duration::from_secs(4));
+        }
+        Event::KeptOpen(peer) => notices.settlement_kept_open(rt, config, peer, 7),
+        Event::Credited(peer) => notices.credited(rt, config, peer, 7, 250),
+        _ => {}
+    }
+}
+
+// What happens to the connector.
+fn happen<R: Clock + Eprint + Wait>(rt: &R, notices: &Notices, config: &Config, event: Event) {
+    match event {
+        Event::Looks => notices.look(rt, config),
+        Event::LooksLast => notices.last_look(rt, config),
+        Event::Rejected(peer, code) => notices.rejected(rt, peer, code),
+        Event::WorkWaits(seconds) => notices.work_waits(rt, config, seconds),
+        Event::WorkGoesOn => notices.work_goes_on(),
+        Event::JournalHas(entries) => notices.journal(rt, entries, 65_536),
+        Event::JournalIsFull => notices.journal_full(rt, 65_536, 65_536),
+        Event::ClockBehind(milliseconds) => notices.clock_behind(rt, milliseconds),
+        Event::ClockRight => notices.clock_right(),
+        _ => {
+            happen_to_peers(rt, notices, config, event);
+            happen_to_settlements(rt, notices, config, event);
+        }
+    }
+}
+
+/// Alice and the engine of bob are at 127.0.0.1:7000.
+pub(super) fn configuration(alloc: Global) -> io::Result<Config> {
+    config_at(alloc, SocketAddr::from((Ipv4Addr::LOCALHOST, 7000)))
+}
+
+/// Has all happen, one row after the other.
+pub(super) fn play<R: Wait + Abort + Copy>(rt: &R, alloc: Global, rows: &[Row]) -> io::Result<()> {
+    let config = configuration(alloc)?;
+    let notices = Notices::new(alloc, &config)?;
+    for row in rows {
+        assert!(rt; is_told(rt, alloc, &notices, &config, *row));
+    }
+    Ok(())
+}
+
+// Has this happen. Says whether what is to be written is, and nothing else.
+fn is_told<R: Wait + Copy>(
+    rt: &R,
+    alloc: Global,
+    notices: &Notices,
+    config: &Config,
+    row: Row,
+) -> bool {
+    let Row(milliseconds, event, text) = row;
+    let at = At {
+        rt: *rt,
+        milliseconds,
+    };
+    let hearing = Hearing::new(at, alloc, milliseconds);
+    happen(&hearing, notices, config, event);
+    hearing.wrote_only(text)
+}

@@ -1,0 +1,296 @@
+//! What notices tell, and when.
+
+use super::events::{Event, Row, configuration, play};
+use super::hearing::{At, Hearing};
+use ilp_accounts::Config;
+use std::io;
+use std::io::{Eprint, ErrorKind};
+use std::test::*;
+use std::time::Clock;
+
+#[test]
+fn lines_are_limited(rt: HostRuntime) -> Result<(), Fail> {
+    use Event::*;
+    let rows = [
+        Row(
+            0,
+            Fails(1),
+            "1970-01-01T00:00:00.000Z warn peer bob at 127.0.0.1:0: no answer\n",
+        ),
+        Row(0, Fails(1), ""),
+        Row(999, Fails(1), ""),
+        Row(
+            999,
+            Fails(0),
+            "1970-01-01T00:00:00.999Z warn peer alice at 127.0.0.1:7000: no answer\n",
+        ),
+        Row(
+            1_000,
+            Fails(1),
+            "1970-01-01T00:00:01.000Z warn peer bob at 127.0.0.1:0: no answer (2 more since the last line)\n",
+        ),
+        Row(2_999, Fails(1), ""),
+        Row(
+            3_000,
+            Fails(1),
+            "1970-01-01T00:00:03.000Z warn peer bob at 127.0.0.1:0: no answer (1 more since the last line)\n",
+        ),
+        Row(6_999, Fails(3), ""),
+        Row(6_999, Fails(1), ""),
+        Row(
+            7_000,
+            Fails(1),
+            "1970-01-01T00:00:07.000Z warn peer bob at 127.0.0.1:0: no answer (1 more since the last line)\n",
+        ),
+    ];
+    play(&rt, rt.alloc(), &rows)?;
+    Ok(())
+}
+
+// Bob fails every other time, and then is well for a minute.
+#[test]
+fn what_is_over_is_told(rt: HostRuntime) -> Result<(), Fail> {
+    use Event::*;
+    let rows = [
+        Row(
+            0,
+            Fails(1),
+            "1970-01-01T00:00:00.000Z warn peer bob at 127.0.0.1:0: no answer\n",
+        ),
+        Row(1_000, Looks, ""),
+        Row(1_000, Answers(1), ""),
+        Row(
+            1_000,
+            Looks,
+            "1970-01-01T00:00:01.000Z info peer bob at 127.0.0.1:0: reached again, after 1 failure\n",
+        ),
+        Row(1_000, Looks, ""),
+        Row(
+            1_001,
+            Fails(1),
+            "1970-01-01T00:00:01.001Z warn peer bob at 127.0.0.1:0: no answer\n",
+        ),
+        Row(1_002, Answers(1), ""),
+        Row(1_003, Fails(1), ""),
+        Row(1_004, Answers(1), ""),
+        Row(3_000, Looks, ""),
+        Row(
+            3_001,
+            Looks,
+            "1970-01-01T00:00:03.001Z info peer bob at 127.0.0.1:0: reached again, after 2 failures\n",
+        ),
+        Row(
+            63_001,
+            Fails(1),
+            "1970-01-01T00:01:03.001Z warn peer bob at 127.0.0.1:0: no answer\n",
+        ),
+        Row(64_000, Fails(1), ""),
+        Row(
+            64_001,
+            Fails(1),
+            "1970-01-01T00:01:04.001Z warn peer bob at 127.0.0.1:0: no answer (1 more since the last line)\n",
+        ),
+    ];
+    play(&rt, rt.alloc(), &rows)?;
+    Ok(())
+}
+
+#[test]
+fn rejects_are_told_each_minute(rt: HostRuntime) -> Result<(), Fail> {
+    use Event::*;
+    let rows = [
+        Row(0, Looks, ""),
+        Row(1, Rejected(1, *b"F02"), ""),
+        Row(2, Rejected(0, *b"\xff\0A"), ""),
+        Row(3, Rejected(1, *b"T04"), ""),
+        Row(4, Rejected(1, *b"F02"), ""),
+        Row(5, Rejected(3, *b"F02"), ""),
+        Row(59_999, Looks, ""),
+        Row(
+            60_000,
+            Looks,
+            "1970-01-01T00:01:00.000Z info rejects to alice: 1 of 0xff0041\n1970-01-01T00:01:00.000Z info rejects to bob: 2 of F02, 1 of T04\n",
+        ),
+        Row(120_000, Looks, ""),
+        Row(120_001, Rejected(2, *b"T00"), ""),
+        Row(
+            120_002,
+            LooksLast,
+            "1970-01-01T00:02:00.002Z info rejects to carol: 1 of T00\n",
+        ),
+    ];
+    play(&rt, rt.alloc(), &rows)?;
+    Ok(())
+}
+
+#[test]
+fn who_waits_for_whom(rt: HostRuntime) -> Result<(), Fail> {
+    use Event::*;
+    let rows = [
+        Row(
+            0,
+            WorkWaits(5),
+            "1970-01-01T00:00:00.000Z warn work waits for a worker, for 5 seconds now: of 4 workers none waits for a peer or an engine\n",
+        ),
+        Row(1, Waits(1), ""),
+        Row(2, Waits(1), ""),
+        Row(3, WaitsForEngine(0), ""),
+        Row(4, WorkWaits(5), ""),
+        Row(
+            1_000,
+            WorkWaits(6),
+            "1970-01-01T00:00:01.000Z warn work waits for a worker, for 6 seconds now: of 4 workers 2 wait for peer bob, 1 for the engine of alice (1 more since the last line)\n",
+        ),
+        Row(1_001, IsOver(1), ""),
+        Row(1_002, EngineIsOver(0), ""),
+        Row(
+            3_000,
+            WorkWaits(8),
+            "1970-01-01T00:00:03.000Z warn work waits for a worker, for 8 seconds now: of 4 workers 1 waits for peer bob\n",
+        ),
+        Row(7_000, WorkGoesOn, ""),
+        Row(
+            7_000,
+            Looks,
+            "1970-01-01T00:00:07.000Z info no work waits for a worker any more, after 8 seconds\n",
+        ),
+    ];
+    play(&rt, rt.alloc(), &rows)?;
+    Ok(())
+}
+
+#[test]
+fn how_full_the_journal_is(rt: HostRuntime) -> Result<(), Fail> {
+    use Event::*;
+    let rows = [
+        Row(0, JournalHas(52_428), ""),
+        Row(
+            0,
+            JournalHas(52_429),
+            "1970-01-01T00:00:00.000Z warn journal: 52429 of 65536 entries, 80 percent\n",
+        ),
+        Row(0, JournalHas(58_982), ""),
+        Row(
+            0,
+            JournalHas(62_260),
+            "1970-01-01T00:00:00.000Z error journal: 62260 of 65536 entries, 95 percent\n",
+        ),
+        Row(0, JournalHas(65_536), ""),
+        Row(
+            0,
+            JournalIsFull,
+            "1970-01-01T00:00:00.000Z error journal: full, with 65536 of 65536 entries: packets get T03, and credits 503\n",
+        ),
+        Row(0, JournalIsFull, ""),
+    ];
+    play(&rt, rt.alloc(), &rows)?;
+    Ok(())
+}
+
+#[test]
+fn settlements_and_engines(rt: HostRuntime) -> Result<(), Fail> {
+    use Event::*;
+    let rows = [
+        Row(
+            0,
+            Confirmed(1),
+            "1970-01-01T00:00:00.000Z info settlement 7 with bob of 250: confirmed\n",
+        ),
+        Row(
+            0,
+            Refused(1),
+            "1970-01-01T00:00:00.000Z warn settlement 7 with bob of 250: refused, and the amount is back; the next one waits 4 seconds\n",
+        ),
+        Row(0, RefusedWith(1, 400), ""),
+        Row(
+            0,
+            Refused(1),
+            "1970-01-01T00:00:00.000Z warn settlement 7 with bob of 250: refused with the status 400, and the amount is back; the next one waits 4 seconds\n",
+        ),
+        Row(
+            0,
+            KeptOpen(1),
+            "1970-01-01T00:00:00.000Z warn settlement 7 with bob: kept open, since its engine said neither yes nor no\n",
+        ),
+        Row(
+            0,
+            Credited(1),
+            "1970-01-01T00:00:00.000Z info credit 7 of bob: 250\n",
+        ),
+        Row(0, Credited(3), ""),
+        Row(
+            0,
+            EngineFails(1),
+            "1970-01-01T00:00:00.000Z warn engine of bob at 127.0.0.1:7000: no answer\n",
+        ),
+        Row(0, EngineAnswers(1), ""),
+        Row(
+            1_000,
+            Looks,
+            "1970-01-01T00:00:01.000Z info engine of bob at 127.0.0.1:7000: reached again, after 1 failure\n",
+        ),
+    ];
+    play(&rt, rt.alloc(), &rows)?;
+    Ok(())
+}
+
+#[test]
+fn a_clock_that_is_behind(rt: HostRuntime) -> Result<(), Fail> {
+    use Event::*;
+    let rows = [
+        Row(
+            0,
+            ClockBehind(3_600_123),
+            "1970-01-01T00:00:00.000Z error clock: 3600.123 seconds behind the last moment of the book, so that packets come too late\n",
+        ),
+        Row(0, ClockRight, ""),
+        Row(
+            1_000,
+            Looks,
+            "1970-01-01T00:00:01.000Z info clock: no longer behind the last moment of the book\n",
+        ),
+        Row(
+            1_000,
+            Unreadable(0),
+            "1970-01-01T00:00:01.000Z error peer alice at 127.0.0.1:7000: a 200 without a Fulfill or a Reject that can be read: it may have fulfilled the packet, at the connector's cost\n",
+        ),
+    ];
+    play(&rt, rt.alloc(), &rows)?;
+    Ok(())
+}
+
+// What is told once.
+fn tell_once<R: Clock + Eprint>(rt: &R, config: &Config) {
+    ilp_notices::listening(rt, config);
+    ilp_notices::one_worker(rt, config);
+    ilp_notices::not_listening(rt, "here", &io::Error::from(ErrorKind::InvalidInput));
+    ilp_notices::not_listening(rt, "127.0.0.1:1", &io::Error::from(ErrorKind::AddrInUse));
+    ilp_notices::no_thread(rt);
+    ilp_notices::few_files(rt, 256, 1_024);
+    ilp_notices::closing(rt);
+    ilp_notices::report_follows(rt);
+}
+
+#[test]
+fn what_is_told_once(rt: HostRuntime) -> Result<(), Fail> {
+    let config = configuration(rt.alloc())?;
+    let at = At {
+        rt,
+        milliseconds: 0,
+    };
+    let hearing = Hearing::new(at, rt.alloc(), 1_796_000_715_123);
+    tell_once(&hearing, &config);
+    assert!(rt;
+        hearing.wrote_only(
+            "2026-11-30T01:05:15.123Z info listening at 127.0.0.1:7768 for peers and at 127.0.0.1:7769 for engines: 4 workers, 3 peers, alice without an engine, bob with the engine at 127.0.0.1:7000, carol without an engine
+2026-11-30T01:05:15.123Z error can't listen at here: it is no IP:PORT in digits
+2026-11-30T01:05:15.123Z error can't listen at 127.0.0.1:1: address in use
+2026-11-30T01:05:15.123Z error a thread can't be started
+2026-11-30T01:05:15.123Z warn open files: 256 at most, and this configuration may need 1024: set ulimit -n 1024
+2026-11-30T01:05:15.123Z info closing: no connection is accepted any more
+2026-11-30T01:05:15.123Z error the report can't be written to standard output, and follows here
+"
+        )
+    );
+    Ok(())
+}
