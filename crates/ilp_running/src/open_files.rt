@@ -4,6 +4,7 @@ ghost use Rattle.ilp_intake.specs.declared.limits.TheConstants.{MOST_WAITING};
 ghost use Rattle.ilp_running.specs.OpenFiles as files;
 
 use ilp_intake::MOST_WAITING;
+use std::alloc::Global;
 use std::io::Read;
 use std::rt::Files;
 use std::{fs, str};
@@ -14,9 +15,6 @@ const LIMITS: &str = "/proc/self/limits";
 // What its line on open files begins with; the number follows.
 const LABEL: &str = "Max open files";
 
-// More octets than that file has, and more reads than it takes.
-const LONGEST: usize = 8_192;
-
 // The standard streams; of each side the listener, what waits for events and what wakes it; the
 // settler's connection; and some to spare.
 const OWN: u64 = 20;
@@ -24,19 +22,13 @@ const OWN: u64 = 20;
 // A worker's client, its peer or engine, and a client that waits for the worker.
 const OF_A_WORKER: u64 = 3;
 
-/// How many files the process may have open at once. None where the system does not say.
-pub(crate) fn open_files<R: Files>(rt: &R) -> Option<u64> {
-    let mut octets = [0; LONGEST];
+/// How many files the process may have open at once. None where the system does not say, or memory for
+/// its text is denied.
+pub(crate) fn open_files<R: Files>(rt: &R, alloc: Global) -> Option<u64> {
+    let mut octets = Vec::new(alloc);
     let mut file = fs::open(rt, LIMITS).ok()?;
-    let mut filled = 0;
-    for _ in 0..LONGEST {
-        match file.read(&mut octets[filled..]) {
-            Ok(0) => break,
-            Ok(count) => filled += count,
-            Err(_) => return None,
-        }
-    }
-    limit_in(str::from_utf8(&octets[..filled]).ok()?)
+    file.read_to_end(&mut octets).ok()?;
+    limit_in(str::from_utf8(octets.as_slice()).ok()?)
 }
 
 // The limit of open files that counts, by the system's text.

@@ -72,7 +72,7 @@ fn open_sides<R>(rt: &R, config: &Config) -> Result<Sides, Unprinted>
 where
     R: Net<Listener = TcpListener, Stream = TcpStream> + Clock + Eprint + Files,
 {
-    let open_files = open_files(rt);
+    let open_files = open_files(rt, config.allocator());
     let most = most_waiting(open_files, config.workers());
     let (peers, peer_handle) = open_side(rt, config, Side::Ilp, config.listen(), most)?;
     let (engines, engine_handle) = open_side(
