@@ -3,7 +3,7 @@ program exits."""
 import os
 import socket
 import time
-from concurrent.futures import Future, ThreadPoolExecutor
+from concurrent.futures import ThreadPoolExecutor
 
 from cases.case import case, expect, expect_that, expect_within
 from cases.laboratory import (AT_ONCE, END, Laboratory, close, credit, expect_end, expect_served,
@@ -96,16 +96,15 @@ def close_beside_waiting_packets(laboratory: Laboratory) -> None:
     """A close is answered and nobody is accepted any more, though packets wait for places. What has not
     begun after the longest hold and ten seconds is closed unanswered, and nothing of it is booked."""
     program = laboratory.serve(never_answers, workers=4, max_hold_ms=int(HOLD * 1000))
-    with ThreadPoolExecutor(20) as pool:
-        told: list[Future[bytes]] = [
-            pool.submit(send_packet, program, soon(1, milliseconds=60_000), 40.0)
-            for _ in range(20)]
-        laboratory.bob.await_count("/ilp", 1)
-        start = time.monotonic()
-        post_close(program)
-        expect_that("the close was not answered at once", seconds_since(start) < AT_ONCE)
-        await_nobody_accepted(program)
-        replies = [one.result() for one in told]
+    links = [laboratory.connect(program.setup.peers_port) for _ in range(20)]
+    for link in links:
+        link.sendall(packet_request(program, soon(1, milliseconds=60_000)))
+    laboratory.bob.await_count("/ilp", 1)
+    start = time.monotonic()
+    post_close(program)
+    expect_that("the close was not answered at once", seconds_since(start) < AT_ONCE)
+    await_nobody_accepted(program)
+    replies = [read_to_end(link, 40.0) for link in links]
     expect_within("seconds until the last is answered or closed", seconds_since(start),
                   HOLD + MARGIN - 1.0, HOLD + MARGIN + HOLD + 1.0)
     expect("what they are answered", set(replies), {response(200, R00), b""})
