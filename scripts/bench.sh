@@ -14,6 +14,11 @@
 #     scripts/bench.sh desk
 #     scripts/bench.sh answer
 #     scripts/bench.sh report
+#     scripts/bench.sh serve
+#
+# `serve` is another thing: the whole connector, proved and built by scripts/build.sh (or the program that
+# CONNECTOR names), under load beside nginx and plain Rust. It needs wrk and nginx too, and
+# bench/serve/serve.py says what it prints and takes.
 #
 # With LARGE=1 in the environment `book` has its rows behind 16,000,000 entries alone, which take 4 GB,
 # and counts no instructions.
@@ -31,6 +36,18 @@ top=$(cd "$(dirname "$0")/.." && pwd)
 bench="$top/bench/$name"
 work=$(mktemp -d)
 trap 'rm -rf "$work"' EXIT
+
+if [ "$name" = serve ]; then
+    for part in serve peer; do
+        rustc --edition 2024 -O "$top/bench/baselines/$part.rs" -o "$work/$part"
+    done
+    if [ -z "${CONNECTOR:-}" ]; then
+        "$top/scripts/build.sh" "$work/bin" >&2
+        CONNECTOR="$work/bin/connector"
+    fi
+    python3 "$bench/serve.py" "$CONNECTOR" "$work/serve" "$work/peer"
+    exit
+fi
 
 copy="$work/repository"
 mkdir "$copy"

@@ -243,12 +243,17 @@ pub fn look_at(octets: &[u8]) -> Examined {
     }
 }
 
+// Where octets come from; 0 where no more do.
+pub trait Source {
+    fn pull(&mut self, room: &mut [u8]) -> usize;
+}
+
 pub struct Pieces<'a> {
     pub rest: &'a [u8],
     pub piece: usize,
 }
 
-impl Pieces<'_> {
+impl Source for Pieces<'_> {
     fn pull(&mut self, room: &mut [u8]) -> usize {
         let count = room.len().min(self.piece).min(self.rest.len());
         let (now, rest) = self.rest.split_at(count);
@@ -287,7 +292,10 @@ pub struct Request<'b> {
     pub body: &'b [u8],
 }
 
-pub fn read_request<'b>(source: &mut Pieces, buffer: &'b mut [u8]) -> Result<Request<'b>, Fault> {
+pub fn read_request<'b, S: Source>(
+    source: &mut S,
+    buffer: &'b mut [u8],
+) -> Result<Request<'b>, Fault> {
     let mut spans = [FieldSpan::default(); FIELD_LIMIT];
     let (mut filled, mut needed, mut reads) = (0, 0, 0);
     let layout = loop {
