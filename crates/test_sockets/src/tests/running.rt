@@ -1,5 +1,6 @@
 //! The running connector, in a conversation of its peers and a settlement engine, and beside a peer that
-//! says nothing.
+//! says nothing. The tests themselves start the threads: what a connector asks of its runtime has types of
+//! its own, of which a proof knows nothing in another thread where the runtime is a parameter.
 
 mod conversation;
 mod messages;
@@ -46,46 +47,87 @@ where
     }
 }
 
-// Serves, and has the conversation meanwhile. Says whether it went as it should, and what was printed
-// is right.
-fn play<R>(rt: &R, alloc: Global, config: &Config) -> io::Result<bool>
-where
-    R: Net<Listener = TcpListener, Stream = TcpStream>
-        + Threads
-        + Wait
-        + Clock
-        + Eprint
-        + Files
-        + Copy
-        + Send
-        + Sync,
-{
-    if config.peers() < 2 {
-        return Ok(false);
+// Whether this was printed, and what was said meanwhile went as it should.
+fn is_right(written: io::Result<Vec<u8>>, said: io::Result<bool>, text: &[u8]) -> bool {
+    match (written, said) {
+        (Ok(written), Ok(true)) => written.as_slice() == text,
+        _ => false,
     }
-    let bob = TcpListener::bind(rt, config.host(1))?;
-    let engine = TcpListener::bind(rt, config.engine(1).unwrap_or(""))?;
-    let notices = Notices::new(alloc, config)?;
-    let others = Others {
-        bob: &bob,
-        engine: &engine,
+}
+
+// Has the conversation with a bob and an engine that listen here.
+fn converse_with<R: Net<Stream = TcpStream> + Clock>(
+    rt: &R,
+    alloc: Global,
+    bob: &TcpListener,
+    engine: &TcpListener,
+) -> io::Result<bool> {
+    converse(rt, alloc, &Others { bob, engine })
+}
+
+// Has what is said beside a silent bob who listens here.
+fn stay_silent_at<R: Net<Stream = TcpStream> + Clock>(
+    rt: &R,
+    alloc: Global,
+    peers: &String,
+    engines: &String,
+    bob: &TcpListener,
+) -> io::Result<bool> {
+    let scene = Scene {
+        peers: peers.as_str(),
+        engines: engines.as_str(),
+        bob,
     };
-    let (written, said) = join(
-        rt,
-        || printed(rt, config, &notices),
-        || converse(rt, alloc, &others),
-    );
-    let is_printed = written?.as_slice() == PRINTED;
-    Ok(said? && is_printed)
+    stay_silent(rt, alloc, &scene)
+}
+
+// What a test plays on: the configuration, and where bob and his engine listen.
+#[derive(Drop)]
+struct Stage {
+    config: Config,
+    notices: Notices,
+    bob: TcpListener,
+    engine: TcpListener,
+}
+
+// The stage of the built-in configuration.
+fn built_in<R: Net<Listener = TcpListener, Stream = TcpStream>>(
+    rt: &R,
+    alloc: Global,
+) -> io::Result<Stage> {
+    let bob = TcpListener::bind(rt, "127.0.0.1:7002")?;
+    let engine = TcpListener::bind(rt, "127.0.0.1:7003")?;
+    stage_of(alloc, BUILT_IN, bob, engine)
+}
+
+fn stage_of(alloc: Global, text: &str, bob: TcpListener, engine: TcpListener) -> io::Result<Stage> {
+    let Ok(config) = Config::read(alloc, text.as_bytes()) else {
+        return Err(io::Error::from(ErrorKind::InvalidData));
+    };
+    let notices = Notices::new(alloc, &config)?;
+    Ok(Stage {
+        config,
+        notices,
+        bob,
+        engine,
+    })
 }
 
 #[test]
 fn a_conversation(rt: HostRuntime) -> Result<(), Fail> {
-    let Ok(config) = Config::read(rt.alloc(), BUILT_IN.as_bytes()) else {
-        assert!(rt; false, "the built-in configuration is read");
-        return Ok(());
-    };
-    assert!(rt; play(&rt, rt.alloc(), &config)?);
+    let alloc = rt.alloc();
+    let Stage {
+        config,
+        notices,
+        bob,
+        engine,
+    } = built_in(&rt, alloc)?;
+    let (written, said) = join(
+        &rt,
+        || printed(&rt, &config, &notices),
+        || converse_with(&rt, alloc, &bob, &engine),
+    );
+    assert!(rt; is_right(written, said, PRINTED));
     Ok(())
 }
 
@@ -106,60 +148,35 @@ fn terms(alloc: Global, peers: &str, engines: &str, bob: &str) -> io::Result<Str
     Ok(text)
 }
 
-// Serves over these terms, beside a bob that never answers. Says whether all went as it should, and
-// what was printed is right.
-fn play_silence<R>(rt: &R, alloc: Global, text: &str, scene: Scene<'_>) -> io::Result<bool>
-where
-    R: Net<Listener = TcpListener, Stream = TcpStream>
-        + Threads
-        + Wait
-        + Clock
-        + Eprint
-        + Files
-        + Copy
-        + Send
-        + Sync,
-{
-    let Ok(config) = Config::read(alloc, text.as_bytes()) else {
-        return Ok(false);
-    };
-    let notices = Notices::new(alloc, &config)?;
-    let (written, said) = join(
-        rt,
-        || printed(rt, &config, &notices),
-        || stay_silent(rt, alloc, scene),
-    );
-    let is_printed = written?.as_slice() == PRINTED_OF_SILENCE;
-    Ok(said? && is_printed)
-}
-
-// A peer that says nothing, at places of their own.
-fn stage_silence<R>(rt: &R, alloc: Global) -> io::Result<bool>
-where
-    R: Net<Listener = TcpListener, Stream = TcpStream>
-        + Threads
-        + Wait
-        + Clock
-        + Eprint
-        + Files
-        + Copy
-        + Send
-        + Sync,
-{
+// The stage of a connector at these places, whose bob has no engine.
+fn silent<R: Net<Listener = TcpListener, Stream = TcpStream>>(
+    rt: &R,
+    alloc: Global,
+    peers: &str,
+    engines: &str,
+) -> io::Result<Stage> {
     let bob = TcpListener::bind(rt, "127.0.0.1:0")?;
-    let bob_place = format!(in alloc; "{}", bob.local_addr()?)?;
-    let (peers, engines) = (free_place(rt, alloc)?, free_place(rt, alloc)?);
-    let text = terms(alloc, peers.as_str(), engines.as_str(), bob_place.as_str())?;
-    let scene = Scene {
-        peers: peers.as_str(),
-        engines: engines.as_str(),
-        bob: &bob,
-    };
-    play_silence(rt, alloc, text.as_str(), scene)
+    let engine = TcpListener::bind(rt, "127.0.0.1:0")?;
+    let place = format!(in alloc; "{}", bob.local_addr()?)?;
+    let text = terms(alloc, peers, engines, place.as_str())?;
+    stage_of(alloc, text.as_str(), bob, engine)
 }
 
 #[test]
 fn a_silent_peer(rt: HostRuntime) -> Result<(), Fail> {
-    assert!(rt; stage_silence(&rt, rt.alloc())?);
+    let alloc = rt.alloc();
+    let (peers, engines) = (free_place(&rt, alloc)?, free_place(&rt, alloc)?);
+    let Stage {
+        config,
+        notices,
+        bob,
+        engine: _engine,
+    } = silent(&rt, alloc, peers.as_str(), engines.as_str())?;
+    let (written, said) = join(
+        &rt,
+        || printed(&rt, &config, &notices),
+        || stay_silent_at(&rt, alloc, &peers, &engines, &bob),
+    );
+    assert!(rt; is_right(written, said, PRINTED_OF_SILENCE));
     Ok(())
 }

@@ -25,7 +25,7 @@ pub(crate) struct Scene<'a> {
 /// One packet has the only worker that may wait for a peer, and another waits for its turn. Beside them
 /// all that waits for nobody is served. After the close both packets are answered when their time is
 /// over. Says whether all was as it should be.
-pub(crate) fn stay_silent<R>(rt: &R, alloc: Global, scene: Scene<'_>) -> io::Result<bool>
+pub(crate) fn stay_silent<R>(rt: &R, alloc: Global, scene: &Scene<'_>) -> io::Result<bool>
 where
     R: Net<Stream = TcpStream> + Clock,
 {
@@ -42,7 +42,7 @@ where
 }
 
 // A request that is refused while its client still sends, and a settlement.
-fn serve_beside<R>(rt: &R, alloc: Global, scene: Scene<'_>) -> io::Result<bool>
+fn serve_beside<R>(rt: &R, alloc: Global, scene: &Scene<'_>) -> io::Result<bool>
 where
     R: Net<Stream = TcpStream> + Clock,
 {
