@@ -2,12 +2,12 @@
 
 use crate::admission::Admission;
 use crate::incoming::{Arrival, Incoming};
-use crate::limits::{ALLOWANCE_MS, PIECE};
+use crate::limits::PIECE;
 use crate::ready::ReadyConnection;
 use crate::stage::Stage;
 use ilp_http::BUFFER_LENGTH;
-use mio::Registry;
 use mio::net::TcpStream;
+use mio::{Interest, Registry, Token};
 use std::alloc::Global;
 use std::io::{ErrorKind, Read};
 use std::time::Duration;
@@ -22,6 +22,8 @@ pub(crate) struct Connection<K> {
     incoming: Incoming,
     accepted: Duration,
     stage: Stage<K>,
+    // Whether events tell of it.
+    registered: bool,
 }
 
 // What a read of a connection came to.
@@ -33,7 +35,7 @@ enum Reading {
 }
 
 impl<K: Copy> Connection<K> {
-    /// A connection of which nothing is read yet.
+    /// A connection of which nothing is read yet, and of which no event tells.
     pub(crate) fn new(
         alloc: Global,
         number: usize,
@@ -46,6 +48,7 @@ impl<K: Copy> Connection<K> {
             incoming: Incoming::new(alloc),
             accepted,
             stage: Stage::Waiting,
+            registered: false,
         }
     }
 
@@ -69,6 +72,18 @@ impl<K: Copy> Connection<K> {
         self.accepted
     }
 
+    /// Has events tell of it, if none does. It is lost where the system refuses that.
+    pub(crate) fn register(&mut self, registry: &Registry) {
+        if self.registered {
+            return;
+        }
+        let interest = Interest::READABLE;
+        match registry.register(&mut self.stream, Token(self.number), interest) {
+            Ok(()) => self.registered = true,
+            Err(_) => self.stage = Stage::Lost,
+        }
+    }
+
     /// Takes in what an event of it tells. One that waits is read. One that is ready is not read on,
     /// and is lost where the system tells of a failure.
     pub(crate) fn handle_event<D: Admission<Kind = K>>(&mut self, admission: &mut D) {
@@ -83,9 +98,9 @@ impl<K: Copy> Connection<K> {
         }
     }
 
-    // Reads until it is ready or lost, or nothing more has come. Each read but those that were
-    // interrupted gives an octet at least, so there are no more reads than octets of a request.
-    fn read<D: Admission<Kind = K>>(&mut self, admission: &mut D) {
+    /// Reads until it is ready or lost, or nothing more has come. Each read but those that were
+    /// interrupted gives an octet at least, so there are no more reads than octets of a request.
+    pub(crate) fn read<D: Admission<Kind = K>>(&mut self, admission: &mut D) {
         for _ in 0..=BUFFER_LENGTH {
             match self.read_piece() {
                 Ok(Reading::Octets(Arrival::Partial)) => {}
@@ -114,30 +129,22 @@ impl<K: Copy> Connection<K> {
         }
     }
 
-    /// The connection as it is given on, with what is left of its time.
-    pub(crate) fn into_ready(
-        self,
-        registry: &Registry,
-        now: Duration,
-        kind: K,
-    ) -> io::Result<ReadyConnection<K>> {
+    /// The connection as it is given on. No event tells of it any more.
+    pub(crate) fn into_ready(self, registry: &Registry, kind: K) -> io::Result<ReadyConnection<K>> {
         let Connection {
             number: _,
             mut stream,
             incoming,
-            accepted,
+            accepted: _,
             stage,
+            registered,
         } = self;
-        registry.deregister(&mut stream)?;
-        let stream = net::TcpStream::from(stream);
-        stream.set_nonblocking(false)?;
-        let left = accepted
-            .saturating_add(Duration::from_millis(ALLOWANCE_MS))
-            .saturating_sub(now);
+        if registered {
+            registry.deregister(&mut stream)?;
+        }
         Ok(ReadyConnection {
-            stream,
+            stream: net::TcpStream::from(stream),
             octets: incoming.into_octets(),
-            left,
             kind,
             refused: matches!(stage, Stage::Ready { refused: true, .. }),
         })

@@ -25,6 +25,8 @@ pub(crate) struct Connections<K> {
     most: usize,
     // The number of the next one.
     next: usize,
+    // Whether there may be some of which no event tells yet.
+    has_new: bool,
     // When the intake was closed.
     closed: Option<Duration>,
     ghost few: { vec_len waiting + vec_len lingering ≤ most },
@@ -80,6 +82,7 @@ impl<K: Copy> Connections<K> {
             ready: Ready::new(alloc, most)?,
             most,
             next: 0,
+            has_new: false,
             closed: None,
         })
     }
@@ -96,25 +99,38 @@ impl<K: Copy> Connections<K> {
         self.waiting.len() + self.lingering.len() == self.most
     }
 
-    /// Adds a connection that was accepted at this time. Where there are as many as may be, one of
-    /// them is closed: one that could be missed, as `give_up_one` says, and else the first. The added
-    /// one is closed where the system or want of memory refuses it.
-    pub(crate) fn add(&mut self, registry: &Registry, stream: TcpStream, now: Duration) {
-        let _ = self.try_add(registry, stream, now);
-    }
-
-    fn try_add(&mut self, registry: &Registry, stream: TcpStream, now: Duration) -> io::Result<()> {
-        let mut stream = stream;
-        stream.set_nodelay(true)?;
-        registry.register(&mut stream, Token(self.next), Interest::READABLE)?;
+    /// Adds a connection that was accepted at this time, and reads it: mostly its request has come
+    /// by then, and no event need tell of it. Where there are as many as may be, one of them is closed:
+    /// one that could be missed, as `give_up_one` says, and else the first. The added one is closed
+    /// where want of memory refuses it.
+    pub(crate) fn add<D: Admission<Kind = K>>(
+        &mut self,
+        stream: TcpStream,
+        now: Duration,
+        admission: &mut D,
+    ) {
         if self.is_full() && !self.give_up_one() {
             drop(self.waiting.remove(0));
         }
         let alloc = *self.waiting.allocator();
-        let connection = Connection::new(alloc, self.next, stream, now);
+        let mut connection = Connection::new(alloc, self.next, stream, now);
+        connection.read(admission);
         self.next = self.next.wrapping_add(1);
-        self.waiting.push(connection)?;
-        Ok(())
+        self.has_new = true;
+        let _ = self.waiting.push(connection);
+    }
+
+    /// Has events tell of all that wait. One of which the system refuses that is closed.
+    pub(crate) fn register_new(&mut self, registry: &Registry) {
+        if !self.has_new {
+            return;
+        }
+        self.has_new = false;
+        for connection in self.waiting.iter_mut() {
+            connection.register(registry);
+        }
+        self.waiting
+            .retain(|connection| !matches!(connection.stage(), Stage::Lost));
     }
 
     /// Closes the connection that lingers longest, or else the one that has waited longest for its
@@ -212,7 +228,6 @@ impl<K: Copy> Connections<K> {
     pub(crate) fn take_ready<D: Admission<Kind = K>>(
         &mut self,
         registry: &Registry,
-        now: Duration,
         admission: &mut D,
     ) -> Option<ReadyConnection<K>> {
         for _ in 0..MOST_WAITING {
@@ -222,7 +237,7 @@ impl<K: Copy> Connections<K> {
             if place >= self.waiting.len() {
                 return None;
             }
-            match self.waiting.remove(place).into_ready(registry, now, kind) {
+            match self.waiting.remove(place).into_ready(registry, kind) {
                 Ok(ready) => return Some(ready),
                 Err(_) => admission.give_back(kind),
             }

@@ -140,7 +140,7 @@ impl<K: Copy> Intake<K> {
                 return None;
             }
             let registry = self.poll.registry();
-            if let Some(ready) = self.connections.take_ready(registry, now, admission) {
+            if let Some(ready) = self.connections.take_ready(registry, admission) {
                 return Some(ready);
             }
             if self.listener.is_none() && self.connections.is_empty() {
@@ -157,6 +157,7 @@ impl<K: Copy> Intake<K> {
         rt: &R,
         admission: &mut D,
     ) {
+        self.connections.register_new(self.poll.registry());
         let timeout = self.poll_timeout();
         if self.poll.poll(&mut self.events, timeout).is_err() {
             thread::sleep(rt, Duration::from_millis(REST_MS));
@@ -176,7 +177,7 @@ impl<K: Copy> Intake<K> {
         }
         // Connections that came before the close are accepted.
         if closing || self.backlog != Backlog::Empty {
-            self.accept_pending(now);
+            self.accept_pending(now, admission);
         }
         if closing {
             self.listener = None;
@@ -218,7 +219,7 @@ impl<K: Copy> Intake<K> {
     //
     // Where the system is short of descriptors it says so also while none waits. So a connection is
     // given up only for one that is known to wait, and else the listener's event tells whether one does.
-    fn accept_pending(&mut self, now: Duration) {
+    fn accept_pending<D: Admission<Kind = K>>(&mut self, now: Duration, admission: &mut D) {
         let Some(listener) = &mut self.listener else {
             return;
         };
@@ -228,7 +229,7 @@ impl<K: Copy> Intake<K> {
         for _ in 0..MOST_AT_ONCE {
             match listener.accept() {
                 Ok(stream) => {
-                    self.connections.add(registry, stream, now);
+                    self.connections.add(stream, now, admission);
                     one_waits = false;
                 }
                 Err(NotAccepted::Lost) => one_waits = false,

@@ -1,18 +1,15 @@
 //! A connection that is given on.
 
 use std::net::TcpStream;
-use std::time::Duration;
 
 /// A connection whose request has come whole or is refused as it stands, or whose client sends
 /// nothing more.
 #[derive(Drop)]
 pub struct ReadyConnection<K> {
-    /// Reads and writes of it wait.
+    /// Reads and writes of it don't wait: they fail with `WouldBlock` where they would.
     pub stream: TcpStream,
     /// The octets that were read of it.
     pub octets: Vec<u8>,
-    /// What is left of the time in which its request is to come.
-    pub left: Duration,
     /// Of which kind it is.
     pub kind: K,
     /// Whether its request was refused as it stands, so that more of it may come. Once it is answered

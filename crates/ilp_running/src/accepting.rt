@@ -56,7 +56,7 @@ impl<R: Wait + Clock> Admission for Placing<'_, R> {
 
     fn give_back(&mut self, kind: Work) {
         // This intake asks again at once, and the other one when the next job is done.
-        let _ = self.places.give_back(self.rt, kind);
+        self.places.give_back(self.rt, kind);
     }
 }
 

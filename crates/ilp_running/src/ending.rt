@@ -1,5 +1,6 @@
 //! How a close reaches the intakes and the workers.
 
+use crate::places::HeldBack;
 use ilp_intake::IntakeHandle;
 use ilp_server::Side;
 use std::net::TcpStream;
@@ -57,10 +58,14 @@ impl Ending {
         self.engines.close();
     }
 
-    /// Tells both intakes that a connection which waits there may be given on now.
-    pub(crate) fn look_again(&self) {
-        self.peers.look_again();
-        self.engines.look_again();
+    /// Tells the intakes of these sides that a connection which waits there may be given on now.
+    pub(crate) fn look_again(&self, held_back: HeldBack) {
+        if held_back.peers {
+            self.peers.look_again();
+        }
+        if held_back.engines {
+            self.engines.look_again();
+        }
     }
 
     /// Has the intake of this side read on, for a moment, what the client of an answered connection

@@ -44,9 +44,29 @@ struct Taken {
     peers: Vec<OfPeer>,
     // How many remote ones were given to them so far.
     turns: u64,
-    // Whether one was not given to them for want of a place.
-    held_back: bool,
+    held_back: HeldBack,
     waits: Waits,
+}
+
+/// At which sides a connection was not given to the workers for want of a place.
+#[derive(Clone, Copy)]
+pub(crate) struct HeldBack {
+    pub(crate) peers: bool,
+    pub(crate) engines: bool,
+}
+
+impl HeldBack {
+    const NONE: HeldBack = HeldBack {
+        peers: false,
+        engines: false,
+    };
+
+    fn at(&mut self, side: Side) -> &mut bool {
+        match side {
+            Side::Ilp => &mut self.peers,
+            Side::Engine => &mut self.engines,
+        }
+    }
 }
 
 // Since when connections have waited for a place at each side, and none there was given one; by the
@@ -94,7 +114,7 @@ impl Places {
                 remote: 0,
                 peers,
                 turns: 0,
-                held_back: false,
+                held_back: HeldBack::NONE,
                 waits: Waits {
                     peers: None,
                     engines: None,
@@ -133,21 +153,30 @@ impl Places {
         Some(rt.monotonic().ok()?.saturating_sub(since))
     }
 
-    /// Gives the place of a connection back. Tells whether another waits for one.
-    pub(crate) fn give_back(&self, rt: &impl Wait, work: Work) -> bool {
+    /// Gives the place of a connection back that was served. Tells at which sides others wait for one:
+    /// they are to ask again.
+    pub(crate) fn served(&self, rt: &impl Wait, work: Work) -> HeldBack {
         let mut taken = self.taken.lock(rt);
         let taken = &mut *taken;
         taken.give_back(work);
         let held_back = taken.held_back;
-        taken.held_back = false;
+        taken.held_back = HeldBack::NONE;
         held_back
+    }
+
+    /// Gives the place of a connection back that was lost before it was served. Whoever waits for one
+    /// asks again once another was served.
+    pub(crate) fn give_back(&self, rt: &impl Wait, work: Work) {
+        self.taken.lock(rt).give_back(work);
     }
 }
 
 impl Taken {
     // Notes whether connections of this side wait for a place now.
     fn hold_back(&mut self, rt: &impl Clock, side: Side, waits: bool) {
-        self.held_back = self.held_back || waits;
+        if waits {
+            *self.held_back.at(side) = true;
+        }
         let since = self.waits.at(side);
         if !waits {
             *since = None;

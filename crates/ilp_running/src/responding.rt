@@ -7,16 +7,16 @@ use crate::threads::Shared;
 use crossbeam_channel::Receiver;
 use ilp_desk::{Desk, End, Naming};
 use ilp_intake::ReadyConnection;
-use ilp_links::{TimedReader, TimedWriter, instant_after};
+use ilp_links::{TimedWriter, instant_after};
 use ilp_server::{Handled, answer_connection};
 use ilp_workers::{Clock, EngineLink, Uplink};
-use std::io::{Eprint, Read, Write};
+use std::io::{Eprint, ErrorKind, Read, Write};
 use std::net::{Shutdown, TcpStream};
 use std::sync::Wait;
 use std::time::{Duration, Instant};
 use std::{io, time};
 
-// How long a response may take to be written, in milliseconds.
+// How long a client may take for a response that it doesn't take at once, in milliseconds.
 const RESPONSE_MS: u64 = 10_000;
 
 /// Serves connections until no more come, and gives back the place of each. What has not begun when the
@@ -35,9 +35,8 @@ pub(crate) fn serve_connections<
         if !shared.ending.is_over(rt) {
             serve_job(&shared, &mut responder, job);
         }
-        if shared.places.give_back(rt, kind) {
-            shared.ending.look_again();
-        }
+        let held_back = shared.places.served(rt, kind);
+        shared.ending.look_again(held_back);
     }
     let Responder { worker, buffer: _ } = responder;
     worker.into_end()
@@ -59,8 +58,8 @@ fn serve_job<
     let handled = serve_connection(rt, shared.desk, responder, &job);
     let Job { side, connection } = job;
     match handled {
-        Ok(Handled::Close) => shared.ending.close(rt),
-        Ok(Handled::Done(status)) => {
+        Handled::Close => shared.ending.close(rt),
+        Handled::Done(status) => {
             tell_outcome(
                 shared,
                 &responder.worker,
@@ -77,24 +76,22 @@ fn serve_job<
     }
 }
 
-// Serves a connection: its request is what was read, and what is still to be read in what is left
-// of its time.
+// Serves a connection. Its request is what was read of it: an intake gives on nothing of which more has
+// to come, so no read waits. Where it ended early, a read finds the end.
 fn serve_connection<
     J: Naming,
     C: Clock + Drop,
     U: Uplink + Drop,
     E: EngineLink + Drop,
     R: Wait + time::Clock,
->(rt: &R, desk: &Desk<J>, responder: &mut Responder<J, C, U, E>, job: &Job) -> io::Result<Handled> {
+>(rt: &R, desk: &Desk<J>, responder: &mut Responder<J, C, U, E>, job: &Job) -> Handled {
     let ReadyConnection {
         stream,
         octets,
-        left,
         kind: _,
         refused: _,
     } = &job.connection;
-    let until = instant_after(rt, *left)?;
-    let mut source = octets.as_slice().chain(TimedReader::new(rt, stream, until));
+    let mut source = octets.as_slice().chain(stream);
     let mut sink = ResponseSink::new(rt, stream);
     let alloc = desk.config().allocator();
     let handled = answer_connection(
@@ -108,14 +105,16 @@ fn serve_connection<
         &mut responder.buffer,
     );
     let _ = stream.shutdown(Shutdown::Write);
-    Ok(handled)
+    handled
 }
 
-// Where a response is written. Its time begins with its first octet.
+// Where a response is written: without waiting, as long as the client takes it. Once it doesn't, it has
+// some time for the rest.
 #[derive(Drop)]
 struct ResponseSink<'s, R> {
     rt: &'s R,
     stream: &'s TcpStream,
+    // By when the rest is to be taken, where a write would have waited.
     until: Option<Instant>,
 }
 
@@ -127,15 +126,28 @@ impl<'s, R: time::Clock> ResponseSink<'s, R> {
             until: None,
         }
     }
+
+    // Has writes wait from now on, for so long in all.
+    fn wait(&mut self) -> io::Result<Instant> {
+        let until = instant_after(self.rt, Duration::from_millis(RESPONSE_MS))?;
+        self.stream.set_nonblocking(false)?;
+        self.until = Some(until);
+        Ok(until)
+    }
 }
 
 impl<R: time::Clock> Write for ResponseSink<'_, R> {
     fn write(&mut self, octets: &[u8]) -> io::Result<usize> {
         let until = match self.until {
             Some(until) => until,
-            None => instant_after(self.rt, Duration::from_millis(RESPONSE_MS))?,
+            None => {
+                let mut stream = self.stream;
+                match stream.write(octets) {
+                    Err(error) if error.kind() == ErrorKind::WouldBlock => self.wait()?,
+                    written => return written,
+                }
+            }
         };
-        self.until = Some(until);
         TimedWriter::new(self.rt, self.stream, until).write(octets)
     }
 
