@@ -4,7 +4,10 @@ from dataclasses import replace
 
 from long_runs.books import Refused, quote
 from long_runs.configurations import Asset, Configuration, Peer
+from long_runs.exchanges import Model
+from long_runs.outside import Seen
 from long_runs.packets import (Faulty, Fulfill, expiry_digits, prefix, read_expiry, read_packet, read_string)
+from long_runs.quantities import BadQuantity, Quantity, credited, read_quantity, written
 from long_runs.scripts import Script
 
 T = 1_735_689_600_000  # 2025-01-01T00:00:00Z
@@ -15,8 +18,11 @@ F1 = "0d21" + "00" * 33
 MOST = 18_446_744_073_709_551_615
 
 
-def p(amount: int) -> str:
-    """A Prepare to bob of this amount, which expires 30 seconds after T."""
+def p(amount: int, name: str = "bob") -> str:
+    """A Prepare to bob, or to alice, of this amount, which expires 30 seconds after T."""
+    if name == "alice":
+        after = AFTER.replace("08746573742e626f62", "0a746573742e616c696365")
+        return f"0c45{amount:016x}{after}"
     return f"{BEGIN}{amount:016x}{AFTER}"
 
 
@@ -115,19 +121,69 @@ def check_scripts() -> None:
     check_script(dear, [f"hold {T} alice {p(1)}"], ["reject R01 RoundsToNothing"])
     small = replace(BUILT_IN, peers=(replace(ALICE, max_packet=10), BOB))
     check_script(small, [f"hold {T} alice {P1}"], ["reject F08 AmountTooLarge 10"])
+    half = 2**63 - 1
+    deep = replace(BUILT_IN, peers=(replace(ALICE, least=-2**63), replace(BOB, least=-2**63)))
+    check_script(deep, [f"hold {T} alice {p(half)}", f"hold {T} bob {p(half, 'alice')}",
+                        f"hold {T} alice {p(1)}", f"hold {T} bob {p(1, 'alice')}"],
+                 [f"held 0 to bob out {half}", f"held 1 to alice out {half}", "held 2 to bob out 1",
+                  "reject T04 TotalFull"])
+
+
+def quoted(ppm: int, amount: int, scales: tuple[int, int] | None = None, price: tuple[int, int] = (1, 1),
+           back: bool = False) -> tuple[int, int, int] | str:
+    """The quote of an amount within one asset, or from one scale to another, or of the pair reversed."""
+    one = replace(BUILT_IN, peers=(replace(ALICE, fee_ppm=ppm), BOB))
+    if scales is not None:
+        one = replace(one, assets=(Asset("USD", scales[0]), Asset("XRP", scales[1])), prices={(0, 1): price},
+                      peers=(one.peers[0], replace(BOB, asset=1)))
+    try:
+        made = quote(one, *((1, 0) if back else (0, 1)), amount)
+    except Refused as refused:
+        return refused.name
+    return made.fee, made.net, made.out
 
 
 def check_quotes() -> None:
-    peers = (replace(ALICE, fee_ppm=10_000), replace(BOB, asset=1))
-    one = replace(BUILT_IN, assets=(Asset("USD", 2), Asset("XRP", 9)), peers=peers, prices={(0, 1): (2, 7)})
-    quoted = quote(one, 0, 1, 1_001)
-    expect("a quote", (quoted.fee, quoted.net, quoted.out), (11, 990, 2_828_571_428))
+    expect("2 to 9", quoted(10_000, 1_001, (2, 9), (2, 7)), (11, 990, 2_828_571_428))
+    expect("the reversed pair", quoted(10_000, 1_001, (2, 9), (2, 7), back=True), "NoPrice")
+    expect("a small fee", quoted(1, 1_000_001), (2, 999_999, 999_999))
+    expect("a fee of all", quoted(1, 1), "RoundsToNothing")
+    expect("a fee of all of the most", quoted(1_000_000, MOST), "RoundsToNothing")
+    expect("to a finer scale", quoted(0, MOST, (2, 9)), "OutTooLarge")
+    expect("to a coarser scale", quoted(0, 9_999_999, (9, 2)), "RoundsToNothing")
+    expect("one more to a coarser scale", quoted(0, 10_000_000, (9, 2)), (0, 10_000_000, 1))
+    expect("nothing", quoted(1_000_000, 0), (0, 0, 0))
+
+
+def read_as(text: str) -> tuple[int, int] | int:
+    """A quantity's amount and scale, or its fault."""
     try:
-        quote(one, 1, 0, 1_001)
-    except Refused as refused:
-        expect("the reversed pair", refused.name, "NoPrice")
+        quantity = read_quantity(text.encode())
+    except BadQuantity as bad:
+        return bad.number
+    return quantity.amount, quantity.scale
+
+
+def check_quantities() -> None:
+    for text, wanted in (("[]", 31), ("", 31), ('{"amount":1,"scale":2,}', 31), ('{"amount":NaN,"scale":3}', 31),
+                         ('{"amount":"","scale":2}', 32), ('{"scale":256,"amount":-1}', 32),
+                         ('{"amount":5.0,"scale":2}', 32), ('{"amount":-0,"scale":2}', 32),
+                         ('{"amount":18446744073709551616,"scale":2}', 32), ('{"amount":"1"}', 33),
+                         ('{"amount":"1","scale":"2"}', 33), ('{"amount":"1","scale":256}', 33),
+                         ('{"amount":"007","scale":0}', (7, 0)), ('{"amount":1,"amount":2,"scale":3}', (2, 3)),
+                         (r'{"\u0061mount":"\u0031","scale":3}', (1, 3)),
+                         ('{"amount":18446744073709551615,"scale":2}', (MOST, 2))):
+        expect(text, read_as(text), wanted)
+    expect("nothing", credited(Quantity(0, 0), 255), 0)
+    expect("rounded down", credited(Quantity(1_999_999_999, 9), 2), 199)
+    expect("38 digits", credited(Quantity(10**38 - 1, 38), 19), 9_999_999_999_999_999_999)
+    expect("written", written(199, 2), b'{"amount":"199","scale":2}')
+    try:
+        credited(Quantity(1, 0), 20)
+    except BadQuantity as bad:
+        expect("1 at scale 20", bad.number, 34)
     else:
-        raise Wrong("the reversed pair has a price")
+        raise Wrong("1 at scale 20 is credited")
 
 
 def check_packets() -> None:
@@ -163,10 +219,72 @@ def check_routes() -> None:
         expect(address.decode(), nested.route(address), peer)
 
 
+def answer_to(configuration: Configuration, octets: bytes, at_peers: bool = True) -> bytes:
+    """What the model answers at T, which is to be one thing. Bob's server fulfills with zeros what has
+    no data, and his engine says what it is told backwards."""
+    model = Model(configuration, frozenset(["bob"]), Seen())
+    outcomes = model.outcomes(at_peers, octets, T, True)
+    expect("the number of outcomes", len(outcomes), 1)
+    return outcomes[0].octets
+
+
+def asked(body: bytes, line: str = "POST /ilp HTTP/1.1", token: str = "a-token", length: str | None = "") -> bytes:
+    """A request of a peer; without a length that of the body is told."""
+    lines = [line, "Host: h", f"Authorization: Bearer {token}"]
+    if length is not None:
+        lines.append(f"Content-Length: {length or len(body)}")
+    return "\r\n".join([*lines, "", ""]).encode() + body
+
+
+def told(line: str, body: str, *fields: str) -> bytes:
+    """A response, whose body is in hexadecimal."""
+    octets = bytes.fromhex(body)
+    lines = [f"HTTP/1.1 {line}", *fields]
+    if octets:
+        lines.append("Content-Type: application/octet-stream")
+    lines += [f"Content-Length: {len(octets)}", "Connection: close", "", ""]
+    return "\r\n".join(lines).encode() + octets
+
+
+def message(token: str) -> bytes:
+    """A peer's message for its engine: `hi`."""
+    content = bytes(8) + bytes.fromhex(AFTER)[:49] + b"\x0bpeer.settle\x02hi"
+    return asked(b"\x0c" + bytes([len(content)]) + content, token=token)
+
+
+def check_answers() -> None:
+    whole = bytes.fromhex(P1)
+    ones = whole[:27] + b"\1" * 32 + whole[59:]
+    small = replace(BUILT_IN, peers=(replace(ALICE, max_packet=10), BOB))
+    f08 = ("0e2e46303808746573742e68756210616d6f756e7420746f6f206c61726765100000000000000064"
+           "000000000000000a")
+    f02 = "0e1946303208746573742e6875620b756e726561636861626c6500"
+    wanted = [
+        (BUILT_IN, asked(whole), told("200 OK", F1)),
+        (BUILT_IN, asked(ones), told(
+            "200 OK", "0e1d46303508746573742e6875620f77726f6e6720636f6e646974696f6e00")),
+        (small, asked(whole), told("200 OK", f08)),
+        (BUILT_IN, asked(whole, "GET /ilp HTTP/1.1"), told("405 Method Not Allowed", "", "Allow: POST")),
+        (BUILT_IN, asked(whole, length=None), told("411 Length Required", "")),
+        (BUILT_IN, asked(whole, length="65537"), told("413 Content Too Large", "")),
+        (BUILT_IN, asked(whole, token="x"), told("401 Unauthorized", "", "WWW-Authenticate: Bearer")),
+        (BUILT_IN, asked(b"\x0c"), told("400 Bad Request", "")),
+        (BUILT_IN, asked(whole)[:-1], told("400 Bad Request", "")),
+        (BUILT_IN, asked(whole, "POST /x HTTP/1.1"), told("404 Not Found", "")),
+        (BUILT_IN, b"A" * 16_384, told("431 Request Header Fields Too Large", "")),
+        (BUILT_IN, b"A" * 16_383, told("400 Bad Request", "")),
+        (BUILT_IN, message("b-token"), told("200 OK", "0d23" + "00" * 32 + "026968")),
+        (BUILT_IN, message("a-token"), told("200 OK", f02))]
+    for configuration, octets, answer in wanted:
+        expect(repr(octets[:200]), answer_to(configuration, octets), answer)
+
+
 def check_rows() -> None:
     """Raises Wrong at the first row from which the model differs."""
     check_scripts()
     check_quotes()
+    check_quantities()
     check_packets()
     check_expiries()
     check_routes()
+    check_answers()
