@@ -51,7 +51,7 @@ class Effect:
 
 @dataclass(frozen=True)
 class Outcome:
-    """An answer octet for octet, unless it is a report, and its effect."""
+    """An answer octet for octet, and its effect. Of a report beside other senders there is nothing."""
 
     octets: bytes
     effect: Effect = Effect()
@@ -67,6 +67,7 @@ class Model:
     reachable: frozenset[str]
     seen: Seen
     shared_keys: frozenset[bytes] = frozenset()
+    has_one_sender: bool = False
     lock: threading.RLock = field(default_factory=threading.RLock)
     sent: Counter[tuple[str, int, bytes, bytes, bytes]] = field(default_factory=Counter)
     told: Counter[tuple[str, bytes]] = field(default_factory=Counter)
@@ -119,11 +120,14 @@ class Model:
             data = b""
             if refused.name == "AmountTooLarge":
                 data = prepare.amount.to_bytes(8, "big") + refused.numbers[0].to_bytes(8, "big")
-            return [Outcome(self.reject(refused.name, data))]
-        if late:
-            # It may have waited for a worker for too long, too.
-            return [Outcome(self.reject("Late"), Effect(hold, "Late")), Outcome(self.reject("TooShort"))]
-        return [self.passed_on(prepare, hold)]
+            first = Outcome(self.reject(refused.name, data))
+        else:
+            first = self.passed_on(prepare, hold)
+            if late and first.effect.sent is not None:
+                # Its peer answers after the deadline, and keeps no account of it.
+                first = Outcome(self.reject("Late"), Effect(hold, "Late"))
+        # What is late may have waited for a worker for too long, or for a peer that is away.
+        return [first, Outcome(self.reject("TooShort"))] if late else [first]
 
     def passed_on(self, prepare: Prepare, hold: Hold) -> Outcome:
         """What comes of a hold by what its receiver says."""
@@ -162,8 +166,8 @@ class Model:
 
     def at_engines(self, request: Request, now: int, alone: bool) -> list[Outcome]:
         if request.target == b"/report":
-            return [Outcome(response(200, report(self.book).encode(), TEXT), is_report=True)] if alone else [
-                Outcome(b"", is_report=True)]
+            known = response(200, report(self.book).encode(), TEXT) if self.has_one_sender else b""
+            return [Outcome(known, is_report=True)]
         if request.target == b"/close":
             raise Unsure
         found = re.fullmatch(rb"/accounts/([^/]*)/(settlements|messages)", request.target)

@@ -5,6 +5,7 @@ import tempfile
 from collections import Counter
 from collections.abc import Iterator
 from dataclasses import dataclass, field
+from itertools import zip_longest
 from pathlib import Path
 
 from long_runs.authors import Author
@@ -86,8 +87,11 @@ def modelled(configuration: Configuration, lines: list[bytes]) -> tuple[list[str
 
 def printed(binary: Path, configuration: Path, lines: list[bytes]) -> str:
     """What the program prints; a fault of it is told behind that."""
-    done = subprocess.run([binary, "replay", configuration], input=b"\n".join(lines),
-                          capture_output=True, timeout=WITHIN_SECONDS, check=False)
+    try:
+        done = subprocess.run([binary, "replay", configuration], input=b"\n".join(lines),
+                              capture_output=True, timeout=WITHIN_SECONDS, check=False)
+    except subprocess.TimeoutExpired:
+        return f"[it did not end within {WITHIN_SECONDS} seconds]\n"
     text = done.stdout.decode("latin-1")
     if done.returncode != 0 or done.stderr:
         text += f"[exit status {done.returncode}, standard error {done.stderr!r}]\n"
@@ -112,14 +116,13 @@ def written(chance: random.Random, configuration: Configuration, length: int) ->
 
 def first_difference(texts: list[str], came: str) -> tuple[int, str, str] | None:
     """The script's first line of which something else came, with the two printed lines."""
-    rest = came
-    for place, text in enumerate(texts):
-        if not rest.startswith(text):
-            wanted, got = text.splitlines(), rest.splitlines()[:len(text.splitlines())]
-            pairs = zip(wanted, got + ["(nothing)"] * len(wanted))
-            return place, *next(pair for pair in pairs if pair[0] != pair[1])
-        rest = rest[len(text):]
-    return (len(texts), "(nothing)", rest.splitlines()[0]) if rest else None
+    wanted = [(place, line) for place, text in enumerate(texts) for line in text.splitlines(keepends=True)]
+    nothing = (len(texts), "")
+    for one, got in zip_longest(wanted, came.splitlines(keepends=True)):
+        place, line = one or nothing
+        if line != (got or ""):
+            return place, line, got or ""
+    return None
 
 
 def shrunk(binary: Path, configuration: Configuration, file: Path, lines: list[bytes]) -> list[bytes]:
@@ -153,7 +156,7 @@ def keep(plan: Plan, toml: str, configuration: Configuration, lines: list[bytes]
     line = lines[place] if place < len(lines) else b""
     shown = "\n".join(f"    {one.decode('latin-1')[:200]}" for one in smallest)
     return (f"seed {plan.seed}, line {place + 1} of {len(lines)}: {line.decode('latin-1')[:300]}\n"
-            f"  expected: {wanted[:300]}\n  came:     {got[:300]}\n"
+            f"  expected: {wanted[:300]!r}\n  came:     {got[:300]!r}\n"
             f"  the configuration:\n{toml}\n  the smallest script that differs:\n{shown}\n"
             f"  kept in {folder}, where smallest.script is that")
 

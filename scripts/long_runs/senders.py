@@ -81,7 +81,7 @@ class Sender:
             lines = [one.replace(":", chance.choice([":", ": \t ", ":"]), 1) + chance.choice(["", " ", "\t"])
                      for one in lines]
         if chance.random() < 0.1:
-            lines = [name.upper() + ":" + value for name, value in (one.split(":", 1) for one in lines)]
+            lines = [one[:one.find(":")].upper() + one[one.find(":"):] for one in lines]
         chance.shuffle(lines)
         begin = line or f"POST {target} HTTP/1.{chance.choice([0, 1, 1, 1])}"
         end = "\n" if chance.random() < 0.1 else "\r\n"
@@ -105,10 +105,10 @@ class Sender:
             destination = self.author.destination(peer)
         preimage = chance.randbytes(32)
         condition = hashlib.sha256(preimage).digest() if chance.random() < 0.95 else chance.randbytes(32)
-        data = bytes([chance.choice([0, chance.randrange(20)])]) + preimage + chance.randbytes(
+        data = bytes([chance.choice([0, 0, 9, chance.randrange(20)])]) + preimage + chance.randbytes(
             chance.choice([0, 0, 5, 60, 300]))
         moment = now()
-        expires = chance.choice([moment + AMPLY] * 12 + [
+        expires = chance.choice([moment + AMPLY] * 20 + [
             moment - HOUR, moment + 30_000, LAST_MOMENT, 0, moment + 24 * HOUR])
         return Prepare(self.amount(peer, destination), expires, condition, destination, data)
 
@@ -165,8 +165,8 @@ class Sender:
             made = f"{self.key}-{len(self.keys)}".encode()
             self.keys.append(made + chance.choice([b"", b" x", b"\xff~", b"k" * (128 - len(made))]))
         key = chance.choice(self.keys[-3:])
-        text = as_text(chance, any_quantity(chance, scale)) if chance.random() < 0.5 and self.alone else (
-            as_text(chance, shared_quantity(key)))
+        quantity = any_quantity(chance, scale) if chance.random() < 0.4 else shared_quantity(key)
+        text = as_text(chance, quantity)
         if chance.random() < 0.1:
             text = chance.choice(NOT_QUANTITIES)
         fields = [f"Idempotency-Key: {key.decode('latin-1')}"]

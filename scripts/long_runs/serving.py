@@ -16,7 +16,9 @@ from cases.messages import connect, post, read_to_end, request
 from cases.program import Program
 
 from long_runs.books import Book
+from long_runs.exchanges import REJECTS
 from long_runs.exchanges import Outcome as Answer
+from long_runs.packets import Faulty, Reject, read_packet
 from long_runs.replays import Outcome
 from long_runs.reports import imbalance, line, report
 from long_runs.requests import needs_no_more
@@ -67,7 +69,7 @@ def exchange(chance: random.Random, port: int, octets: bytes) -> bytes:
                 link.sendall(piece)
             if chance.random() < 0.5 or not needs_no_more(octets):
                 link.shutdown(socket.SHUT_WR)
-        except ConnectionError:
+        except OSError:
             # It was answered before all of it was sent.
             pass
         return read_to_end(link, ANSWER)
@@ -107,11 +109,14 @@ def judged(world: World, message: Message, octets: bytes) -> Answer:
 def kind_of(octets: bytes) -> str:
     """What an answer is, for counting."""
     status = octets[9:12].decode("latin-1")
-    _, _, body = octets.partition(b"\r\n\r\n")
-    what = {12: "Prepare", 13: "Fulfill"}.get(body[0], "") if status == "200" and body else ""
-    if status == "200" and body[:1] == b"\x0e":
-        what = f"Reject {body[2:5].decode('latin-1') if body[1] < 128 else 'long'}"
-    return f"status {status} {what}".strip() if "Reject" not in what or what[7:8] in "FTR" else f"status {status} Reject of a peer"
+    try:
+        packet = read_packet(octets.partition(b"\r\n\r\n")[2])
+    except Faulty:
+        return f"status {status}"
+    if isinstance(packet, Reject):
+        own = (packet.code, packet.message) in REJECTS.values()
+        return f"status {status}, Reject {packet.code.decode() if own else 'of a peer'}"
+    return f"status {status}, {type(packet).__name__}"
 
 
 def talk(world: World, sender: Sender, count: int) -> Counter[str]:

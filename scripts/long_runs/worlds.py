@@ -102,7 +102,8 @@ def narrow(chance: random.Random, messages: int) -> World:
     away = chance.choice(peers).name if chance.random() < 0.3 else None
     one, seen, engines, servers = outside(chance, drawn, away)
     toml, setup = arranged(chance, one)
-    model = Model(one, frozenset(peer.name for peer in one.peers if peer.name != away), seen)
+    model = Model(one, frozenset(peer.name for peer in one.peers if peer.name != away), seen,
+                  has_one_sender=True)
     sender = Sender(chance, model, list(range(len(one.peers))), True, "k")
     return World(model, seen, engines, servers, [sender], toml, setup)
 
