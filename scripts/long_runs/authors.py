@@ -42,7 +42,7 @@ class Author:
         self.verbs: dict[Callable[[], str], float] = {
             self.hold: chance.choice([20, 30, 60]), self.answer: chance.choice([5, 25, 30]),
             self.expire: chance.choice([0, 4, 10]), self.credit: chance.choice([1, 10, 25]),
-            self.ask: chance.choice([0, 3, 12]), self.close: chance.choice([1, 4, 8]),
+            self.ask: chance.choice([0, 5, 20]), self.close: chance.choice([2, 6, 14]),
             self.report: 2}
         self.keys = [*"abcd", "k-1", "!~", "K" * 128, "K" * 127]
         self.largest = chance.choice([5, 40, 10**6, MOST, MOST])
@@ -178,7 +178,7 @@ class Author:
         draw = chance.random()
         room = self.book.balance(sender) - peer.least
         if draw < 0.5:
-            drawn = chance.randint(0, min(self.largest, 10**7, peer.greatest, room))
+            drawn = chance.randint(0, max(min(self.largest, 10**7, peer.greatest, room), 0))
         elif draw < 0.6:
             drawn = near(chance, room) if chance.random() < 0.5 else room // chance.choice([2, 3, 10])
         elif draw < 0.66:

@@ -125,15 +125,25 @@ def first_difference(texts: list[str], came: str) -> tuple[int, str, str] | None
     return None
 
 
+def without_parts(binary: Path, configuration: Configuration, file: Path, lines: list[bytes],
+                  size: int) -> list[bytes]:
+    """The lines without those of their parts of this size that are not needed for a difference."""
+    for begin in range(len(lines) - size, -1, -size):
+        fewer = lines[:begin] + lines[begin + size:]
+        if first_difference(modelled(configuration, fewer)[0], printed(binary, file, fewer)):
+            lines = fewer
+    return lines
+
+
 def shrunk(binary: Path, configuration: Configuration, file: Path, lines: list[bytes]) -> list[bytes]:
-    """Fewer lines that still differ: parts are left out for as long as that is so."""
-    size = len(lines) // 2
-    while size >= 1:
-        for begin in range(len(lines) - size, -1, -size):
-            fewer = lines[:begin] + lines[begin + size:]
-            if first_difference(modelled(configuration, fewer)[0], printed(binary, file, fewer)):
-                lines = fewer
-        size //= 2
+    """Fewer lines that still differ: smaller and smaller parts are left out, and single lines for as
+    long as that helps."""
+    size = len(lines)
+    while size > 0:
+        fewer = without_parts(binary, configuration, file, lines, size)
+        if len(fewer) == len(lines) or size > 1:
+            size //= 2
+        lines = fewer
     return lines
 
 
