@@ -243,13 +243,15 @@ class Book:
 
     def note_hold(self, hold: Hold, prepare: Prepare) -> None:
         one = self.configuration
-        self.notes["an amount of the sender's greatest"] += prepare.amount == one.peers[hold.sender].greatest
+        greatest = one.peers[hold.sender].greatest
+        self.notes["an amount of the sender's greatest"] += prepare.amount == greatest
         self.notes["one millisecond until the deadline"] += hold.deadline == hold.moment + 1
         self.notes["a deadline by the expiry"] += hold.deadline < hold.moment + one.max_hold
         self.notes["a deadline by the longest hold"] += hold.deadline < prepare.expires - one.window
         self.notes["a price"] += one.asset_of(hold.sender) != one.asset_of(hold.receiver)
-        fitting = sum(1 for prefix in one.routes if prefix and prepare.destination.startswith(prefix.encode()))
-        self.notes["several prefixes at the front of an address"] += fitting > 1
+        fitting = [prefix for prefix in one.routes
+                   if prefix and prepare.destination.startswith(prefix.encode())]
+        self.notes["several prefixes at the front of an address"] += len(fitting) > 1
 
     def hold(self, sender: int, prepare: Prepare, now: int) -> tuple[int, Hold]:
         hold = self.terms(sender, prepare, self.moment(now))

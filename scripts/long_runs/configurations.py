@@ -9,6 +9,9 @@ LEAST_INTEGER, MOST_INTEGER = -2**63, 2**63 - 1
 MOST_PRICE = 2**32 - 1
 MOST_GAP = 9
 
+# Of a pair of places of assets.
+Prices = dict[tuple[int, int], tuple[int, int]]
+
 
 @dataclass(frozen=True)
 class Asset:
@@ -45,13 +48,13 @@ class Peer:
 
 @dataclass(frozen=True)
 class Configuration:
-    """Peers are named by their places; a price is of a pair of places of assets."""
+    """Peers are named by their places."""
 
     address: str
     run: str
     assets: tuple[Asset, ...]
     peers: tuple[Peer, ...]
-    prices: dict[tuple[int, int], tuple[int, int]] = field(default_factory=dict)
+    prices: Prices = field(default_factory=dict)
     routes: dict[str, int] = field(default_factory=dict)
     journal: int = 65_536
     window: int = 1_000
@@ -141,8 +144,10 @@ def drawn_assets(chance: random.Random) -> tuple[Asset, ...]:
     middle = chance.choice([0, 2, 6, 9, 18, 240])
     assets: dict[str, Asset] = {}
     while len(assets) < count:
-        code = chance.choice(["USD", "EUR", "XRP", text_of(chance, string.ascii_uppercase + "0123456789", 12)])
-        scale = chance.randint(0, 255) if chance.random() < 0.1 else middle + chance.choice([0, 1, 2, 4, 9])
+        code = chance.choice(["USD", "EUR", "XRP", text_of(chance, string.ascii_uppercase + string.digits, 12)])
+        scale = middle + chance.choice([0, 1, 2, 4, 9])
+        if chance.random() < 0.1:
+            scale = chance.randint(0, 255)
         asset = Asset(code, scale)
         assets[asset.name] = asset
     return tuple(assets.values())
@@ -152,7 +157,7 @@ def drawn_price(chance: random.Random) -> int:
     return chance.choice([1, 1, 2, 2, 3, 7, 10, 1_000, MOST_PRICE, chance.randint(1, MOST_PRICE)])
 
 
-def drawn_prices(chance: random.Random, assets: tuple[Asset, ...]) -> dict[tuple[int, int], tuple[int, int]]:
+def drawn_prices(chance: random.Random, assets: tuple[Asset, ...]) -> Prices:
     """Prices of most of the pairs that may have one."""
     pairs = [(a, b) for a in range(len(assets)) for b in range(len(assets))
              if a != b and abs(assets[a].scale - assets[b].scale) <= MOST_GAP]
@@ -189,7 +194,7 @@ def drawn_peer(chance: random.Random, name: str, assets: int, large: bool) -> Pe
         settle_to, threshold = drawn_levels(chance, least, large)
     return Peer(
         name, chance.randrange(assets), token=f"{name}-{chance.getrandbits(64):x}", least=least,
-        fee_ppm=chance.choice([0, 0, 0, 0, 1, 1, 10_000, 10_000, 500_000, 1_000_000, chance.randint(0, 10**6)]),
+        fee_ppm=chance.choice([0] * 4 + [1, 1, 10_000, 10_000, 500_000, 10**6, chance.randint(0, 10**6)]),
         max_packet=greatest if chance.random() < 0.15 else None,
         engine=engine, threshold=threshold, settle_to=settle_to)
 
@@ -198,7 +203,8 @@ def drawn_routes(chance: random.Random, peers: int) -> dict[str, int]:
     """Prefixes that stand in each other, and some beside each other."""
     schemes = [scheme for scheme in SCHEMES if scheme != "peer"]
     own = {f"test.{'abcdefghijklmnopqrstuvwxyz'[n]}": n for n in range(peers)}
-    prefixes = set(own) | {chance.choice(["", "test", "test.a.b", "test.ab", "g"]) for _ in range(chance.randint(0, 3))}
+    further = ["", "test", "test.a.b", "test.ab", "g"]
+    prefixes = set(own) | set(chance.sample(further, chance.randint(0, 3)))
     for _ in range(chance.randint(0, 6)):
         begin = chance.choice(sorted(prefix for prefix in prefixes if prefix) + schemes)
         segment = text_of(chance, string.ascii_letters + string.digits + "_~-", chance.choice([1, 2, 9]))
@@ -215,7 +221,7 @@ def drawn_configuration(chance: random.Random, steps: int) -> Configuration:
     count = chance.choice([1] + [2, 3, 4] * 4 + [6, 12])
     names: set[str] = set()
     while len(names) < count:
-        names.add(chance.choice(["alice", "bob", text_of(chance, string.ascii_lowercase + "0123456789_-", 16)]))
+        names.add(chance.choice(["alice", "bob", text_of(chance, string.ascii_lowercase + "0189_-", 16)]))
     in_order = sorted(names)
     chance.shuffle(in_order)
     peers = tuple(drawn_peer(chance, name, len(assets), large) for name in in_order)

@@ -165,12 +165,14 @@ def read_as(text: str) -> tuple[int, int] | int:
 
 
 def check_quantities() -> None:
-    for text, wanted in (("[]", 31), ("", 31), ('{"amount":1,"scale":2,}', 31), ('{"amount":NaN,"scale":3}', 31),
+    for text, wanted in (("[]", 31), ("", 31), ('{"amount":1,"scale":2,}', 31),
+                         ('{"amount":NaN,"scale":3}', 31),
                          ('{"amount":"","scale":2}', 32), ('{"scale":256,"amount":-1}', 32),
                          ('{"amount":5.0,"scale":2}', 32), ('{"amount":-0,"scale":2}', 32),
                          ('{"amount":18446744073709551616,"scale":2}', 32), ('{"amount":"1"}', 33),
                          ('{"amount":"1","scale":"2"}', 33), ('{"amount":"1","scale":256}', 33),
-                         ('{"amount":"007","scale":0}', (7, 0)), ('{"amount":1,"amount":2,"scale":3}', (2, 3)),
+                         ('{"amount":"007","scale":0}', (7, 0)),
+                         ('{"amount":1,"amount":2,"scale":3}', (2, 3)),
                          (r'{"\u0061mount":"\u0031","scale":3}', (1, 3)),
                          ('{"amount":18446744073709551615,"scale":2}', (MOST, 2))):
         expect(text, read_as(text), wanted)
@@ -228,7 +230,8 @@ def answer_to(configuration: Configuration, octets: bytes, at_peers: bool = True
     return outcomes[0].octets
 
 
-def asked(body: bytes, line: str = "POST /ilp HTTP/1.1", token: str = "a-token", length: str | None = "") -> bytes:
+def asked(body: bytes, line: str = "POST /ilp HTTP/1.1", token: str = "a-token",
+          length: str | None = "") -> bytes:
     """A request of a peer; without a length that of the body is told."""
     lines = [line, "Host: h", f"Authorization: Bearer {token}"]
     if length is not None:

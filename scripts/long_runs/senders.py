@@ -47,7 +47,8 @@ class Sender:
 
     def __post_init__(self) -> None:
         self.author = Author(self.chance, self.model.configuration, self.model.book)
-        self.author.largest = min(self.author.largest, MOST_AMOUNT) if not self.alone else self.author.largest
+        if not self.alone:
+            self.author.largest = min(self.author.largest, MOST_AMOUNT)
 
     def message(self) -> Message:
         """The next one that is determined."""
@@ -205,7 +206,8 @@ class Sender:
     def junk(self) -> tuple[bool, bytes]:
         at_peers = self.chance.random() < 0.5
         if self.chance.random() < 0.2:
-            return at_peers, bytes([self.chance.choice(b"A /\r\n\0\x80")]) * self.chance.choice([1, 16_384, 40_000])
+            octet = bytes([self.chance.choice(b"A /\r\n\0\x80")])
+            return at_peers, octet * self.chance.choice([1, 16_384, 40_000])
         return at_peers, junk(self.chance, b"")
 
     def wrong_request(self) -> tuple[bool, bytes]:
@@ -222,7 +224,8 @@ class Sender:
                  "POST  /ilp HTTP/1.1", "POST /ilp", "POST /ilp HTTP/1.1 ", "@ /ilp HTTP/1.1"]))),
             lambda: (True, self.request("/ilp", body, chance.choice(
                 ["X: y", "Authorization: Bearer nobody's", token + "x", token.replace("Bearer ", "Bearer  "),
-                 token.replace("Bearer", "Basic"), token.replace("Bearer ", "Bearer"), "Authorization: Bearer"]))),
+                 token.replace("Bearer", "Basic"), token.replace("Bearer ", "Bearer"),
+                 "Authorization: Bearer"]))),
             lambda: (True, self.request("/ilp", body, token, token)),
             lambda: (True, self.request("/ilp", body, token, length=chance.choice(
                 [[], [size, size], ["Transfer-Encoding: chunked"], [size, "Transfer-Encoding: identity"],
