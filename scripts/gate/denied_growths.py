@@ -1,14 +1,14 @@
 #!/usr/bin/env python3
-"""Denies each growth of memory of a program in turn, and looks at what it ends with.
+"""Denies each growth of memory of a built program in turn, and looks at what it ends with.
 
-    scripts/gate/denied_growths.py NAME [FIRST [STEP]]
+    scripts/gate/denied_growths.py NAME ..
 
 It is for what takes its memory on the global heap alone, which no allocator of a test can deny: TOML,
 JSON, keys, the copies of a configuration, the fields of a head, the room for a message, the book of a
-desk. `rt try --fail-alloc N` denies the N-th growth of a program, which it runs unproved. It stops
-once twenty growths in turn change nothing. This takes minutes, and is no part of the gate. The exit
-status is 1 where an end is not as the rules have it (docs/PROTOCOL.md), and 2 where the arguments are
-not understood. NAME is one of these:
+desk. The programs are those in crates/*/out, as `rt run` builds them; denying.c, which a C compiler
+(`cc`) makes a library of, is preloaded before them. It is no part of the gate. Without names all are
+run. The exit status is 1 where an end is not as the rules have it (docs/PROTOCOL.md), and 2 where the
+arguments are not understood. A NAME is one of these:
 
 - check: `connector check -` says want of memory.
 - replay: `connector replay -` prints a front of its text, of whole lines, and then want of memory.
@@ -16,13 +16,14 @@ not understood. NAME is one of these:
 - packet, settlement, message, engine, report, settler: a scene of test_scenes in which something
   comes twice or more. Once it is answered as want of memory is there, and else as ever.
 """
+import os
 import subprocess
 import sys
 import tempfile
 from collections import Counter
 from collections.abc import Callable
 from dataclasses import dataclass
-from itertools import takewhile
+from itertools import count, takewhile
 from pathlib import Path
 
 ROOT = Path(__file__).resolve().parents[2]
@@ -31,9 +32,7 @@ sys.path.append(str(ROOT / "scripts/vectors"))
 import connections as served  # noqa: E402
 from scenes import FULFILL, START, T00, T01, prepare, report_lines  # noqa: E402
 
-# How many growths in turn change nothing before no more are denied: a growth of a test's own may
-# change nothing.
-UNCHANGED = 20
+DENIED = "a growth was denied\n"
 
 
 class Differs(Exception):
@@ -42,12 +41,14 @@ class Differs(Exception):
 
 @dataclass(frozen=True)
 class Run:
-    """What a program ended with."""
+    """What a program ended with, and whether a growth was denied."""
     status: int
     lines: list[str]
+    denied: bool
 
 
-# What becomes of a run, beside one in which nothing was denied; None where that is the same.
+# What became of a run, beside one in which nothing was denied; None where no growth is left that
+# matters.
 Judge = Callable[[Run, Run], str | None]
 
 
@@ -60,21 +61,17 @@ class Program:
     given: str = ""
     data: tuple[tuple[str, str], ...] = ()
 
-    def run(self, *growth: str) -> Run:
-        words = ["rt", "try", *growth]
-        with tempfile.TemporaryDirectory() as room:
-            for name, text in self.data:
-                path = Path(room) / name
-                path.write_text(text)
-                words += ["--data", f"{name}={path}"]
-            ended = subprocess.run([*words, "--", *self.arguments], cwd=ROOT / "crates" / self.crate,
-                                   input=self.given, capture_output=True, text=True, check=False)
-        if "run=ended" not in ended.stderr:
-            raise Differs(f"rt try ended with {ended.returncode}: {ended.stderr[-500:]}")
-        return Run(ended.returncode, ended.stdout.splitlines())
+    def run(self, library: Path, room: Path, growth: int) -> Run:
+        """Runs it in this folder without this growth; there is none of the number 0."""
+        binary = ROOT / "crates" / self.crate / "out" / self.crate
+        names = {**os.environ, "LD_PRELOAD": str(library), "DENIED_GROWTH": str(growth)}
+        ended = subprocess.run([binary, *self.arguments], cwd=room, input=self.given, env=names,
+                               capture_output=True, text=True, timeout=60, check=False)
+        return Run(ended.returncode, ended.stdout.splitlines(), DENIED in ended.stderr)
 
 
 OWN = "the program's own want of memory ended it"
+SILENT = "the program told nothing of its own want of memory"
 
 
 # ---- the connector
@@ -97,7 +94,7 @@ SCRIPT = [
 def connector(command: str, text: list[str], given: str = "") -> Program:
     """The connector, which prints this text, or a front of it and then want of memory."""
     def judge(run: Run, _: Run) -> str | None:
-        if run == Run(0, text):
+        if not run.denied and (run.status, run.lines) == (0, text):
             return None
         *front, last = run.lines or [""]
         if run.status != 1 or last != REFUSED or front != text[:len(front)]:
@@ -109,7 +106,7 @@ def connector(command: str, text: list[str], given: str = "") -> Program:
 # ---- requests
 
 ROW = (ROOT / "crates/test_http/data/requests.txt").read_text().splitlines()[0]
-READ, UNREAD_ROW = f"{ROW}: /ilp, 3 values, a body of 69", f"{ROW}: memory is short"
+READ, SHORT = f"{ROW}: /ilp, 3 values, a body of 69", f"{ROW}: memory is short"
 
 
 def judge_requests(run: Run, _: Run) -> str | None:
@@ -120,7 +117,7 @@ def judge_requests(run: Run, _: Run) -> str | None:
     others = [line for line in told if not line.startswith("POST")]
     if len(told) == len(run.lines) and run.status == 1 and told == [READ] * len(told):
         return OWN
-    if sorted(whole) == sorted([READ, UNREAD_ROW]) and not others:
+    if sorted(whole) == sorted([READ, SHORT]) and not others:
         return "a request was refused for want of memory"
     if whole == [READ, READ] and len(others) < 2:
         return "a request in pieces was" if others else None
@@ -157,6 +154,7 @@ def answer(lines: list[str]) -> Answer:
     return answers_in(lines)[0]
 
 
+UNOPENED = ("no configuration: memory is short", "no desk", "no worker", "no settler")
 UNREAD = Answer("Fault(Memory)", ("body: ",))
 UNAVAILABLE = answer(served.status(503))
 BAD_GATEWAY = answer(served.status(502))
@@ -167,12 +165,14 @@ UNREACHABLE = answer(served.response(200, T01))
 def judge_scene(refusals: dict[Answer, int]) -> Judge:
     """One step may be answered by a refusal, by which so many entries are missing in the book."""
     def judge(run: Run, ample: Run) -> str | None:
-        if run == ample:
-            return None
+        if (run.status, run.lines) == (ample.status, ample.lines):
+            return SILENT if run.denied else None
         found, told = answers_in(run.lines), answers_in(ample.lines)
         refused = [one for one in found if one in refusals]
-        if not refused and (run.status == 1 or not found) and found == told[:len(found)]:
+        if run.status == 1 and not refused and found == told[:len(found)]:
             return OWN
+        if run.status == 0 and run.lines[-1] in UNOPENED:
+            return run.lines[-1]
         kept = [one for one in found if one not in refusals]
         missing = entries_in(ample.lines) - entries_in(run.lines)
         if (run.status != 0 or len(refused) != 1 or missing != refusals[refused[0]]
@@ -217,34 +217,42 @@ PROGRAMS: dict[str, Program] = {
 }
 
 
-def deny_each(program: Program, first: int, step: int) -> None:
+def deny_each(program: Program, library: Path) -> None:
     """Denies the growths from the first on, and prints what became of the runs."""
-    ample, became, growth, unchanged = program.run(), Counter[str](), first, 0
-    while unchanged < UNCHANGED:
-        try:
-            what = program.judge(program.run("--fail-alloc", str(growth)), ample)
-        except Differs as differs:
-            raise Differs(f"growth {growth}: {differs}") from None
-        unchanged = unchanged + 1 if what is None else 0
-        if what is not None:
+    became = Counter[str]()
+    with tempfile.TemporaryDirectory() as folder:
+        room = Path(folder)
+        for name, text in program.data:
+            (room / name).write_text(text)
+        ample = program.run(library, room, 0)
+        for growth in count(1):
+            try:
+                what = program.judge(program.run(library, room, growth), ample)
+            except Differs as differs:
+                raise Differs(f"growth {growth}: {differs}") from None
+            if what is None:
+                break
             became[what] += 1
-        growth += step
-    for what, count in became.items():
-        print(f"{count}: {what}")
-    print(f"from growth {growth - UNCHANGED * step} on nothing changes")
+    for what, times in became.items():
+        print(f"  {times}: {what}")
 
 
 def main() -> int:
-    name, *numbers = sys.argv[1:] or [""]
-    if name not in PROGRAMS or len(numbers) > 2 or not all(map(str.isdigit, numbers)):
-        print(f"denied_growths.py {'|'.join(PROGRAMS)} [FIRST [STEP]]", file=sys.stderr)
+    names = sys.argv[1:] or list(PROGRAMS)
+    if not set(names) <= set(PROGRAMS):
+        print(f"denied_growths.py {' '.join(f'[{name}]' for name in PROGRAMS)}", file=sys.stderr)
         return 2
-    first, step = [*map(int, numbers), 1, 1][:2] if len(numbers) != 1 else (int(numbers[0]), 1)
-    try:
-        deny_each(PROGRAMS[name], first, step)
-    except Differs as differs:
-        print(differs)
-        return 1
+    with tempfile.TemporaryDirectory() as folder:
+        library = Path(folder) / "denying.so"
+        source = Path(__file__).with_name("denying.c")
+        subprocess.run(["cc", "-O1", "-shared", "-fPIC", "-o", library, source], check=True)
+        for name in names:
+            print(f"{name}:", flush=True)
+            try:
+                deny_each(PROGRAMS[name], library)
+            except Differs as differs:
+                print(f"  {differs}")
+                return 1
     return 0
 
 

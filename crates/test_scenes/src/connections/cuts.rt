@@ -125,7 +125,15 @@ fn is_unread<J: Naming>(
     let before = Booked::by(rt, desk, worker);
     let mut source = Pieces::failing(request.octets, PIECE, place);
     let mut sink = Recording::new(desk.config().allocator());
-    let handled = answer_over(rt, desk, worker, request.side, &mut source, &mut sink, buffer);
+    let handled = answer_over(
+        rt,
+        desk,
+        worker,
+        request.side,
+        &mut source,
+        &mut sink,
+        buffer,
+    );
     let is_silent = sink.octets.is_empty();
     let is_kept = Booked::by(rt, desk, worker) == before;
     handled == Handled::Fault(ConnectionFault::Read) && is_silent && is_kept
@@ -141,7 +149,15 @@ fn cut_writes<J: Naming>(
 ) -> io::Result<()> {
     let mut source = Pieces::new(request.octets, PIECE);
     let mut whole = Recording::new(desk.config().allocator());
-    let handled = answer_over(rt, desk, worker, request.side, &mut source, &mut whole, buffer);
+    let handled = answer_over(
+        rt,
+        desk,
+        worker,
+        request.side,
+        &mut source,
+        &mut whole,
+        buffer,
+    );
     println!(rt; "{handled:?}")?;
     let response = whole.octets.as_slice();
     let mut told = 0usize;
@@ -173,7 +189,15 @@ fn is_unwritten<J: Naming>(
     };
     let mut source = Pieces::new(request.octets, PIECE);
     let mut sink = Narrow::new(desk.config().allocator(), PIECE, front.len(), when_full);
-    let handled = answer_over(rt, desk, worker, request.side, &mut source, &mut sink, buffer);
+    let handled = answer_over(
+        rt,
+        desk,
+        worker,
+        request.side,
+        &mut source,
+        &mut sink,
+        buffer,
+    );
     let is_front = sink.recording.octets.as_slice() == front;
     let is_booked = Booked::by(rt, desk, worker) == after;
     handled == Handled::Fault(ConnectionFault::Write) && is_front && is_booked
