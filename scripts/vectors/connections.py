@@ -123,9 +123,9 @@ def message(told, body=MESSAGE, name="bob"):
     return at_engines(told, f"/accounts/{name}/messages", body=body)
 
 
-def for_engine(amount=0, expires=b"20250101000030000", condition=CONDITION):
+def for_engine(amount=0, expires=b"20250101000030000", condition=CONDITION, data=MESSAGE):
     """A Prepare with a message for the settlement engine of the connector."""
-    return prepare(amount, expires, condition, b"peer.settle", MESSAGE)
+    return prepare(amount, expires, condition, b"peer.settle", data)
 
 
 def prepare(amount=100, expires=b"20250101000030000", condition=CONDITION, destination=b"test.bob",
@@ -134,9 +134,10 @@ def prepare(amount=100, expires=b"20250101000030000", condition=CONDITION, desti
     return b"\x0c" + string(content)
 
 
-def handed(peer=BOB):
+def handed(peer=BOB, body=MESSAGE):
     """What a peer is handed for a message: its Prepare expires after the longest hold."""
-    return [f"peer {peer} is handed, up to {START + 30_000}:", f"packet: {digits(for_engine())}"]
+    packet = for_engine(data=body)
+    return [f"peer {peer} is handed, up to {START + 30_000}:", f"packet: {digits(packet)}"]
 
 
 def engine_handed(peer=BOB):
@@ -247,6 +248,29 @@ def to_engine(name, reply, answer):
 
 
 CUT = head(200, OCTETS, FULFILL)[:40]
+LONG_MESSAGE = bytes(32_767)
+
+
+def many_fields(told, count):
+    """A packet of alice in a request whose head has so many fields."""
+    return at_peers(told, A_TOKEN, *["a: b"] * (count - 3), body=P1)
+
+
+def cut(name, body, reply):
+    """A packet of alice that bob fulfills, over a connection that fails at each octet."""
+    lines = post("/ilp", A_TOKEN, body=body)
+    size = len("".join(line + "\r\n" for line in lines[:lines.index("")])) + 2 + len(body)
+    written = len(head(200, OCTETS, reply)) + len(reply)
+    told = [f"{size} of {size} reads that fail are told, with nothing written and nothing booked",
+            "Done(Ok)",
+            f"{written} of {written} writes that fail are told, with the octets before written and "
+            f"the packet booked"]
+    booked = (f"Booked {{ share: {2 * written + 2}, records: {written + 1}, "
+              f"entries: {2 * written + 2} }}")
+    return scene(name, [step("ilp", lines, told)], [booked], act="cut", over="lending.toml",
+                 clock=None, turns=None, bob=reply)
+
+
 PEERS = [
     scene("a packet", [packet(HELD, P1, reply=FULFILL)], ONE_PACKET, bob=FULFILL),
     scene("a small bearer, and a packet beyond the balance",
@@ -274,6 +298,10 @@ PEERS = [
     scene("a write that fails",
           [packet(HELD + ["Fault(Write)", *shown(CUT), "body: "], P1, first="ilp narrow 40"),
            packet(clock(START), prepare(1), reply=T04)], ONE_PACKET, bob=FULFILL),
+    cut("an exchange that fails at each octet", P1, FULFILL),
+    scene("as many fields as a head may have, and one more",
+          [many_fields(status(431), 65), many_fields(HELD + response(200, FULFILL), 64)],
+          ONE_PACKET, bob=FULFILL),
 ]
 
 # ---- the side of the engines
@@ -347,7 +375,10 @@ ENGINES = [
     scene("messages to peers",
           [message(clock(START) + handed() + response(201, ANSWER)),
            message(clock(START) + handed(ALICE) + response(201, ANSWER), name="alice"),
-           message(status(502), bytes(32_768))], NOTHING, bob=fulfill(data=ANSWER)),
+           message(clock(START) + handed(body=LONG_MESSAGE) + response(201, ANSWER), LONG_MESSAGE),
+           message(status(502), bytes(32_768)),
+           message(status(502), bytes(65_536)),
+           message(status(413), bytes(65_537))], NOTHING, bob=fulfill(data=ANSWER)),
     scene("a message that is answered by no octet",
           [message(clock(START) + handed() + response(201))], NOTHING, bob=FULFILL),
     scene("a message without a reply", [message(NO_ANSWER)], NOTHING),
@@ -372,6 +403,14 @@ SETTLER = [
           actor(0, 1, DUE_RECORD) + actor(2, 2, close_record(2, 1, "false")) + CREDIT
           + asking(1, START + 1) + closing(2, 1, "undone", START + 2) + balance(0, 1000),
           says="no-account unknown, account refused"),
+    scene("a settlement of which an engine says nothing five times, and which it then accepts",
+          [DUE, turn(1, account(1, "true"), *OPEN)]
+          + [turn(1, *clock(START + 2), settling("Unknown"), "Kept { number: 1 }")] * 4
+          + [turn(1, *clock(START + 2), settling("Accepted"), *clock(START + 2),
+                  "Closed { number: 1, accepted: true }")],
+          actor(0, 1, DUE_RECORD) + actor(2, 2, close_record(2, 1, "true")) + CREDIT
+          + asking(1, START + 1) + closing(2, 1, "confirmed", START + 2) + balance(0, 200),
+          says=", ".join(["account unknown"] * 5 + ["account accepted"])),
     scene("a settlement that an engine accepts",
           [DUE, turn(1, account(1, "true"), *clock(START + 1), settling("Accepted"),
                      *clock(START + 2), "Closed { number: 1, accepted: true }"),
@@ -430,11 +469,13 @@ MEMORY = [
            balance(0, 0), replies=ANSWER),
     scene("each growth of a settler denied",
           [settled([], quantity(1000, 2), name="bob", credited=1000, moment=None),
-           turn(1, *actor(0, 1, DUE_RECORD), "no settler; its clock as given: true",
-                account(1, "true"), "no memory"),
+           turn(1, *actor(0, 1, DUE_RECORD), "no settler; its clock as given: true", "NoAccount"),
+           turn(1, account(1, "true"), "no memory"),
+           turn(1, "Kept { number: 1 }"),
            turn(1, settling("Accepted"), "Closed { number: 1, accepted: true }")],
-          actor(2, 2, close_record(2, 1, "true")) + ["denied: true"] + CREDIT + asking(1, START)
-          + closing(2, 1, "confirmed", START) + balance(0, 200),
+          actor(2, 2, close_record(2, 1, "true"))
+          + ["denied: true", "denied of accounts: true", "denied of settlements: true"]
+          + CREDIT + asking(1, START) + closing(2, 1, "confirmed", START) + balance(0, 200),
           act="deny-settler", turns=None, clock=None, says="account accepted"),
 ]
 

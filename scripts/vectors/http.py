@@ -289,9 +289,17 @@ def cut_lines():
            f"the {in_body} after them in a body that is whole at {size} octets")
     whole = response(fields=(b"Content-Type: application/octet-stream", b"Content-Length: 35",
                              b"Connection: close"), body=FULFILL).octets()
-    size = len(whole)
-    yield (f"of a response of {size} octets {size} proper prefixes are a bad response, and {size} reads "
-           f"that fail are told")
+    yield cut_response(len(whole), len(whole), 0, len(whole))
+    # One that goes on to the end of the input: up to its body it is one without a body.
+    size = len(b"HTTP/1.1 201 Created\r\n\r\nx")
+    yield cut_response(size, size - 1, 1, size)
+    # Its first octet begins no head, so that nothing is read behind it.
+    yield cut_response(len(b"hello"), len(b"hello"), 0, 1)
+
+
+def cut_response(size, bad, empty, failed):
+    return (f"of a response of {size} octets {bad} proper prefixes are a bad response, {empty} one "
+            f"without a body, and {failed} reads that fail are told")
 
 
 def lines():
@@ -304,6 +312,9 @@ def lines():
     yield from cut_lines()
     yield "4096 reads of one octet: /ilp, 2 values, a body of 3"
     yield "4097 reads of one octet: too many reads"
+    yield "4097 octets of a head, one by one: too many reads"
+    yield "4096 reads of one octet of a response: 200, a body of 3"
+    yield "4097 reads of one octet of a response: too many reads"
 
 
 def main():

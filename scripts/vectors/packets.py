@@ -2,11 +2,12 @@
 """Vectors for the tests of packets and octet strings, made from the standards alone.
 
 Writes ILPv4 packets (RFC 0027) over the octet strings of RFC 0030, and mistakes in them. With the
-argument `rows` it prints the rows of crates/test_rows/data/packets/vectors.txt, and with `lines`
-what that program is to print of each: the packet in words (docs/PROTOCOL.md), or the fault that a
-reader meets first. So many `x` in a long field are written `<N 78>` in both, but for an
-address, which `lines` has as text. With `strings` it prints
-the octet strings of crates/test_values/src/tests/oer.rt. It shares nothing with the crates.
+argument `rows` it prints the rows of crates/test_rows/data/packets/vectors.txt, with `cuts` those of
+cuts.txt there, and with `lines` what that program is to print of each: the packet in words
+(docs/PROTOCOL.md), or the fault that a reader meets first; of a row of cuts.txt, how many fronts of
+the packet end too soon. So many `x` in a long field are written `<N 78>` in rows and lines, but for
+an address, which `lines` has as text. With `strings` it prints the octet strings of
+crates/test_values/src/tests/oer.rt. It shares nothing with the crates.
 """
 import datetime
 import hashlib
@@ -174,6 +175,23 @@ def long_fields():
                within(size, 1023, told_prepare(destination=address), "BadAddress"))
 
 
+def cuts():
+    """Packets that peers, and engines through peers, hand each other."""
+    hub = b"test.hub"
+    for amount in (100, 0, 1, 50, 2**64 - 1):
+        yield prepare(amount=amount.to_bytes(8, "big"))
+    yield prepare(expires=b"20250101000029000")
+    yield prepare(amount=bytes(8), destination=string(b"peer.settle"), data=string(b"hi"))
+    yield fulfill()
+    yield fulfill(data=string(b"ok"))
+    yield reject()
+    yield reject(b"F05", hub, b"wrong condition")
+    yield reject(b"F08", hub, b"amount too large", AMOUNT + (10).to_bytes(8, "big"))
+    # The length of the whole and of the data in two octets, and in three.
+    yield fulfill(data=string(b"x" * 128))
+    yield reject(b"T01", hub, b"x" * 256, b"x" * 256)
+
+
 def strings():
     """Octet strings of the octets 0, 1, .. 250, 0, 1, .., their heads and their tails."""
     for size in (0, 127, 128, 255, 256, 65535):
@@ -188,10 +206,15 @@ def main():
     elif sys.argv[1:] == ["lines"]:
         for _, line in vectors():
             print(short(line))
+        for whole in cuts():
+            print(f"{whole.hex()}: of {len(whole)} proper prefixes {len(whole)} are truncated")
+    elif sys.argv[1:] == ["cuts"]:
+        for whole in cuts():
+            print(whole.hex())
     elif sys.argv[1:] == ["strings"]:
         strings()
     else:
-        sys.exit("packets.py rows | lines | strings")
+        sys.exit("packets.py rows | cuts | lines | strings")
 
 
 if __name__ == "__main__":

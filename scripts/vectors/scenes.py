@@ -176,7 +176,7 @@ FORWARDS = [
 SWEPT = scene(
     "swept while bob is asked",
     clock(DEADLINE - 1) + ["swept: None"] + clock(DEADLINE) + ["swept: Some(0)"]
-    + clock(DEADLINE) + ["swept: None"]
+    + clock(DEADLINE) + ["swept: None"] + actor(1, 1)
     + [receipt(0), answer(R00)] + actor(0, 1)
     + held(0) + closed(1, 0, "Late", actor=1, at=DEADLINE) + balances(0),
     act="sweep", clock=f"{DEADLINE - 1} {DEADLINE}", alice=prepare(), bob=FULFILL)
@@ -235,15 +235,17 @@ def many(workers, packets):
     return [f"senders answered with a Fulfill: {fulfilled}", f"ends: {totals}", f"book: {totals}"]
 
 
-def gathered(name, act, first=(), entries=(), kept=True):
-    """A desk that is closed once its worker has booked two entries."""
-    told = ["asked: 1"] if kept else []
-    told += actor(0, 2, *([answered(1, 0)] if kept else [])) + actor(1, 0) + actor(2, 0)
-    return scene(name, told + list(first) + list(entries), act=act, alice=prepare(),
-                 other=prepare(expires=HANDED), bob=FULFILL)
+def gathered(name, act, first=(), entries=(), asked=1, booked=2, kept=(answered(1, 0),),
+             amount=100):
+    """A desk that is closed once its worker has booked some entries and kept records of them."""
+    told = [f"asked: {asked}"] if asked else []
+    told += actor(0, booked, *kept) + actor(1, 0) + actor(2, 0)
+    return scene(name, told + list(first) + list(entries), act=act, alice=prepare(amount),
+                 other=prepare(amount, HANDED), bob=FULFILL)
 
 
 BOOK = held(0) + closed(1, 0) + balances(100)
+DISAGREES = ["not gathered: what actor 0 kept is not what it booked"]
 SCENES = FORWARDS + [
     SWEPT,
     scene("each growth denied", denied(), act="deny", workers="5", alice=prepare(),
@@ -254,8 +256,12 @@ SCENES = FORWARDS + [
     gathered("a desk that is closed", "close", entries=BOOK),
     gathered("without the sweeper's end", "close-without-sweeper",
              ["not gathered: actor 1 has no end, 2 ends are left"], BOOK),
-    gathered("without the worker's records", "close-without-records",
-             ["not gathered: what actor 0 kept is not what it booked"], kept=False),
+    gathered("without the settler's end", "close-without-settler",
+             ["not gathered: actor 2 has no end, 2 ends are left"], BOOK),
+    gathered("without the worker's records", "close-without-records", DISAGREES, asked=0, kept=()),
+    # The share books a packet of 50 by itself, and then the worker forwards one.
+    gathered("without the record of one of two packets", "close-without-record", DISAGREES,
+             booked=4, kept=(answered(3, 2, amount=50),), amount=50),
 ]
 
 TEXTS = [

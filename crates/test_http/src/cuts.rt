@@ -2,7 +2,8 @@
 
 use crate::row::octets_of;
 use ilp_http::{
-    Buffer, Look, Refusal, RequestFault, ResponseFault, look_at, read_request, read_response,
+    Buffer, Look, Refusal, RequestFault, Response, ResponseFault, look_at, read_request,
+    read_response,
 };
 use ilp_io::Pieces;
 use std::rt::Files;
@@ -17,11 +18,15 @@ pub(crate) fn print_cuts<R: Files + Print + AllocGlobal>(rt: &R) -> io::Result<(
     print_cut_request(rt, octets.as_slice(), &mut buffer)?;
     print_cut_looks(rt, octets.as_slice())?;
     let rows = fs::read_to_string(rt, "responses.txt")?;
-    let row = rows.lines().next().unwrap_or("");
-    let octets = octets_of(rt.alloc(), row)?;
-    print_cut_response(rt, octets.as_slice(), &mut buffer)?;
+    for row in rows.lines().take(3) {
+        let octets = octets_of(rt.alloc(), row)?;
+        print_cut_response(rt, octets.as_slice(), &mut buffer)?;
+    }
     print_drops(rt, "<4047 a>", 4096, &mut buffer)?;
-    print_drops(rt, "<4048 a>", 4097, &mut buffer)
+    print_drops(rt, "<4048 a>", 4097, &mut buffer)?;
+    print_head_drops(rt, &mut buffer)?;
+    print_response_drops(rt, "<4050 a>", 4096, &mut buffer)?;
+    print_response_drops(rt, "<4051 a>", 4097, &mut buffer)
 }
 
 fn print_cut_request<R: Print + AllocGlobal>(
@@ -73,11 +78,13 @@ fn print_cut_looks<R: Print>(rt: &R, octets: &[u8]) -> io::Result<()> {
 }
 
 fn print_cut_response<R: Print>(rt: &R, octets: &[u8], buffer: &mut Buffer) -> io::Result<()> {
-    let (mut bad, mut failed) = (0usize, 0usize);
+    let (mut bad, mut empty, mut failed) = (0usize, 0usize, 0usize);
     for length in 0..octets.len() {
         let mut source = Pieces::new(&octets[..length], 5);
-        if read_response(&mut source, buffer).err() == Some(ResponseFault::Bad) {
-            bad = bad.saturating_add(1);
+        match read_response(&mut source, buffer) {
+            Ok(response) if response.body.is_empty() => empty = empty.saturating_add(1),
+            Err(ResponseFault::Bad) => bad = bad.saturating_add(1),
+            _ => {}
         }
         let mut source = Pieces::failing(octets, 5, length);
         if read_response(&mut source, buffer).err() == Some(ResponseFault::Failed) {
@@ -86,7 +93,7 @@ fn print_cut_response<R: Print>(rt: &R, octets: &[u8], buffer: &mut Buffer) -> i
     }
     let size = octets.len();
     println!(rt;
-        "of a response of {size} octets {bad} proper prefixes are a bad response, and {failed} reads that fail are told"
+        "of a response of {size} octets {bad} proper prefixes are a bad response, {empty} one without a body, and {failed} reads that fail are told"
     )
 }
 
@@ -109,5 +116,37 @@ fn print_drops<R: Print + AllocGlobal>(
             println!(rt; "{size} reads of one octet: {path}, {values} values, a body of {length}")
         }
         Err(fault) => println!(rt; "{size} reads of one octet: {fault}"),
+    }
+}
+
+// 4,097 octets that come one by one, and end no head.
+fn print_head_drops<R: Print + AllocGlobal>(rt: &R, buffer: &mut Buffer) -> io::Result<()> {
+    let octets = octets_of(rt.alloc(), "POST /ilp HTTP/1.1%0D%0AX: <4074 a>")?;
+    let size = octets.len();
+    let mut source = Pieces::new(octets.as_slice(), 1);
+    match read_request(rt.alloc(), &mut source, buffer) {
+        Ok(_) => println!(rt; "a request whose head has no end"),
+        Err(fault) => println!(rt; "{size} octets of a head, one by one: {fault}"),
+    }
+}
+
+// A response of so many octets that come one by one.
+fn print_response_drops<R: Print + AllocGlobal>(
+    rt: &R,
+    value: &str,
+    size: usize,
+    buffer: &mut Buffer,
+) -> io::Result<()> {
+    let alloc = rt.alloc();
+    let head = "HTTP/1.1 200 OK%0D%0AContent-Length: 3%0D%0AX: ";
+    let row = format!(in alloc; "{head}{value}%0D%0A%0D%0Aabc")?;
+    let octets = octets_of(alloc, row.as_str())?;
+    let mut source = Pieces::new(octets.as_slice(), 1);
+    match read_response(&mut source, buffer) {
+        Ok(Response { status, body }) => {
+            let length = body.len();
+            println!(rt; "{size} reads of one octet of a response: {status}, a body of {length}")
+        }
+        Err(fault) => println!(rt; "{size} reads of one octet of a response: {fault}"),
     }
 }

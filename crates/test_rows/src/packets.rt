@@ -4,7 +4,9 @@ use crate::fault::RowFault;
 use crate::repeated::push_repeated;
 use ilp_connector::describe_packet;
 use ilp_oer::Octets;
-use ilp_packet::{Packet, is_address, is_scheme, write_fulfill, write_prepare, write_reject};
+use ilp_packet::{
+    Packet, PacketFault, is_address, is_scheme, write_fulfill, write_prepare, write_reject,
+};
 use std::alloc::{AllocError, Global};
 use std::rt::Runtime;
 use std::{fs, io};
@@ -16,6 +18,7 @@ const BEFORE: &[u8] = b"before";
 pub(crate) fn print_packets<R: Runtime + AllocGlobal>(rt: &R) -> io::Result<()> {
     print_rows(rt, "packets/packets.txt")?;
     print_rows(rt, "packets/vectors.txt")?;
+    print_cuts(rt)?;
     print_addresses(rt)
 }
 
@@ -89,6 +92,29 @@ fn write_again(out: &mut Octets, octets: &[u8]) -> Result<(), AllocError> {
         Ok(Packet::Reject(reject)) => write_reject(out, &reject),
         Err(_) => Ok(()),
     }
+}
+
+fn print_cuts<R: Runtime + AllocGlobal>(rt: &R) -> io::Result<()> {
+    let rows = fs::read_to_string(rt, "packets/cuts.txt")?;
+    for row in rows.lines() {
+        match hex::decode(rt.alloc(), row) {
+            Ok(octets) => print_fronts(rt, row, &octets)?,
+            Err(_) => println!(rt; "row not understood: {row}")?,
+        }
+    }
+    Ok(())
+}
+
+// Prints how many proper prefixes of a packet are refused as ones that end too soon.
+fn print_fronts(rt: &impl Runtime, row: &str, octets: &[u8]) -> io::Result<()> {
+    let mut truncated = 0usize;
+    for length in 0..octets.len() {
+        if matches!(Packet::read(&octets[..length]), Err(PacketFault::Truncated)) {
+            truncated = truncated.saturating_add(1);
+        }
+    }
+    let count = octets.len();
+    println!(rt; "{row}: of {count} proper prefixes {truncated} are truncated")
 }
 
 fn print_addresses<R: Runtime + AllocGlobal>(rt: &R) -> io::Result<()> {

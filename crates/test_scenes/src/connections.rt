@@ -1,16 +1,17 @@
 //! Scenes of a desk whose worker answers connections and whose settler has turns.
 
 mod answering;
+mod cuts;
 mod memory;
 mod playing;
 mod steps;
 mod turns;
 
-use crate::links::engine::Said;
+use crate::links::engine::Sayings;
 use crate::opening::{Play, open_desk};
 use crate::row::{moments_of, octets_of, said};
+use cuts::cut_each;
 use ilp_desk::{Desk, Naming, Share};
-use ilp_workers::EngineReply;
 use memory::{deny_settler, deny_workers};
 use playing::take_turns;
 use std::io;
@@ -26,6 +27,8 @@ enum Act {
     DenyWorkers,
     /// A settler that is denied each growth.
     DenySettler,
+    /// A worker whose connections are cut at each octet.
+    Cut,
 }
 
 impl Act {
@@ -34,6 +37,7 @@ impl Act {
             "both" => Some(Act::Both),
             "deny-workers" => Some(Act::DenyWorkers),
             "deny-settler" => Some(Act::DenySettler),
+            "cut" => Some(Act::Cut),
             _ => None,
         }
     }
@@ -50,8 +54,8 @@ pub(crate) struct Given<'a> {
     pub(crate) came: Option<&'a [u8]>,
     /// What the engine answers a message, unless its link has a fault.
     pub(crate) answer: Option<&'a [u8]>,
-    /// What the engine says of accounts and settlements first, and from then on.
-    pub(crate) said: (Said, Said),
+    /// What the engine says of accounts and settlements.
+    pub(crate) says: Sayings<'a>,
     /// The steps, each behind `-- `.
     pub(crate) steps: &'a str,
 }
@@ -73,6 +77,7 @@ impl<R: Print + Wait> Play<R> for Scene<'_> {
             Act::Both => take_turns(rt, &desk, shares, &self.given),
             Act::DenyWorkers => deny_workers(rt, &desk, shares, &self.given),
             Act::DenySettler => deny_settler(rt, &desk, shares, &self.given),
+            Act::Cut => cut_each(rt, &desk, shares, &self.given),
         }
     }
 }
@@ -99,26 +104,7 @@ fn given_in<'a>(lines: &'a str, reply: &'a [u8], answer: &'a [u8]) -> Given<'a> 
         turns: moments_of(said(lines, "turns").unwrap_or("")).unwrap_or((0, 0)),
         came: said(lines, "bob").map(|_| reply),
         answer: said(lines, "replies").map(|_| answer),
-        said: said_of(said(lines, "says").unwrap_or("")),
+        says: Sayings(said(lines, "says").unwrap_or("")),
         steps: lines,
-    }
-}
-
-// What an engine says first, and from then on.
-fn said_of(words: &str) -> (Said, Said) {
-    let (first, second) = words.split_once(", ").unwrap_or((words, words));
-    (one_said(first), one_said(second))
-}
-
-// `account` or `no-account`, and what is said of a settlement.
-fn one_said(words: &str) -> Said {
-    let (account, settlement) = words.split_once(' ').unwrap_or((words, ""));
-    Said {
-        account: account == "account",
-        settlement: match settlement {
-            "accepted" => EngineReply::Accepted,
-            "refused" => EngineReply::Refused,
-            _ => EngineReply::Unknown,
-        },
     }
 }

@@ -56,7 +56,9 @@ impl Act {
             "many" => Some(Act::Many),
             "close" => Some(Act::Close(Missing::Nothing)),
             "close-without-sweeper" => Some(Act::Close(Missing::Sweeper)),
+            "close-without-settler" => Some(Act::Close(Missing::Settler)),
             "close-without-records" => Some(Act::Close(Missing::Records)),
+            "close-without-record" => Some(Act::Close(Missing::Record)),
             _ => None,
         }
     }

@@ -27,7 +27,7 @@ const PREPARE: Prepare<'static> = Prepare {
     payload: b"",
 };
 
-const DEADLINE: i64 = START + 29_000;
+pub(super) const DEADLINE: i64 = START + 29_000;
 
 // How many holds are made: with what ends them there are 3,000 entries, in twelve pages.
 const HOLDS: u32 = 1_500;

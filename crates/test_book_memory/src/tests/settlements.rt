@@ -1,9 +1,9 @@
-//! Settlements in books.
+//! Settlements in books, and what ends holds and settlements after each kind of entry.
 
-use super::books::{START, hold};
+use super::books::{DEADLINE, START, hold};
 use super::{FIRST_OF_A_BOOK, GROWTHS, lending};
 use ilp_accounts::Config;
-use ilp_book::{AskFault, Asked, Book, CreditFault, Kept, NotOpen, PeerReply};
+use ilp_book::{AskFault, Asked, Book, CreditFault, Kept, NotOpen, Outcome, PeerReply};
 use ilp_journal::Key;
 use ilp_settlement::Quantity;
 use std::alloc::Allocator;
@@ -20,9 +20,9 @@ const BOB: u32 = 1;
 // journal.
 const ROUNDS: u8 = 90;
 
-// How many entries there are before those that matter: of six of these the last is the first of a
-// page.
-const FILLED: u32 = 3_066;
+// How many entries there are before those that matter: the one after eight of these is the first of
+// a page.
+const FILLED: u32 = 3_064;
 
 // 2,000 units of the peers' asset.
 const QUANTITY: Quantity = Quantity {
@@ -147,7 +147,7 @@ fn close<A: Allocator>(rt: &impl Abort, book: &mut Book<A>, number: u32, accepte
     assert_eq!(rt; book.settle_close(0, number, accepted, START), Err(closed));
 }
 
-// The entry after which a settlement is closed.
+// The entry after which a hold or a settlement is ended.
 #[derive(Clone, Copy)]
 enum Last {
     Asked,
@@ -169,23 +169,36 @@ const EACH_LAST: [Last; 7] = [
     Last::Undone,
 ];
 
+// What ends a hold or a settlement.
+#[derive(Clone, Copy)]
+enum Ending {
+    Answer,
+    Sweep,
+    Close,
+}
+
+const EACH_ENDING: [Ending; 3] = [Ending::Answer, Ending::Sweep, Ending::Close];
+
 #[test]
-fn closing_takes_no_memory(rt: HostRuntime) -> Result<(), Fail> {
+fn ending_takes_no_memory_after_any_entry(rt: HostRuntime) -> Result<(), Fail> {
     let config = lending(rt.alloc())?;
     for last in EACH_LAST {
-        close_over_each(&rt, &config, last)?;
+        for ending in EACH_ENDING {
+            end_over_each(&rt, &config, last, ending)?;
+        }
     }
     Ok(())
 }
 
-fn close_over_each(
+fn end_over_each(
     rt: &(impl Abort + AllocGlobal),
     config: &Config,
     last: Last,
+    ending: Ending,
 ) -> Result<(), Fail> {
     for granted in FIRST_OF_A_BOOK..GROWTHS {
         let heap = DenyingAllocator::after(rt.alloc(), granted);
-        close_over(rt, config, &heap, &heap, last)?;
+        end_over(rt, config, &heap, &heap, last, ending)?;
         if !heap.has_denied() {
             return Ok(());
         }
@@ -195,35 +208,54 @@ fn close_over_each(
 }
 
 // Once the entries are made, the next growth is denied, unless one was: so where the last of them
-// was granted, the closing makes none. The heap is that of the book, by which denials are seen.
-fn close_over<A: Allocator + Clone, B: Allocator>(
+// was granted, what ends a hold or a settlement makes none. The heap is that of the book, by which
+// denials are seen.
+fn end_over<A: Allocator + Clone, B: Allocator>(
     rt: &(impl Abort + AllocGlobal),
     config: &Config,
     heap: A,
     denying: &DenyingAllocator<B>,
     last: Last,
+    ending: Ending,
 ) -> Result<(), Fail> {
     let mut book = Book::new(heap, config)?;
-    close_after(rt, &mut book, denying, last);
+    end_after(rt, &mut book, denying, last, ending);
     Ok(())
 }
 
-fn close_after<A: Allocator + Clone, B: Allocator>(
+fn end_after<A: Allocator + Clone, B: Allocator>(
     rt: &(impl Abort + AllocGlobal),
     book: &mut Book<A>,
     denying: &DenyingAllocator<B>,
     last: Last,
+    ending: Ending,
 ) {
     fill(rt, book);
     hold(rt, book);
+    hold(rt, book);
+    hold(rt, book);
     credit(rt, book, ALICE, 0);
-    ask(rt, book, ALICE, 1_700);
+    ask(rt, book, ALICE, 1_500);
     credit(rt, book, BOB, 0);
     ask(rt, book, BOB, 1_800);
-    end_with(rt, book, last);
+    book_last(rt, book, last);
     let had_denied = denying.has_denied();
-    close(rt, book, FILLED + 4, true);
+    end_by(rt, book, ending);
     assert_eq!(rt; denying.has_denied(), had_denied);
+}
+
+// Ends the second of the holds that matter, the one whose deadline comes first of those that are
+// open, or the settlement to bob.
+fn end_by<A: Allocator>(rt: &impl Abort, book: &mut Book<A>, ending: Ending) {
+    match ending {
+        Ending::Answer => {
+            let entry = book.len();
+            let outcome = book.answer(0, FILLED + 1, PeerReply::Fulfill([0; 32]), START);
+            assert_eq!(rt; outcome, Ok(Outcome::Fulfilled { entry }));
+        }
+        Ending::Sweep => assert!(rt; book.expire_one(0, DEADLINE).is_some()),
+        Ending::Close => close(rt, book, FILLED + 6, true),
+    }
 }
 
 // Books holds, each of which is released.
@@ -236,9 +268,13 @@ fn fill<A: Allocator + Clone>(rt: &impl Abort, book: &mut Book<A>) {
     assert_eq!(rt; book.len(), FILLED);
 }
 
-// Makes the last entry. The hold is the first of those that matter, the settlement to alice the
-// third.
-fn end_with<A: Allocator + Clone>(rt: &(impl Abort + AllocGlobal), book: &mut Book<A>, last: Last) {
+// Makes the last entry. Of those that matter the first is the hold that is answered, the fifth the
+// settlement to alice.
+fn book_last<A: Allocator + Clone>(
+    rt: &(impl Abort + AllocGlobal),
+    book: &mut Book<A>,
+    last: Last,
+) {
     match last {
         Last::Asked => {}
         Last::Credited => credit(rt, book, ALICE, 1),
@@ -251,7 +287,7 @@ fn end_with<A: Allocator + Clone>(rt: &(impl Abort + AllocGlobal), book: &mut Bo
             let outcome = book.answer(0, FILLED, PeerReply::NoReply, START);
             assert!(rt; outcome.is_ok());
         }
-        Last::Confirmed => close(rt, book, FILLED + 2, true),
-        Last::Undone => close(rt, book, FILLED + 2, false),
+        Last::Confirmed => close(rt, book, FILLED + 4, true),
+        Last::Undone => close(rt, book, FILLED + 4, false),
     }
 }

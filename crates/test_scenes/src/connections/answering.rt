@@ -12,7 +12,7 @@ use std::sync::Wait;
 use std::{io, str};
 
 // How many octets one read gives, and one write takes.
-const PIECE: usize = 64;
+pub(super) const PIECE: usize = 64;
 
 /// Has a worker answer a connection, and prints what became of it and what was written.
 pub(crate) fn answer<

@@ -6,6 +6,7 @@ use super::playing::{bob, engine};
 use super::steps::Step;
 use super::turns::settle;
 use crate::links::clocks::Still;
+use crate::links::engine::Wanting;
 use crate::peers::START;
 use crate::told::{print_actor, print_book};
 use ilp_desk::{Desk, Naming, Share};
@@ -77,7 +78,8 @@ fn answer_each<J: Naming, C: Clock + Drop, U: Uplink + Drop, E: EngineLink + Dro
 }
 
 /// Has the worker of a desk take its steps, and then the settler: first without its first growth,
-/// which hands its share back, and then without its second.
+/// which hands its share back, and then without its second, over a way to the engine that is denied
+/// its first growth for an account, and its first for a settlement.
 pub(crate) fn deny_settler<J: Naming, R: Print + Wait>(
     rt: &R,
     desk: &Desk<J>,
@@ -132,26 +134,37 @@ fn deny_making<J: Naming, R: Print>(
     }
 }
 
-// Denies a settler its second growth.
+// Denies a settler its second growth, and the way to the engine its first ones.
 fn settle_denied<J: Naming, R: Print + Wait>(
     rt: &R,
     desk: &Desk<J>,
     share: Share<J>,
     given: &Given<'_>,
 ) -> io::Result<()> {
-    let heap = DenyingAllocator::after(desk.config().allocator(), 1);
-    settle_over(rt, desk, share, &heap, given)?;
-    println!(rt; "denied: {}", heap.has_denied())
+    let alloc = desk.config().allocator();
+    let heap = DenyingAllocator::after(alloc, 1);
+    let accounts = DenyingAllocator::after(alloc, 0);
+    let settlements = DenyingAllocator::after(alloc, 0);
+    let link = Wanting {
+        engine: engine(rt, desk, given),
+        accounts: &accounts,
+        settlements: &settlements,
+    };
+    settle_over(rt, desk, share, &heap, link, given)?;
+    println!(rt; "denied: {}", heap.has_denied())?;
+    println!(rt; "denied of accounts: {}", accounts.has_denied())?;
+    println!(rt; "denied of settlements: {}", settlements.has_denied())
 }
 
-fn settle_over<J: Naming, R: Print + Wait, B: Allocator>(
-    rt: &R,
+fn settle_over<J: Naming, B: Allocator, E: EngineLink + Drop>(
+    rt: &(impl Print + Wait),
     desk: &Desk<J>,
     share: Share<J>,
     heap: &DenyingAllocator<B>,
+    link: E,
     given: &Given<'_>,
 ) -> io::Result<()> {
-    match Settler::new(heap, share, Still(START), engine(rt, desk, given)) {
+    match Settler::new(heap, share, Still(START), link) {
         Ok(mut settler) => settle_each(rt, desk, &mut settler, given),
         Err(_) => println!(rt; "no settler"),
     }

@@ -125,12 +125,11 @@ pub(crate) fn engine<'a, J: Naming, R: Print>(
     desk: &Desk<J>,
     given: &Given<'a>,
 ) -> Engine<'a, R> {
-    let (next, later) = given.said;
     Engine {
         rt,
         alloc: desk.config().allocator(),
-        next,
-        later,
+        accounts: given.says,
+        settlements: given.says,
         answer: given.answer,
     }
 }

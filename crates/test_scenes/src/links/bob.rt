@@ -43,3 +43,19 @@ impl<R: Print> Uplink for Bob<'_, R> {
         put(self.came, reply)
     }
 }
+
+/// A peer who replies the same each time, if he does, and prints nothing.
+#[derive(Drop)]
+pub(crate) struct Silent<'a>(pub(crate) Option<&'a [u8]>);
+
+impl Uplink for Silent<'_> {
+    fn send<A: Allocator>(
+        &mut self,
+        _to: u32,
+        _packet: &[u8],
+        _deadline: i64,
+        reply: &mut Octets<A>,
+    ) -> Result<(), LinkFault> {
+        put(self.0, reply)
+    }
+}

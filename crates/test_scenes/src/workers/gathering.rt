@@ -24,8 +24,12 @@ pub(crate) enum Missing {
     Nothing,
     /// The sweeper's end.
     Sweeper,
+    /// The settler's end.
+    Settler,
     /// The records of the worker.
     Records,
+    /// The record of one of the worker's two packets.
+    Record,
 }
 
 /// Has the worker of a desk forward the packet, and closes the desk.
@@ -39,9 +43,11 @@ pub(crate) fn close<J: Naming, R: Print + Wait>(
     let ends = ends_of(rt, &desk, shares, given, missing);
     let _ = print_ends(rt, &ends);
     match missing {
-        Missing::Sweeper => close_later(rt, desk, ends),
+        Missing::Sweeper => close_later(rt, desk, ends, 1),
+        Missing::Settler => close_later(rt, desk, ends, 2),
         Missing::Nothing => print_gathered(rt, desk, ends),
         Missing::Records => print_gathered(rt, desk, ends),
+        Missing::Record => print_gathered(rt, desk, ends),
     }
 }
 
@@ -78,7 +84,8 @@ fn end_of<J: Naming>(
     missing: Missing,
 ) -> End<J> {
     match share.actor() {
-        0 if missing == Missing::Records => book_beside(rt, desk, share, given),
+        0 if missing == Missing::Records => booked_end(rt, desk, share, given),
+        0 if missing == Missing::Record => forward_beside(rt, desk, share, given),
         0 => worker_end(rt, desk, share, given),
         1 => sweeper_end(rt, desk, share),
         _ => settler_end(desk, share),
@@ -162,43 +169,65 @@ pub(crate) fn settler_end<J: Naming>(desk: &Desk<J>, share: Share<J>) -> End<J> 
 }
 
 // The end of a share that books the packet, and of which no record is kept.
-fn book_beside<J: Naming>(
+fn booked_end<J: Naming>(
     rt: &impl Wait,
     desk: &Desk<J>,
     share: Share<J>,
     given: &Given<'_>,
 ) -> End<J> {
     let mut share = share;
-    if let Ok(Packet::Prepare(prepare)) = Packet::read(given.packet) {
-        if ALICE < desk.config().peers() {
-            if let Ok(held) = desk.hold(rt, &mut share, ALICE, &prepare, START) {
-                let reply = PeerReply::Fulfill([0; 32]);
-                let _ = desk.answer(rt, &mut share, held.number, reply, START);
-            }
-        }
-    }
+    book_once(rt, desk, &mut share, given);
     End::new(share, Vec::new(desk.config().allocator()))
 }
 
-// The desk is not closed without the sweeper's end, goes on, and is closed with it.
-fn close_later<J: Naming>(rt: &impl Print, desk: Desk<J>, ends: Vec<End<J>>) -> io::Result<()> {
-    let mut ends = ends;
-    if ends.len() < 2 {
-        return println!(rt; "no sweeper");
+// The end of a worker that forwards the packet, and with whose share it was booked once before.
+fn forward_beside<J: Naming>(
+    rt: &(impl Print + Wait),
+    desk: &Desk<J>,
+    share: Share<J>,
+    given: &Given<'_>,
+) -> End<J> {
+    let mut share = share;
+    book_once(rt, desk, &mut share, given);
+    worker_end(rt, desk, share, given)
+}
+
+// Books the packet as fulfilled, without a worker.
+fn book_once<J: Naming>(rt: &impl Wait, desk: &Desk<J>, share: &mut Share<J>, given: &Given<'_>) {
+    if let Ok(Packet::Prepare(prepare)) = Packet::read(given.packet) {
+        if ALICE < desk.config().peers() {
+            if let Ok(held) = desk.hold(rt, share, ALICE, &prepare, START) {
+                let reply = PeerReply::Fulfill([0; 32]);
+                let _ = desk.answer(rt, share, held.number, reply, START);
+            }
+        }
     }
-    let sweeper = ends.remove(1);
+}
+
+// The desk is not closed without the end at this place, goes on, and is closed with it.
+fn close_later<J: Naming>(
+    rt: &impl Print,
+    desk: Desk<J>,
+    ends: Vec<End<J>>,
+    place: usize,
+) -> io::Result<()> {
+    let mut ends = ends;
+    if ends.len() <= place {
+        return println!(rt; "no such end");
+    }
+    let missing = ends.remove(place);
     match gather(desk, ends) {
-        Ok(_) => println!(rt; "gathered without the sweeper"),
-        Err(left) => close_left(rt, left, sweeper),
+        Ok(_) => println!(rt; "gathered without an end"),
+        Err(left) => close_left(rt, left, missing),
     }
 }
 
 // The desk is closed with the end that was missing.
-fn close_left<J: Naming>(rt: &impl Print, left: NotGathered<J>, sweeper: End<J>) -> io::Result<()> {
+fn close_left<J: Naming>(rt: &impl Print, left: NotGathered<J>, missing: End<J>) -> io::Result<()> {
     let NotGathered { desk, ends, why } = left;
     let mut ends = ends;
     let _ = println!(rt; "not gathered: {why}, {} ends are left", ends.len());
-    let _ = ends.push(sweeper);
+    let _ = ends.push(missing);
     print_gathered(rt, desk, ends)
 }
 

@@ -6,6 +6,7 @@ use crate::links::bob::put;
 use crate::links::clocks::{Still, TwoMoments};
 use crate::links::engine::NoEngine;
 use crate::peers::START;
+use crate::told::print_actor;
 use ilp_desk::{Desk, Naming, Share};
 use ilp_oer::Octets;
 use ilp_settler::Sweeper;
@@ -34,6 +35,7 @@ impl<J: Naming, R: Print + Wait> Uplink for Slow<'_, J, R> {
         let _ = print_turn(self.rt, self.desk, &mut self.sweeper);
         let _ = print_turn(self.rt, self.desk, &mut self.sweeper);
         let _ = print_turn(self.rt, self.desk, &mut self.sweeper);
+        let _ = print_actor(self.rt, self.sweeper.share(), self.sweeper.records());
         put(self.came, reply)
     }
 }
