@@ -6,7 +6,7 @@ use Rattle.ilp_book.specs.Configured.{peer_assets}
 use Rattle.ilp_desk.specs.declared.gathering.WhyNotGathered.{WhyNotGathered}
 use Rattle.ilp_desk.specs.declared.gathering.WhyNotGathered.TheVariants.{Double, Missing, Disagrees}
 use Rattle.ilp_desk.specs.declared.record.Record.{Record}
-use Rattle.ilp_desk.specs.Desk.{PlainDesk, IsActor, IsBookOf}
+use Rattle.ilp_desk.specs.Desk.{PlainDesk, IsActor}
 use Rattle.ilp_desk.specs.Portion.{Holding}
 use Rattle.ilp_desk.specs.Records.{actor_records}
 use Rattle.ilp_desk.specs.Totals.{taken_since, sold_since, packets, packets_in, packets_out}
@@ -79,7 +79,3 @@ abbrev pub IsWhyNotGathered : PlainDesk → PlainBook → List Holding → WhyNo
 IsWhyNotGathered desk book ends (Double actor) = IsDouble desk ends actor
 IsWhyNotGathered desk book ends (Missing actor) = IsMissing desk ends actor
 IsWhyNotGathered desk book ends (Disagrees actor) = IsDisagreeing desk book ends actor
-
--- that it is so with some book of the desk: what is known once the book is back under its lock
-abbrev pub IsWhyWithSome : PlainDesk → List Holding → WhyNotGathered → Type 0
-IsWhyWithSome desk ends why = (book : PlainBook) × IsBookOf desk book × IsWhyNotGathered desk book ends why

@@ -13,6 +13,7 @@ ghost use Rattle.ilp_desk.specs.Session.{IsReplyAt, IsCopyOf};
 use crate::locked::LockedBook;
 use crate::naming::Naming;
 use crate::share::Share;
+use crate::unlocked::UnlockedDesk;
 use ilp_accounts::Config;
 use ilp_book::{
     AskFault, Asked, Book, CreditFault, Held, HoldFault, Kept, NotOpen, Outcome, PeerReply,
@@ -108,12 +109,10 @@ impl<J: Naming> Desk<J> {
         self.locked.lock(rt)
     }
 
-    // What it consists of, once nobody else has it.
-    pub(crate) fn into_parts(self) -> (Config, LockedBook<J>)
-        ensures { result.0 ≡ J.desk.config }
-    {
+    // Takes the book from under its lock, once nobody else has the desk.
+    pub(crate) fn unlock(self) -> UnlockedDesk<J> {
         let Desk { config, locked } = self;
-        (config, locked.into_inner())
+        UnlockedDesk::new(config, locked.into_inner())
     }
 
     // A book under its lock, and its configuration.

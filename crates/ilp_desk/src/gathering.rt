@@ -2,14 +2,14 @@
 ghost use Rattle.std.specs.Prelude.{◌≡◌, ◌≢◌, ℕ, ◌<◌, ◌≤◌, All, IfOk, IfErr, MatchBool, MatchOption, Some, slice_get};
 ghost use Rattle.ilp_desk.specs.Desk.{IsActor, IsBookOf, actors_of};
 ghost use Rattle.ilp_desk.specs.Portion.{Holding};
-ghost use Rattle.ilp_desk.specs.Gathering.{Agrees, Differs, IsGathered, IsWhole, IsWhyNotGathered, IsWhyWithSome, holders, records_of};
+ghost use Rattle.ilp_desk.specs.Gathering.{Agrees, Differs, IsGathered, IsWhole, IsWhyNotGathered, holders, records_of};
 
 use crate::desk::Desk;
 use crate::end::End;
-use crate::locked::LockedBook;
 use crate::naming::Naming;
 use crate::record::{Record, Recorded};
 use crate::records::record_by;
+use crate::unlocked::UnlockedDesk;
 use ilp_book::Book;
 use thiserror::Error;
 
@@ -24,7 +24,7 @@ pub struct Closed {
 #[derive(Drop)]
 pub struct NotGathered<J: Naming> {
     /// The desk, as it was.
-    pub desk: Desk<J>,
+    pub desk: UnlockedDesk<J>,
     /// The ends, in the order in which they were handed in.
     pub ends: Vec<End<J>>,
     /// Why they were not gathered.
@@ -47,31 +47,23 @@ pub enum WhyNotGathered {
     Disagrees { actor: u32 },
 }
 
-/// A book under a lock, with the ends that were not gathered.
-#[derive(Drop)]
-pub(crate) struct StillLocked<J: Naming> {
-    pub(crate) locked: LockedBook<J>,
-    pub(crate) ends: Vec<End<J>>,
-    pub(crate) why: WhyNotGathered,
-}
-
 /// Closes a desk, where each of its actors hands in one end, with its records of the book: then
 /// what the ends say adds up to what was booked since the desk was opened. A refusal hands back the
-/// desk and the ends as they were. Takes no memory, and waits for no lock, since nobody else has the
-/// desk.
+/// desk and the ends as they were, and says why of the desk's book, which is there to be looked at.
+/// Takes no memory, and waits for no lock, since nobody else has the desk.
 pub fn gather<J: Naming>(desk: Desk<J>, ends: Vec<End<J>>) -> Result<Closed, NotGathered<J>>
     ensures book { IfOk result (λ closed. IsBookOf J.desk closed.book) }
     ensures gathered { IfOk result (λ closed. IsGathered J.desk closed.book ends.items) }
     ensures ends { IfErr result (λ left. left.ends.items ≡ ends.items) }
-    ensures why { IfErr result (λ left. IsWhyWithSome J.desk ends.items left.why) }
+    ensures why { IfErr result (λ left. IsWhyNotGathered J.desk left.desk ends.items left.why) }
 {
-    let (config, locked) = desk.into_parts();
-    match locked.gather(ends) {
-        Ok(closed) => Ok(closed),
-        Err(StillLocked { locked, ends, why }) => {
-            let desk = Desk::new(config, locked);
-            Err(NotGathered { desk, ends, why })
-        }
+    let desk = desk.unlock();
+    let actors = desk.workers() + 2;
+    match why_not(desk.book(), &ends, actors) {
+        Some(why) => Err(NotGathered { desk, ends, why }),
+        None => Ok(Closed {
+            book: desk.into_locked().close(ends),
+        }),
     }
 }
 

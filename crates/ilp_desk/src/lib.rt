@@ -11,6 +11,7 @@ mod naming;
 mod record;
 mod records;
 mod share;
+mod unlocked;
 
 pub use desk::{Desk, NoDesk, WhyNoDesk};
 pub use end::End;
@@ -19,3 +20,4 @@ pub use locked::LockedBook;
 pub use naming::Naming;
 pub use record::{AnsweredHold, Record, Recorded, Verdict};
 pub use share::Share;
+pub use unlocked::UnlockedDesk;

@@ -11,10 +11,9 @@ ghost use Rattle.ilp_report.specs.Report.{snapshot_of};
 ghost use Rattle.ilp_desk.specs.Desk.{IsBookOf, actors_of, base_of};
 ghost use Rattle.ilp_desk.specs.Session.{IsSession};
 ghost use Rattle.ilp_desk.specs.Portion.{Holding};
-ghost use Rattle.ilp_desk.specs.Gathering.{IsGathered, IsWhole, IsWhyNotGathered};
+ghost use Rattle.ilp_desk.specs.Gathering.{IsWhole};
 
 use crate::end::End;
-use crate::gathering::{Closed, StillLocked, why_not};
 use crate::naming::Naming;
 use crate::share::Share;
 use ilp_book::{
@@ -207,33 +206,11 @@ impl<J: Naming> LockedBook<J> {
         Snapshot::of(alloc, self.book())
     }
 
-    // Closes the book, where each actor hands in one end, with its records of the book. A refusal
-    // hands back the book and the ends as they were.
-    pub(crate) fn gather(self, ends: Vec<End<J>>) -> Result<Closed, StillLocked<J>>
-        ensures book { IfOk result (λ closed. closed.book ≡ self) }
-        ensures gathered { IfOk result (λ closed. IsGathered J.desk self ends.items) }
-        ensures of_desk { IsBookOf J.desk self }
-        ensures locked { IfErr result (λ left. left.locked ≡ self) }
-        ensures ends { IfErr result (λ left. left.ends.items ≡ ends.items) }
-        ensures why { IfErr result (λ left. IsWhyNotGathered J.desk self ends.items left.why) }
-    {
-        let actors = self.workers + 2;
-        match why_not(self.book(), &ends, actors) {
-            Some(why) => Err(StillLocked {
-                locked: self,
-                ends,
-                why,
-            }),
-            None => Ok(Closed {
-                book: self.close(ends),
-            }),
-        }
-    }
-
     // The book, once the shares of all ends are put together.
-    fn close(self, ends: Vec<End<J>>) -> Book
+    pub(crate) fn close(self, ends: Vec<End<J>>) -> Book
         requires { IsWhole J.desk self ends.items }
         ensures book { result ≡ self }
+        ensures of_desk { IsBookOf J.desk self }
         ensures entries { sum_by (λ (h : Holding). h.share.entries) ends.items + base_of J.desk
             ≡ length self.entries }
     {

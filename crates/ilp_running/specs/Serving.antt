@@ -1,5 +1,5 @@
 -- What a run of the connector comes to.
-use Rattle.std.specs.Prelude.{◌≡◌, ℕ, List, [], Option, Result, Ok, Err}
+use Rattle.std.specs.Prelude.{◌≡◌, ℕ, List, [], ⊤, Option, Result, Ok, Err}
 use Rattle.std.specs.Io.KnownBytes.{Appends}
 use Rattle.ilp_io.specs.Writing.{AppendsProperPrefix}
 use Rattle.ilp_accounts.specs.Configuration.{Configuration}
@@ -7,33 +7,26 @@ use Rattle.ilp_book.specs.Book.{PlainBook}
 use Rattle.ilp_report.specs.Report.{report_text}
 use Rattle.ilp_desk.specs.Desk.{PlainDesk, IsBookOf}
 use Rattle.ilp_desk.specs.Portion.{Holding}
-use Rattle.ilp_desk.specs.Gathering.{IsGathered}
+use Rattle.ilp_desk.specs.Gathering.{IsGathered, IsWhyNotGathered}
 use Rattle.ilp_desk.specs.declared.gathering.WhyNotGathered.{WhyNotGathered}
 use Rattle.ilp_desk.specs.declared.gathering.WhyNotGathered.TheVariants as why
 use Rattle.ilp_connector.specs.declared.refusal.Refusal.{Refusal}
 use Rattle.ilp_connector.specs.declared.refusal.Refusal.TheVariants as refusals
 use Rattle.ilp_running.specs.declared.fault.ServeFault.{ServeFault}
-use Rattle.ilp_running.specs.declared.fault.ServeFault.TheVariants.{Unprinted, Write}
-use Rattle.ilp_running.specs.declared.fault.Unprinted.TheVariants.{Memory, Missing, Double, Disagrees, Listen, Spawn}
-use Rattle.ilp_running.specs.declared.fault.Unprinted as unprinted
+use Rattle.ilp_running.specs.declared.fault.ServeFault.TheVariants.{Unprinted, NotGathered, Write}
+use Rattle.ilp_running.specs.declared.fault.Unprinted.TheVariants.{Memory, Listen, Spawn}
 
 -- ---- refusals
-
--- ends that could not be gathered
-abbrev pub gathering_fault : WhyNotGathered → unprinted.Unprinted
-gathering_fault (why.Missing actor) = Missing actor
-gathering_fault (why.Double actor) = Double actor
-gathering_fault (why.Disagrees actor) = Disagrees actor
 
 -- the refusal that is printed
 abbrev pub fault_refusal : ServeFault → Refusal
 fault_refusal Write = refusals.WriteFault
 fault_refusal (Unprinted Memory) = refusals.Memory
-fault_refusal (Unprinted (Missing actor)) = refusals.MissingEnd actor
-fault_refusal (Unprinted (Double actor)) = refusals.DoubleEnd actor
-fault_refusal (Unprinted (Disagrees actor)) = refusals.Disagrees actor
 fault_refusal (Unprinted (Listen side)) = refusals.ListenFault
 fault_refusal (Unprinted Spawn) = refusals.SpawnFault
+fault_refusal (NotGathered (why.Missing actor)) = refusals.MissingEnd actor
+fault_refusal (NotGathered (why.Double actor)) = refusals.DoubleEnd actor
+fault_refusal (NotGathered (why.Disagrees actor)) = refusals.Disagrees actor
 
 -- ---- what is printed
 
@@ -47,14 +40,31 @@ pub record IsClosed (desk : PlainDesk) (book : PlainBook) : Type 0 where
   pub lawful : IsBookOf desk book
   pub gathered : IsGathered desk book ends
 
+-- A book of the desk in the end, and ends that are not gathered with it, for this reason.
+pub record IsRefused (desk : PlainDesk) (reason : WhyNotGathered) : Type 0 where
+  pub book : PlainBook
+  pub ends : List Holding
+  pub lawful : IsBookOf desk book
+  pub why : IsWhyNotGathered desk book ends reason
+
+-- The desk was closed; or its ends were not gathered; or there were none.
+abbrev pub ClosesDesk : PlainDesk → Result PlainBook ServeFault → Type 0
+ClosesDesk desk (Ok book) = IsClosed desk book
+ClosesDesk desk (Err Write) = ⊥
+ClosesDesk desk (Err (NotGathered reason)) = IsRefused desk reason
+ClosesDesk desk (Err (Unprinted reason)) = ⊤
+
 -- The report of the book was printed; or a write of it failed; or nothing was printed.
 abbrev pub Prints : PlainBook → Option (List ℕ) → Option (List ℕ) → Result (Unit {0}) ServeFault → Type 0
 Prints book old new (Ok done) = Appends old new (report_text book)
 Prints book old new (Err Write) = AppendsProperPrefix old new (report_text book)
-Prints book old new (Err (Unprinted why)) = new ≡ old
+Prints book old new (Err (NotGathered reason)) = ⊥
+Prints book old new (Err (Unprinted reason)) = new ≡ old
 
--- The connector ran to its end, and printed the report of its book; or a write of it failed; or nothing was printed.
+-- The connector ran to its end, and printed the report of its book; or a write of it failed; or nothing was printed, since the ends
+-- were not gathered or for another reason.
 abbrev pub EndsWithReport : PlainDesk → Option (List ℕ) → Option (List ℕ) → Result (Unit {0}) ServeFault → Type 0
 EndsWithReport desk old new (Ok done) = (book : PlainBook) × IsClosed desk book × Prints book old new (Ok done)
 EndsWithReport desk old new (Err Write) = (book : PlainBook) × IsClosed desk book × Prints book old new (Err Write)
-EndsWithReport desk old new (Err (Unprinted why)) = new ≡ old
+EndsWithReport desk old new (Err (NotGathered reason)) = IsRefused desk reason × (new ≡ old)
+EndsWithReport desk old new (Err (Unprinted reason)) = new ≡ old

@@ -1,6 +1,6 @@
 //! The actors of a desk, ready to be started.
+ghost use Rattle.std.specs.Prelude.{◌≤◌, vec_len};
 
-use crate::fault::Unprinted;
 use crate::pauses::Pauses;
 use crate::turns::PausedSettler;
 use ilp_desk::{Desk, Naming, Share};
@@ -42,22 +42,24 @@ type RespondersOf<J, L> = Vec<
 >;
 
 /// The actors whose shares these are, the settler's last and the sweeper's before it. It is refused
-/// where memory is denied, and where a share is missing, which a desk that was opened has.
+/// where memory is denied.
 pub(crate) fn actors_of<J: Naming, L: Links>(
     desk: &Desk<J>,
     shares: Vec<Share<J>>,
     links: &L,
-) -> Result<ActorsOf<J, L>, Unprinted> {
+) -> Result<ActorsOf<J, L>, AllocError>
+    requires { 2 ≤ vec_len shares }
+{
     let alloc = desk.config().allocator();
     let mut shares = shares;
-    let workers = desk.config().workers();
-    let share = shares.pop().ok_or(missing(workers, 1))?;
+    let (Some(settlers), Some(sweepers)) = (shares.pop(), shares.pop()) else {
+        unreachable!();
+    };
     let settler = PausedSettler {
-        settler: new_settler(alloc, share, links)?,
+        settler: new_settler(alloc, settlers, links)?,
         pauses: Pauses::new(alloc, desk.config().peers())?,
     };
-    let share = shares.pop().ok_or(missing(workers, 0))?;
-    let sweeper = Sweeper::new(alloc, share, links.clock());
+    let sweeper = Sweeper::new(alloc, sweepers, links.clock());
     let responders = new_responders(alloc, shares, links)?;
     let turning = Turning {
         sweeper,
@@ -68,13 +70,6 @@ pub(crate) fn actors_of<J: Naming, L: Links>(
         responders,
         turning,
     })
-}
-
-// That the actor so many after the workers has no share.
-fn missing(workers: u32, after: u32) -> Unprinted {
-    Unprinted::Missing {
-        actor: workers.saturating_add(after),
-    }
 }
 
 fn new_responders<J: Naming, L: Links>(

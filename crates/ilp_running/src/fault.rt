@@ -1,6 +1,6 @@
 //! Why a connector printed no report.
 ghost use Rattle.std.specs.Prelude.{◌≡◌};
-ghost use Rattle.ilp_running.specs.Serving.{gathering_fault, fault_refusal};
+ghost use Rattle.ilp_running.specs.Serving.{fault_refusal};
 
 use ilp_connector::Refusal;
 use ilp_desk::WhyNotGathered;
@@ -15,26 +15,20 @@ pub enum ServeFault {
     /// Nothing was printed.
     #[error("{0}")]
     Unprinted(Unprinted),
+    /// Nothing was printed, since what the actors handed in is not what the book has.
+    #[error("{0}")]
+    NotGathered(WhyNotGathered),
     /// A write of the report failed or took no octet. A part of it was printed.
     #[error("a write failed or took no octet")]
     Write,
 }
 
-/// Why nothing was printed.
+/// Why nothing was printed, where no actor's end was looked at.
 #[derive(Clone, Copy, Debug, PartialEq, Eq, Error)]
 pub enum Unprinted {
     /// Memory was denied.
     #[error("memory is short")]
     Memory,
-    /// This actor handed in no end.
-    #[error("actor {actor} has no end")]
-    Missing { actor: u32 },
-    /// Two ends are of this actor.
-    #[error("actor {actor} has two ends")]
-    Double { actor: u32 },
-    /// What this actor kept is not what it booked.
-    #[error("what actor {actor} kept is not what it booked")]
-    Disagrees { actor: u32 },
     /// The address of this side can't be listened at.
     #[error("the address of a side can't be listened at")]
     Listen(Side),
@@ -51,23 +45,18 @@ impl ServeFault {
         match self {
             ServeFault::Write => Refusal::WriteFault,
             ServeFault::Unprinted(Unprinted::Memory) => Refusal::Memory,
-            ServeFault::Unprinted(Unprinted::Missing { actor }) => Refusal::MissingEnd { actor },
-            ServeFault::Unprinted(Unprinted::Double { actor }) => Refusal::DoubleEnd { actor },
-            ServeFault::Unprinted(Unprinted::Disagrees { actor }) => Refusal::Disagrees { actor },
+            ServeFault::NotGathered(WhyNotGathered::Missing { actor }) => {
+                Refusal::MissingEnd { actor }
+            }
+            ServeFault::NotGathered(WhyNotGathered::Double { actor }) => {
+                Refusal::DoubleEnd { actor }
+            }
+            ServeFault::NotGathered(WhyNotGathered::Disagrees { actor }) => {
+                Refusal::Disagrees { actor }
+            }
             ServeFault::Unprinted(Unprinted::Listen(_)) => Refusal::ListenFault,
             ServeFault::Unprinted(Unprinted::Spawn) => Refusal::SpawnFault,
         }
-    }
-}
-
-// Ends that could not be gathered.
-pub(crate) fn not_gathered(why: WhyNotGathered) -> Unprinted
-    ensures { result ≡ gathering_fault why }
-{
-    match why {
-        WhyNotGathered::Missing { actor } => Unprinted::Missing { actor },
-        WhyNotGathered::Double { actor } => Unprinted::Double { actor },
-        WhyNotGathered::Disagrees { actor } => Unprinted::Disagrees { actor },
     }
 }
 

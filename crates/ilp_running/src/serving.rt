@@ -1,13 +1,13 @@
 //! A connector from its beginning to its end.
-ghost use Rattle.std.specs.Prelude.{◌≡◌, IfOk};
+ghost use Rattle.std.specs.Prelude.{◌≡◌, ◌≤◌, vec_len};
 ghost use Rattle.ilp_desk.specs.Desk as desk;
 ghost use Rattle.ilp_desk.specs.Desk.{base_of};
-ghost use Rattle.ilp_running.specs.Serving.{desk_of, EndsWithReport, IsClosed, Prints};
+ghost use Rattle.ilp_running.specs.Serving.{desk_of, ClosesDesk, EndsWithReport, Prints};
 
 use crate::accepting::Acceptor;
 use crate::actors::actors_of;
 use crate::ending::{Ending, ending_after};
-use crate::fault::{ServeFault, Unprinted, not_gathered};
+use crate::fault::{ServeFault, Unprinted};
 use crate::open_files::{open_files, waiting_by, wanted};
 use crate::places::Places;
 use crate::printing::tell_report;
@@ -34,7 +34,7 @@ use std::time::Clock;
 
 /// Runs a connector of this configuration until it is asked to close, and prints the report of its
 /// book then.
-#[tactic(auto, using(crate::proofs::Printed::ends_with_report))]
+#[tactic(auto, using(crate::proofs::Printed::ends_with_report, crate::proofs::Printed::ends_unprinted))]
 pub fn serve<R, L, W>(rt: &R, config: &Config, links: &L, writer: &mut W) -> Result<(), ServeFault>
 where
     R: Net<Listener = TcpListener, Stream = TcpStream>
@@ -141,7 +141,7 @@ fn serve_desk<J, R, L>(
     blanks: Blank,
     links: &L,
     sides: Sides,
-) -> Result<Book, Unprinted>
+) -> Result<Book, ServeFault>
 where
     J: Naming + Send + Sync,
     R: Threads + Wait + Clock + Eprint + Sync,
@@ -151,7 +151,7 @@ where
     requires opening { (book.entries ≡ J.desk.opening) × (book.base ≡ base_of J.desk) }
     requires ledger { (blanks.name ≡ J.name) × (blanks.parts ≡ J.parts) }
     requires parts { J.parts ≡ desk.actors_of J.desk }
-    ensures { IfOk result (IsClosed J.desk) }
+    ensures { ClosesDesk J.desk result }
 {
     let workers = config.workers();
     match Desk::<J>::open(config.allocator(), config, book, workers, blanks) {
@@ -159,7 +159,7 @@ where
             let ends = run_desk(rt, &desk, shares, links, sides);
             close_desk(desk, ends)
         }
-        Err(_) => Err(Unprinted::Memory),
+        Err(_) => Err(ServeFault::Unprinted(Unprinted::Memory)),
     }
 }
 
@@ -175,6 +175,7 @@ where
     J: Naming + Send + Sync,
     R: Threads + Wait + Clock + Eprint + Sync,
     L: Links,
+    requires { 2 ≤ vec_len shares }
 {
     let config = desk.config();
     let actors = actors_of(desk, shares, links)?;
@@ -217,15 +218,15 @@ fn tell_start<R: Clock + Eprint>(rt: &R, config: &Config, open_files: Option<u64
 fn close_desk<J: Naming>(
     desk: Desk<J>,
     ends: Result<Vec<End<J>>, Unprinted>,
-) -> Result<Book, Unprinted>
-    ensures { IfOk result (IsClosed J.desk) }
+) -> Result<Book, ServeFault>
+    ensures { ClosesDesk J.desk result }
 {
     match ends {
         Ok(ends) => match gather(desk, ends) {
             Ok(Closed { book }) => Ok(book),
-            Err(left) => Err(not_gathered(left.why)),
+            Err(left) => Err(ServeFault::NotGathered(left.why)),
         },
-        Err(fault) => Err(fault),
+        Err(why) => Err(ServeFault::Unprinted(why)),
     }
 }
 
