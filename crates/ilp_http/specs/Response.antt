@@ -2,7 +2,7 @@
 use Rattle.std.specs.Prelude.{◌≡◌, ◌⊎◌, ℕ, ◌<◌, ◌≤◌, List, [], ◌++◌, length, take, map}
 use Rattle.httparse.specs.Grammar.{ResponseHead, print_response, ReadsResponse, HasNoResponse, NeverHasResponse, MayBecomeResponse, status_code}
 use Rattle.httparse.specs.Spans.{name_and_value, ResponseExceeds}
-use Rattle.ilp_http.specs.declared.limits.TheConstants.{HEAD_LIMIT, FIELD_LIMIT, BODY_LIMIT}
+use Rattle.ilp_http.specs.Limits.{head_limit, field_limit, body_limit}
 use Rattle.ilp_http.specs.Framing.{framing}
 use Rattle.ilp_http.specs.declared.framing.Framing.{Framing}
 use Rattle.ilp_http.specs.declared.framing.Framing.TheVariants.{Coded, Unannounced, Octets, Unreadable, TooLong}
@@ -10,8 +10,8 @@ use Rattle.ilp_http.specs.declared.framing.Framing.TheVariants.{Coded, Unannounc
 -- the octets are this head, within the limits of a head, and then the rest
 pub record BeginsWithStatus (octets : List ℕ) (head : ResponseHead) (rest : List ℕ) : Type 0 where
   pub reads : ReadsResponse octets head rest
-  pub short : length (print_response head) ≤ HEAD_LIMIT
-  pub few_fields : length head.fields ≤ FIELD_LIMIT
+  pub short : length (print_response head) ≤ head_limit
+  pub few_fields : length head.fields ≤ field_limit
 
 -- what a head says of its body
 abbrev pub framing_in : ResponseHead → Framing
@@ -20,7 +20,7 @@ framing_in head = framing (map name_and_value head.fields)
 -- the body, of the octets that follow the head up to the end of the input: none where there is a transfer coding, all of them where no length is announced
 abbrev pub HasBody : Framing → List ℕ → List ℕ → Type 0
 HasBody Coded rest body = body ≡ []
-HasBody Unannounced rest body = (body ≡ rest) × (length body ≤ BODY_LIMIT)
+HasBody Unannounced rest body = (body ≡ rest) × (length body ≤ body_limit)
 HasBody (Octets n) rest body = (length body ≡ n) × (more : List ℕ) × (rest ≡ body ++ more)
 HasBody Unreadable rest body = ⊥
 HasBody TooLong rest body = ⊥
@@ -40,13 +40,27 @@ IsResponse octets code body = (head : ResponseHead) × (rest : List ℕ) × IsRe
 pub record EndsInStatus (octets : List ℕ) : Type 0 where
   pub none : HasNoResponse octets
   pub may_become : MayBecomeResponse octets
-  pub short : length octets < HEAD_LIMIT
+  pub short : length octets < head_limit
 
 -- the octets begin with a head, and end before the body does that it announces
 abbrev pub EndsInContent : List ℕ → Type 0
 EndsInContent octets =
     (head : ResponseHead) × (rest : List ℕ) × (n : ℕ)
     × BeginsWithStatus octets head rest × (framing_in head ≡ Octets n) × (length rest < n)
+
+-- the octets begin with a head that announces no length, and no more follow it than a body may have
+abbrev pub EndsOpen : List ℕ → Type 0
+EndsOpen octets =
+    (head : ResponseHead) × (rest : List ℕ)
+    × BeginsWithStatus octets head rest × (framing_in head ≡ Unannounced) × (length rest ≤ body_limit)
+
+-- the octets begin a response, and end before it is whole
+abbrev pub EndsShort : List ℕ → Type 0
+EndsShort octets = EndsInStatus octets ⊎ EndsInContent octets
+
+-- what the octets are answered rests on those that follow
+abbrev pub IsUnsettled : List ℕ → Type 0
+IsUnsettled octets = EndsShort octets ⊎ EndsOpen octets
 
 -- ---- octets that never will
 
@@ -56,14 +70,14 @@ HasNoStatus octets = (head : ResponseHead) (rest : List ℕ) → ¬ (BeginsWithS
 
 -- so many first octets begin a head that has not ended
 pub record HasLongStatus (octets : List ℕ) : Type 0 where
-  pub long : HEAD_LIMIT ≤ length octets
-  pub none : HasNoResponse (take HEAD_LIMIT octets)
-  pub may_become : MayBecomeResponse (take HEAD_LIMIT octets)
+  pub long : head_limit ≤ length octets
+  pub none : HasNoResponse (take head_limit octets)
+  pub may_become : MayBecomeResponse (take head_limit octets)
 
 -- no head within the limits begins the octets, and they begin one of too many fields
 pub record HasManyStatusFields (octets : List ℕ) : Type 0 where
   pub none : HasNoStatus octets
-  pub many : ResponseExceeds FIELD_LIMIT (take HEAD_LIMIT octets)
+  pub many : ResponseExceeds field_limit (take head_limit octets)
 
 -- the octets begin with a head that says this of its body
 abbrev pub HasStatusWith : List ℕ → Framing → Type 0
@@ -71,16 +85,12 @@ HasStatusWith octets body = (head : ResponseHead) × (rest : List ℕ) × Begins
 
 -- the octets begin with a head that announces no length, and with too many octets after it
 abbrev pub HasLongRest : List ℕ → Type 0
-HasLongRest octets = (head : ResponseHead) × (rest : List ℕ) × BeginsWithStatus octets head rest × (framing_in head ≡ Unannounced) × (BODY_LIMIT < length rest)
+HasLongRest octets = (head : ResponseHead) × (rest : List ℕ) × BeginsWithStatus octets head rest × (framing_in head ≡ Unannounced) × (body_limit < length rest)
 
 -- octets are no response, whatever follows them
 abbrev pub IsBad : List ℕ → Type 0
-IsBad octets = NeverHasResponse (take HEAD_LIMIT octets) ⊎ HasStatusWith octets Unreadable
+IsBad octets = NeverHasResponse (take head_limit octets) ⊎ HasStatusWith octets Unreadable
 
 -- octets are a response that is too long, whatever follows them
 abbrev pub IsTooLong : List ℕ → Type 0
 IsTooLong octets = HasLongStatus octets ⊎ (HasManyStatusFields octets ⊎ (HasStatusWith octets TooLong ⊎ HasLongRest octets))
-
--- the octets begin a response, and end before it is whole
-abbrev pub EndsShort : List ℕ → Type 0
-EndsShort octets = EndsInStatus octets ⊎ EndsInContent octets

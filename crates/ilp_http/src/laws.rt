@@ -2,8 +2,19 @@
 //! whoever reads the definitions what follows from them; no code needs to call it.
 ghost use Rattle.std.specs.Prelude.{◌≡◌, ℕ, List, ◌++◌};
 ghost use Rattle.httparse.specs.Grammar.{RequestHead};
+ghost use Rattle.ilp_http.specs.Limits.{head_limit, field_limit, body_limit, message_limit, most_reads};
 ghost use Rattle.ilp_http.specs.Request.{BeginsWithRequest, HoldsRequest, EndsEarly, IsRefused};
 ghost use Rattle.ilp_http.specs.declared.refusal.Refusal.{Refusal};
+ghost use Rattle.ilp_http.specs.declared.limits.TheConstants.{HEAD_LIMIT, FIELD_LIMIT, BODY_LIMIT, BUFFER_LENGTH, MOST_READS};
+
+/// The constants of this crate are the limits of the definitions.
+pub fn limits_are_those_defined()
+    ensures head { HEAD_LIMIT ≡ head_limit }
+    ensures fields { FIELD_LIMIT ≡ field_limit }
+    ensures body { BODY_LIMIT ≡ body_limit }
+    ensures message { BUFFER_LENGTH ≡ message_limit }
+    ensures reads { MOST_READS ≡ most_reads }
+{}
 
 /// Octets begin with at most one request, which ends at one place; and octets that follow are no
 /// part of it.

@@ -1,8 +1,11 @@
 //! Reading a response.
-ghost use Rattle.std.specs.Prelude.{◌≡◌, ◌+◌, ◌≤◌, length, take, IfOk, IfErr, IfSome, IsErrOf};
+ghost use Rattle.std.specs.Prelude.{◌≡◌, ◌≢◌, ◌+◌, ◌≤◌, length, take, Err, IfOk, IfErr, IfSome, IsErrOf};
 ghost use Rattle.ilp_io.specs.Counts.{Tallies, TalliesUpTo};
+ghost use Rattle.ilp_io.specs.Pulls.{PullsWhile};
+ghost use Rattle.ilp_http.specs.Limits.{most_reads};
+ghost use Rattle.ilp_http.specs.Response.{IsUnsettled};
 ghost use Rattle.ilp_http.specs.Placed.{IsWithin, IsPlacedAt, EndsAt};
-ghost use Rattle.ilp_http.specs.ResponseAnswer.{IsResponseAnswer, IsResponseFault, failed_reads};
+ghost use Rattle.ilp_http.specs.ResponseAnswer.{IsResponseAnswer, AnswersInTime, IsResponseFault, failed_reads};
 
 use crate::buffer::{Buffer, ROOM};
 use crate::limits::MOST_READS;
@@ -63,10 +66,16 @@ fn fill_response<S: Source>(
         (λ input. IsPlacedAt input (take found.0 octets.new) found.1)) }
     ensures refused { IfErr result
         (λ fault. IfSome (S.remaining source.old) (λ input. IsResponseFault input fault)) }
+    ensures whole_in_time { IfOk result (λ found. PullsWhile S.pulled IsUnsettled source.old
+        (take found.0 octets.new) source.new) }
+    ensures placed { IfOk result
+        (λ found. IsPlacedAt (take found.0 octets.new) (take found.0 octets.new) found.1) }
+    ensures refused_in_time { IfErr result (λ fault. fault ≢ ResponseFault.Failed
+        → AnswersInTime S.pulled source.old source.new (Err fault)) }
     ensures counted { TalliesUpTo (S.tally source.old) (S.tally source.new)
-        MOST_READS (failed_reads result) }
+        most_reads (failed_reads result) }
     ensures patient { IsErrOf result ResponseFault.TooManyReads
-        → Tallies (S.tally source.old) (S.tally source.new) MOST_READS 0 }
+        → Tallies (S.tally source.old) (S.tally source.new) most_reads 0 }
 {
     let mut filled = 0;
     let mut needed = 0;
@@ -109,10 +118,13 @@ pub fn read_response<'b, S: Source>(
     buffer: &'b mut Buffer,
 ) -> Result<Response<'b>, ResponseFault>
     ensures answer { IfSome (S.remaining source.old) (λ input. IsResponseAnswer input result) }
+    // Of any source: it is not read once the answer rests on no octet that may follow.
+    ensures timely { result ≢ Err ResponseFault.Failed
+        → AnswersInTime S.pulled source.old source.new result }
     ensures counted { TalliesUpTo (S.tally source.old) (S.tally source.new)
-        MOST_READS (failed_reads result) }
+        most_reads (failed_reads result) }
     ensures patient { IsErrOf result ResponseFault.TooManyReads
-        → Tallies (S.tally source.old) (S.tally source.new) MOST_READS 0 }
+        → Tallies (S.tally source.old) (S.tally source.new) most_reads 0 }
 {
     let (filled, place) = fill_response(source, &mut buffer.octets)?;
     let octets = &buffer.octets[..filled];
