@@ -10,7 +10,7 @@ use Rattle.ilp_http.specs.declared.refusal.Refusal.TheVariants.{BadRequest, Meth
 use Rattle.ilp_http.proofs.FrontLemmas.{take_past}
 
 -- two beginnings of one text of one length are the same
-same_beginning : (a b x y : List ℕ) → a ++ x ≡ b ++ y → length a ≡ length b → a ≡ b
+pub same_beginning : (a b x y : List ℕ) → a ++ x ≡ b ++ y → length a ≡ length b → a ≡ b
 same_beginning a b x y same size =
     sym (take_all (length a) a (omega arith)) ∙ sym (take-append-le (length a) a x (omega arith)) ∙ ap (take (length a)) same
     ∙ take-append-le (length a) b y (omega arith) ∙ take_all (length a) b (omega arith)

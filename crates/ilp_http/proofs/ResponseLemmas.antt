@@ -4,14 +4,14 @@ use Rattle.std.specs.Prelude.{slice_range, nat_le, cond, ⊤, codes}
 use Rattle.std.specs.Str.Parse.{digits_value}
 use Rattle.std.proofs.lemmas.Bool.{cond_both, leb-true}
 use Rattle.std.proofs.lemmas.List.{take-append-drop, take-append-le, drop-append-le, length-map, take_all, append-nil, length-take-le}
-use Rattle.httparse.specs.Grammar.{ResponseHead, print_response, HasNoResponse, NeverHasResponse, MayBecomeResponse}
-use Rattle.httparse.specs.Spans.{header_bytes, name_and_value, IsResponseAt, IsResponseWithin, ResponseOverflows, ResponseExceeds}
+use Rattle.httparse.specs.Grammar.{ResponseHead, print_response, ReadsResponse, HasNoResponse, NeverHasResponse, MayBecomeResponse}
+use Rattle.httparse.specs.Spans.{header_bytes, name_and_value, IsResponseAt, IsResponseWithin, ResponseOverflows}
 use Rattle.httparse.specs.declared.spans.HeaderSpan.{HeaderSpan}
 use Rattle.httparse.specs.declared.spans.ResponseSpans.{ResponseSpans}
 use Rattle.httparse.proofs.GrammarLemmas.{ReadsResponse-append}
 use Rattle.ilp_http.specs.Limits.{head_limit, field_limit, body_limit}
 use Rattle.ilp_http.specs.Framing.{framing, framing_by, length_of, is_number, values_named}
-use Rattle.ilp_http.specs.Response.{BeginsWithStatus, HasNoStatus, HasBody, IsResponse, IsBad, IsTooLong, EndsShort, EndsOpen}
+use Rattle.ilp_http.specs.Response.{BeginsWithStatus, HasBody, IsResponse, IsBad, IsTooLong, EndsShort, EndsOpen}
 use Rattle.ilp_http.specs.Placed.{IsHeadOf, IsHeadAt, IsPlacedAt, EndsAt, StaysBelow}
 use Rattle.ilp_http.specs.ResponseAnswer.{IsResponseFault}
 use Rattle.ilp_http.specs.declared.framing.Framing.{Framing}
@@ -187,26 +187,22 @@ ends-in_status octets short none may_become =
     let all = take_all head_limit octets (omega arith) in
     none_follows EndsShort octets (inl (record { none = subst HasNoResponse all none; may_become = subst MayBecomeResponse all may_become; short = short }))
 
-no_status-overflows : (octets more : List ℕ) → ResponseOverflows field_limit (take head_limit octets) → HasNoStatus (octets ++ more)
-no_status-overflows octets more overflows head rest begins =
-    let regrouped : take head_limit octets ++ (drop head_limit octets ++ more) ≡ octets ++ more = sym (append_assoc (take head_limit octets) (drop head_limit octets) more) ∙ ap (λ xs. xs ++ more) (take-append-drop head_limit octets) in
-    let many = overflows (drop head_limit octets ++ more) head rest (begins.reads.0, regrouped ∙ begins.reads.1) in
-    omega (arith, begins.few_fields)
-
-pub long-many : (octets : List ℕ) → ResponseOverflows field_limit (take head_limit octets) → ResponseExceeds field_limit (take head_limit octets) → (more : List ℕ) → IsTooLong (octets ++ more)
-long-many octets overflows exceeds more =
-    let behind = take (head_limit - length octets) more in
-    inr (inl (record {
-      none = no_status-overflows octets more overflows;
-      many = (
-        exceeds.0,
-        exceeds.1 ++ behind,
-        take_more_behind head_limit octets more ∙ ap (λ xs. xs ++ behind) exceeds.2 ∙ append_assoc exceeds.0 exceeds.1 behind,
-        exceeds.3,
-        exceeds.4,
-        exceeds.5,
-      );
-    }))
+-- a whole head that has no room has too many fields
+pub long-many : (octets front : List ℕ) (spans : List HeaderSpan) (r : ResponseSpans) (head : ResponseHead) → front ≡ take head_limit octets
+    → IsResponseAt front spans r head → IsResponseWithin front spans r → ResponseOverflows field_limit front → (more : List ℕ) → IsTooLong (octets ++ more)
+long-many octets front spans r head cut at within overflows more =
+    let after = drop head_limit octets in
+    let rest = drop r.len front in
+    let whole : front ++ after ≡ octets = ap (λ xs. xs ++ after) cut ∙ take-append-drop head_limit octets in
+    let reads = ReadsResponse-append (front ++ after) head (rest ++ after) more (ReadsResponse-append front head rest after at.reads) in
+    let many = overflows [] head (rest ++ []) (ReadsResponse-append front head rest [] at.reads) in
+    inr (inl (
+      head,
+      (rest ++ after) ++ more,
+      subst (λ xs. ReadsResponse (xs ++ more) head ((rest ++ after) ++ more)) whole reads,
+      omega (arith, at.len, within.section.len_fits, ap length cut, length-take head_limit octets),
+      many,
+    ))
 
 pub long-status : (octets : List ℕ) → head_limit ≤ length octets → HasNoResponse (take head_limit octets) → MayBecomeResponse (take head_limit octets) → (more : List ℕ) → IsTooLong (octets ++ more)
 long-status octets long none may_become more =

@@ -25,7 +25,8 @@ pub struct Response<'b> {
 /// Why no response was read.
 #[derive(Clone, Copy, Debug, PartialEq, Eq, Error)]
 pub enum ResponseFault {
-    /// The octets begin no head, or end within a response, or their Content-Length is no number.
+    /// The octets begin no head, however many fields come before what makes them none, or end within
+    /// a response, or their Content-Length is no number.
     #[error("a bad response")]
     Bad,
     /// The head or the body is longer than its limit, or the head has too many fields.
@@ -110,7 +111,7 @@ fn fill_response<S: Source>(
 /// What is answered depends on all the octets of the source, and not on the pieces in which they
 /// come. The body is empty where there is a Transfer-Encoding, as long as Content-Length says where
 /// there is one, and else all octets up to the end of the input. A status of 100 to 199 is like any
-/// other. Refusals: `Bad` and `TooLong`, as `ResponseFault` says; `Failed` where a read failed;
+/// other. Refusals: `Bad` before `TooLong`, as `ResponseFault` says; `Failed` where a read failed;
 /// `TooManyReads` where 4,096 reads gave no whole response. After any of them the next reading
 /// begins anew.
 pub fn read_response<'b, S: Source>(
