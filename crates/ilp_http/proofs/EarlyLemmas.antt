@@ -7,7 +7,7 @@ use Rattle.std.proofs.lemmas.List.{take-append-drop, take-append-le, take_all, a
 use Rattle.httparse.specs.Ascii.{line_feed, space}
 use Rattle.httparse.specs.Grammar.{LineEnd, crlf, lf, print_end, print_blank, print_version, print_section, RequestHead, print_request, HasNoRequest, MayBecomeRequest}
 use Rattle.httparse.proofs.GrammarLemmas.{print_request-append}
-use Rattle.ilp_http.specs.declared.limits.TheConstants.{HEAD_LIMIT}
+use Rattle.ilp_http.specs.Limits.{head_limit}
 use Rattle.ilp_http.specs.Request.{BeginsWithHead, HoldsRequest, EndsInHead, EndsEarly, body_length}
 use Rattle.ilp_http.specs.Layout.{HasLineFeed, TakesLineFeed, IsInHead, IsInBody}
 use Rattle.ilp_http.proofs.HeadLemmas.{BeginsWithHead-append, small-body}
@@ -80,9 +80,9 @@ TakesLineFeed-none more =
 -- ---- octets that may become a request
 
 -- a head has begun
-pub in-head : (octets : List ℕ) → length octets < HEAD_LIMIT → HasNoRequest (take HEAD_LIMIT octets) → MayBecomeRequest (take HEAD_LIMIT octets) → IsInHead octets
+pub in-head : (octets : List ℕ) → length octets < head_limit → HasNoRequest (take head_limit octets) → MayBecomeRequest (take head_limit octets) → IsInHead octets
 in-head octets short none may_become =
-    let all = take_all HEAD_LIMIT octets (omega arith) in
+    let all = take_all head_limit octets (omega arith) in
     let ends : EndsInHead octets = record { none = subst HasNoRequest all none; may_become = subst MayBecomeRequest all may_become; short = short } in
     record { ends = ends; takes_line_feed = λ more. line_feed_for_request octets more ends.none }
 

@@ -9,7 +9,7 @@ use Rattle.httparse.specs.Spans.{header_bytes, name_and_value, IsRequestAt, IsRe
 use Rattle.httparse.specs.declared.spans.HeaderSpan.{HeaderSpan}
 use Rattle.httparse.specs.declared.spans.RequestSpans.{RequestSpans}
 use Rattle.httparse.proofs.GrammarLemmas.{ReadsRequest-append}
-use Rattle.ilp_http.specs.declared.limits.TheConstants.{HEAD_LIMIT, FIELD_LIMIT, BODY_LIMIT}
+use Rattle.ilp_http.specs.Limits.{head_limit, field_limit, body_limit}
 use Rattle.ilp_http.specs.Framing.{framing, framing_by, length_of, is_number, values_named}
 use Rattle.ilp_http.specs.Request.{BeginsWithHead, HasNoHead, HasRefusedHead, IsRefused, body_by, body_length, length_by, fields_of}
 use Rattle.ilp_http.specs.Layout.{StayRefused, length_at}
@@ -23,18 +23,18 @@ use Rattle.ilp_http.proofs.FrontLemmas.{take_more_behind}
 
 -- the head that the parser found among the first octets begins all of them
 begins-from_front : (octets : List ℕ) (spans : List HeaderSpan) (r : RequestSpans) (head : RequestHead)
-    → length spans ≡ FIELD_LIMIT → IsRequestAt (take HEAD_LIMIT octets) spans r head → IsRequestWithin (take HEAD_LIMIT octets) spans r
+    → length spans ≡ field_limit → IsRequestAt (take head_limit octets) spans r head → IsRequestWithin (take head_limit octets) spans r
     → BeginsWithHead octets head (drop r.len octets)
 begins-from_front octets spans r head room at within =
-    let front = take HEAD_LIMIT octets in
-    let size = length-take HEAD_LIMIT octets in
+    let front = take head_limit octets in
+    let size = length-take head_limit octets in
     let counted = sym (length-map (take r.headers spans) (header_bytes front)) ∙ ap length at.fields ∙ length-map head.fields name_and_value in
     record {
       reads = (
         at.reads.0,
-        sym (take-append-drop HEAD_LIMIT octets) ∙ ap (λ xs. xs ++ drop HEAD_LIMIT octets) at.reads.1
-            ∙ append_assoc (print_request head) (drop r.len front) (drop HEAD_LIMIT octets)
-            ∙ ap (λ xs. print_request head ++ xs) (sym (drop-append-le r.len front (drop HEAD_LIMIT octets) within.section.len_fits) ∙ ap (drop r.len) (take-append-drop HEAD_LIMIT octets)),
+        sym (take-append-drop head_limit octets) ∙ ap (λ xs. xs ++ drop head_limit octets) at.reads.1
+            ∙ append_assoc (print_request head) (drop r.len front) (drop head_limit octets)
+            ∙ ap (λ xs. print_request head ++ xs) (sym (drop-append-le r.len front (drop head_limit octets) within.section.len_fits) ∙ ap (drop r.len) (take-append-drop head_limit octets)),
       );
       short = omega (arith, at.len, within.section.len_fits);
       few_fields = omega (arith, within.section.count_fits, length-take r.headers spans);
@@ -49,12 +49,12 @@ length_at_head octets spans r head at =
 -- what the parser found among the first octets
 pub record IsFound (octets front : List ℕ) (spans : List HeaderSpan) (r : RequestSpans) (head : RequestHead) : Type 0 where
   pub begins : BeginsWithHead octets head (drop r.len octets)
-  pub parsed : IsRequestAt (take HEAD_LIMIT octets) spans r head
-  pub within : IsRequestWithin (take HEAD_LIMIT octets) spans r
+  pub parsed : IsRequestAt (take head_limit octets) spans r head
+  pub within : IsRequestWithin (take head_limit octets) spans r
   pub announces : length_at front spans r ≡ body_length head
 
-pub found-head : (octets front : List ℕ) (spans : List HeaderSpan) (r : RequestSpans) (head : RequestHead) → front ≡ take HEAD_LIMIT octets
-    → length spans ≡ FIELD_LIMIT → IsRequestAt front spans r head → IsRequestWithin front spans r → IsFound octets front spans r head
+pub found-head : (octets front : List ℕ) (spans : List HeaderSpan) (r : RequestSpans) (head : RequestHead) → front ≡ take head_limit octets
+    → length spans ≡ field_limit → IsRequestAt front spans r head → IsRequestWithin front spans r → IsFound octets front spans r head
 found-head octets front spans r head cut room at within =
     let parsed = subst (λ xs. IsRequestAt xs spans r head) cut at in
     let inside = subst (λ xs. IsRequestWithin xs spans r) cut within in
@@ -85,14 +85,14 @@ IsOfHead FieldsTooLarge = ⊥
 
 -- a length within the limit, or a refusal that a head may have
 abbrev IsAnnounced : Result ℕ Refusal → Type 0
-IsAnnounced r = MatchResult r (λ n. n ≤ BODY_LIMIT) IsOfHead
+IsAnnounced r = MatchResult r (λ n. n ≤ body_limit) IsOfHead
 
 announced_of : (text : List ℕ) → IsAnnounced (body_by (length_of text))
 announced_of text =
     let n = digits_value 10 text in
-    let inner : Framing = cond (nat_le n BODY_LIMIT) (Octets n) TooLong in
+    let inner : Framing = cond (nat_le n body_limit) (Octets n) TooLong in
     let Is : Framing → Type 0 = λ (f : Framing). IsAnnounced (body_by f) in
-    let bounded : Is inner = cond_both (nat_le n BODY_LIMIT) (Octets n) TooLong Is (λ small. leb-true n BODY_LIMIT small) (λ _. tt) in
+    let bounded : Is inner = cond_both (nat_le n body_limit) (Octets n) TooLong Is (λ small. leb-true n body_limit small) (λ _. tt) in
     cond_both (is_number text) inner Unreadable Is (λ _. bounded) (λ _. tt)
 
 announced_by : (codings lengths : List (List ℕ)) → IsAnnounced (body_by (framing_by codings lengths))
@@ -107,7 +107,7 @@ body_length-announced head =
     (λ _. announced_by (values_named (codes "transfer-encoding") (fields_of head)) (values_named (codes "content-length") (fields_of head))) (λ _. tt)
 
 -- the length of a body is within its limit
-pub small-body : (head : RequestHead) (body : ℕ) → body_length head ≡ Ok body → body ≤ BODY_LIMIT
+pub small-body : (head : RequestHead) (body : ℕ) → body_length head ≡ Ok body → body ≤ body_limit
 small-body head body announced = subst IsAnnounced announced (body_length-announced head)
 
 by_refusal : (octets : List ℕ) (refusal : Refusal) → IsOfHead refusal → HasRefusedHead octets refusal → IsRefused octets refusal
@@ -127,22 +127,22 @@ refused-by_head octets head rest refusal begins refused more =
 -- ---- octets without a whole head
 
 -- where the parser has no room for a head, whatever follows, no head within the limits is there
-no_head-overflows : (octets more : List ℕ) → RequestOverflows FIELD_LIMIT (take HEAD_LIMIT octets) → HasNoHead (octets ++ more)
+no_head-overflows : (octets more : List ℕ) → RequestOverflows field_limit (take head_limit octets) → HasNoHead (octets ++ more)
 no_head-overflows octets more overflows head rest begins =
-    let regrouped : take HEAD_LIMIT octets ++ (drop HEAD_LIMIT octets ++ more) ≡ octets ++ more = sym (append_assoc (take HEAD_LIMIT octets) (drop HEAD_LIMIT octets) more) ∙ ap (λ xs. xs ++ more) (take-append-drop HEAD_LIMIT octets) in
-    let many = overflows (drop HEAD_LIMIT octets ++ more) head rest (begins.reads.0, regrouped ∙ begins.reads.1) in
+    let regrouped : take head_limit octets ++ (drop head_limit octets ++ more) ≡ octets ++ more = sym (append_assoc (take head_limit octets) (drop head_limit octets) more) ∙ ap (λ xs. xs ++ more) (take-append-drop head_limit octets) in
+    let many = overflows (drop head_limit octets ++ more) head rest (begins.reads.0, regrouped ∙ begins.reads.1) in
     omega (arith, begins.few_fields)
 
 -- too many fields stay too many
-pub refused-many : (octets : List ℕ) → RequestOverflows FIELD_LIMIT (take HEAD_LIMIT octets) → RequestExceeds FIELD_LIMIT (take HEAD_LIMIT octets) → StayRefused octets FieldsTooLarge
+pub refused-many : (octets : List ℕ) → RequestOverflows field_limit (take head_limit octets) → RequestExceeds field_limit (take head_limit octets) → StayRefused octets FieldsTooLarge
 refused-many octets overflows exceeds more =
-    let behind = take (HEAD_LIMIT - length octets) more in
+    let behind = take (head_limit - length octets) more in
     inr (record {
       none = no_head-overflows octets more overflows;
       many = (
         exceeds.0,
         exceeds.1 ++ behind,
-        take_more_behind HEAD_LIMIT octets more ∙ ap (λ xs. xs ++ behind) exceeds.2 ∙ append_assoc exceeds.0 exceeds.1 behind,
+        take_more_behind head_limit octets more ∙ ap (λ xs. xs ++ behind) exceeds.2 ∙ append_assoc exceeds.0 exceeds.1 behind,
         exceeds.3,
         exceeds.4,
         exceeds.5,
@@ -150,9 +150,9 @@ refused-many octets overflows exceeds more =
     })
 
 -- a head that has not ended within its limit is too long
-pub refused-long : (octets : List ℕ) → HEAD_LIMIT ≤ length octets → HasNoRequest (take HEAD_LIMIT octets) → MayBecomeRequest (take HEAD_LIMIT octets) → StayRefused octets FieldsTooLarge
+pub refused-long : (octets : List ℕ) → head_limit ≤ length octets → HasNoRequest (take head_limit octets) → MayBecomeRequest (take head_limit octets) → StayRefused octets FieldsTooLarge
 refused-long octets long none may_become more =
-    let same = sym (take-append-le HEAD_LIMIT octets more long) in
+    let same = sym (take-append-le head_limit octets more long) in
     inl (record {
       long = omega (arith, length-append octets more);
       none = subst HasNoRequest same none;
@@ -160,10 +160,10 @@ refused-long octets long none may_become more =
     })
 
 -- what never is a head stays none
-pub refused-never : (octets : List ℕ) → NeverHasRequest (take HEAD_LIMIT octets) → StayRefused octets BadRequest
+pub refused-never : (octets : List ℕ) → NeverHasRequest (take head_limit octets) → StayRefused octets BadRequest
 refused-never octets never more =
-    let front = take HEAD_LIMIT octets in
-    let behind = take (HEAD_LIMIT - length octets) more in
+    let front = take head_limit octets in
+    let behind = take (head_limit - length octets) more in
     inl (λ after head rest reads.
     never (behind ++ after) head rest
-    (reads.0, sym (ap (λ xs. xs ++ after) (take_more_behind HEAD_LIMIT octets more) ∙ append_assoc front behind after) ∙ reads.1))
+    (reads.0, sym (ap (λ xs. xs ++ after) (take_more_behind head_limit octets more) ∙ append_assoc front behind after) ∙ reads.1))

@@ -3,14 +3,14 @@ use Rattle.std.proofs.Common.{◌≡◌, ℕ, ◌-◌, List, [], ◌++◌, lengt
 use Rattle.std.proofs.lemmas.List.{take-append-le, take_all, append-nil}
 use Rattle.httparse.specs.Grammar.{RequestHead, print_request, ReadsRequest}
 use Rattle.httparse.proofs.GrammarLemmas.{request_unique}
-use Rattle.ilp_http.specs.declared.limits.TheConstants.{HEAD_LIMIT}
+use Rattle.ilp_http.specs.Limits.{head_limit}
 use Rattle.ilp_http.specs.Request.{BeginsWithHead, BeginsWithRequest, HoldsRequest, HasRefusedHead, EndsEarly, IsRefused, body_length}
 use Rattle.ilp_http.specs.declared.refusal.Refusal.{Refusal}
 use Rattle.ilp_http.specs.declared.refusal.Refusal.TheVariants.{BadRequest, MethodNotAllowed, LengthRequired, ContentTooLarge, FieldsTooLarge}
 use Rattle.ilp_http.proofs.FrontLemmas.{take_past}
 
 -- two beginnings of one text of one length are the same
-same_beginning : (a b x y : List ℕ) → a ++ x ≡ b ++ y → length a ≡ length b → a ≡ b
+pub same_beginning : (a b x y : List ℕ) → a ++ x ≡ b ++ y → length a ≡ length b → a ≡ b
 same_beginning a b x y same size =
     sym (take_all (length a) a (omega arith)) ∙ sym (take-append-le (length a) a x (omega arith)) ∙ ap (take (length a)) same
     ∙ take-append-le (length a) b y (omega arith) ∙ take_all (length a) b (omega arith)
@@ -26,8 +26,8 @@ one_request octets head other body text rest more x y =
 
 -- a head within its limit lies among the first octets
 first_octets : (octets : List ℕ) (head : RequestHead) (rest : List ℕ) → BeginsWithHead octets head rest
-    → ReadsRequest (take HEAD_LIMIT octets) head (take (HEAD_LIMIT - length (print_request head)) rest)
-first_octets octets head rest begins = (begins.reads.0, ap (take HEAD_LIMIT) begins.reads.1 ∙ take_past (print_request head) rest HEAD_LIMIT begins.short)
+    → ReadsRequest (take head_limit octets) head (take (head_limit - length (print_request head)) rest)
+first_octets octets head rest begins = (begins.reads.0, ap (take head_limit) begins.reads.1 ∙ take_past (print_request head) rest head_limit begins.short)
 
 -- a head that announces a body is not refused
 not_refused_head : (octets : List ℕ) (refusal : Refusal) → HoldsRequest octets → HasRefusedHead octets refusal → ⊥
@@ -41,7 +41,7 @@ not_refused octets BadRequest holds refused =
     elim refused [
       | inl never ↦
           let at = first_octets octets holds.0 (holds.1 ++ holds.2) holds.3.begins in
-          never [] holds.0 _ (at.0, append-nil (take HEAD_LIMIT octets) ∙ at.1)
+          never [] holds.0 _ (at.0, append-nil (take head_limit octets) ∙ at.1)
       | inr head ↦ not_refused_head octets BadRequest holds head
     ]
 not_refused octets MethodNotAllowed holds refused = not_refused_head octets MethodNotAllowed holds refused

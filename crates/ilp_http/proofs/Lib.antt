@@ -7,5 +7,7 @@ pub mod SourceLemmas
 pub mod PartsLemmas
 pub mod PendingLemmas
 pub mod WritingLemmas
+pub mod FieldCountLemmas
 pub mod ResponseLemmas
 pub mod LawLemmas
+pub mod ResponseLawLemmas

@@ -7,21 +7,21 @@ use Rattle.ilp_http.specs.declared.status.Status.{Status}
 use Rattle.ilp_http.specs.declared.status.Kind.{Kind}
 
 head_pieces : (first own typed digits : List ℕ)
-    → [] ++ first ++ own ++ typed ++ codes "Content-Length: " ++ digits ++ codes "\r\nConnection: close\r\n\r\n"
+    → [] ++ (first ++ own) ++ (typed ++ codes "Content-Length: ") ++ digits ++ codes "\r\nConnection: close\r\n\r\n"
     ≡ first ++ own ++ typed ++ line (codes "Content-Length: " ++ digits) ++ line (codes "Connection: close") ++ line []
 head_pieces first own typed digits = simp append_assoc
 
 -- the pieces of a response's head, one after another
-pub response_head-pieces : (status : Status) (kind : Kind) (body first own typed digits : List ℕ)
-    → first ≡ status_line status → own ≡ own_line status → typed ≡ kind_line kind body → digits ≡ decimal (length body)
-    → [] ++ first ++ own ++ typed ++ codes "Content-Length: " ++ digits ++ codes "\r\nConnection: close\r\n\r\n" ≡ response_head status kind body
-response_head-pieces status kind body first own typed digits a b c d =
-    let whole : List ℕ → List ℕ → List ℕ → List ℕ → List ℕ =
-    λ (s : List ℕ) (o : List ℕ) (k : List ℕ) (l : List ℕ). s ++ o ++ k ++ line (codes "Content-Length: " ++ l) ++ line (codes "Connection: close") ++ line [] in
-    head_pieces first own typed digits
-    ∙ ap (λ (x : List ℕ). whole x own typed digits) a ∙ ap (λ (x : List ℕ). whole (status_line status) x typed digits) b
-    ∙ ap (λ (x : List ℕ). whole (status_line status) (own_line status) x digits) c
-    ∙ ap (λ (x : List ℕ). whole (status_line status) (own_line status) (kind_line kind body) x) d
+pub response_head-pieces : (status : Status) (kind : Kind) (body first typed digits : List ℕ)
+    → first ≡ status_line status ++ own_line status → typed ≡ kind_line kind body ++ codes "Content-Length: " → digits ≡ decimal (length body)
+    → [] ++ first ++ typed ++ digits ++ codes "\r\nConnection: close\r\n\r\n" ≡ response_head status kind body
+response_head-pieces status kind body first typed digits a b c =
+    let whole : List ℕ → List ℕ → List ℕ → List ℕ =
+    λ (f : List ℕ) (t : List ℕ) (l : List ℕ). [] ++ f ++ t ++ l ++ codes "\r\nConnection: close\r\n\r\n" in
+    let lines = status_line status ++ own_line status in
+    let labelled = kind_line kind body ++ codes "Content-Length: " in
+    ap (λ (x : List ℕ). whole x typed digits) a ∙ ap (λ (x : List ℕ). whole lines x digits) b ∙ ap (λ (x : List ℕ). whole lines labelled x) c
+    ∙ head_pieces (status_line status) (own_line status) (kind_line kind body) (decimal (length body))
 
 regrouped : (a b c d e f g h i j k l m n : List ℕ)
     → (a ++ (b ++ c)) ++ ((d ++ (e ++ f)) ++ ((g ++ (h ++ i)) ++ ((j ++ (k ++ l)) ++ (m ++ n))))

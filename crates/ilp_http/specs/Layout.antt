@@ -5,7 +5,7 @@ use Rattle.httparse.specs.Grammar.{RequestHead}
 use Rattle.httparse.specs.Spans.{span_bytes, header_bytes, IsRequestAt, IsRequestWithin}
 use Rattle.httparse.specs.declared.spans.HeaderSpan.{HeaderSpan}
 use Rattle.httparse.specs.declared.spans.RequestSpans.{RequestSpans}
-use Rattle.ilp_http.specs.declared.limits.TheConstants.{HEAD_LIMIT, BUFFER_LENGTH}
+use Rattle.ilp_http.specs.Limits.{head_limit, message_limit}
 use Rattle.ilp_http.specs.Request.{BeginsWithHead, HoldsRequest, EndsInHead, EndsInBody, IsRefused, body_length, length_by}
 use Rattle.ilp_http.specs.declared.refusal.Refusal.{Refusal}
 use Rattle.ilp_http.specs.declared.examination.Look.{Look}
@@ -23,8 +23,8 @@ pub record IsLayoutAt (octets : List ℕ) (spans : List HeaderSpan) (layout : La
   pub begins : BeginsWithHead octets head rest
   pub announced : body_length head ≡ Ok layout.body
   pub whole : layout.body ≤ length rest
-  pub parsed : IsRequestAt (take HEAD_LIMIT octets) spans layout.head head
-  pub within : IsRequestWithin (take HEAD_LIMIT octets) spans layout.head
+  pub parsed : IsRequestAt (take head_limit octets) spans layout.head head
+  pub within : IsRequestWithin (take head_limit octets) spans layout.head
 
 abbrev pub IsLayoutOf : List ℕ → List HeaderSpan → Layout → Type 0
 IsLayoutOf octets spans layout = (head : RequestHead) × (rest : List ℕ) × IsLayoutAt octets spans layout head rest
@@ -48,7 +48,7 @@ pub record IsInBody (octets : List ℕ) (whole : ℕ) : Type 0 where
   pub below : (more : List ℕ) → length octets + length more < whole → EndsInBody (octets ++ more)
   pub reached : (more : List ℕ) → whole ≤ length octets + length more → HoldsRequest (octets ++ more)
   pub more : length octets < whole
-  pub room : whole ≤ BUFFER_LENGTH
+  pub room : whole ≤ message_limit
 
 -- the octets are refused so, whatever follows
 abbrev pub StayRefused : List ℕ → Refusal → Type 0

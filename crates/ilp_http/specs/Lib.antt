@@ -1,3 +1,4 @@
+pub mod Limits
 pub mod Framing
 pub mod Fields
 pub mod Request

@@ -2,7 +2,7 @@
 use Rattle.std.specs.Prelude.{◌≡◌, ◌⊎◌, ℕ, ◌+◌, ◌<◌, ◌≤◌, List, ◌++◌, length, drop, slice_range, Result, Ok, Err}
 use Rattle.httparse.specs.Grammar.{ResponseHead, print_response, status_code}
 use Rattle.httparse.specs.declared.spans.ResponseSpans.{ResponseSpans}
-use Rattle.ilp_http.specs.Response.{BeginsWithStatus, framing_in, IsResponse, EndsShort, IsBad, IsTooLong}
+use Rattle.ilp_http.specs.Response.{BeginsWithStatus, framing_in, IsResponse, EndsShort, EndsOpen, IsBad, IsTooLong}
 use Rattle.ilp_http.specs.declared.framing.Framing.{Framing}
 use Rattle.ilp_http.specs.declared.response_octets.Place.{Place}
 use Rattle.ilp_http.specs.declared.response_octets.ResponseFinding.{ResponseFinding}
@@ -33,11 +33,15 @@ IsPlacedAt all octets place = IsResponse all place.code (slice_range octets plac
 abbrev pub NeedsMore : List ℕ → ℕ → Type 0
 NeedsMore octets least = (length octets < least) × (least ≤ ROOM)
 
+-- with those that follow the octets are so while they are fewer than so many
+abbrev pub StaysBelow : List ℕ → ℕ → (List ℕ → Type 0) → Type 0
+StaysBelow octets least Is = (more : List ℕ) → length octets + length more < least → Is (octets ++ more)
+
 -- what the octets are
 abbrev pub IsFinding : List ℕ → ResponseFinding → Type 0
 IsFinding octets (Whole place) = IsWithin octets place × ((more : List ℕ) → IsPlacedAt (octets ++ more) octets place)
-IsFinding octets (Unfinished least) = NeedsMore octets least × EndsShort octets
-IsFinding octets (ToEnd place least) = NeedsMore octets least × (IsWithin octets place × IsPlacedAt octets octets place)
+IsFinding octets (Unfinished least) = NeedsMore octets least × StaysBelow octets least EndsShort
+IsFinding octets (ToEnd place least) = NeedsMore octets least × StaysBelow octets least EndsOpen × (IsWithin octets place × IsPlacedAt octets octets place)
 IsFinding octets Bad = (more : List ℕ) → IsBad (octets ++ more)
 IsFinding octets TooLong = (more : List ℕ) → IsTooLong (octets ++ more)
 

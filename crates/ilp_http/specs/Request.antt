@@ -2,7 +2,7 @@
 use Rattle.std.specs.Prelude.{◌≡◌, ◌⊎◌, ℕ, ◌<◌, ◌≤◌, List, ◌++◌, length, take, map, bytes_eq, codes, if◌then◌else◌, Result, Ok, Err}
 use Rattle.httparse.specs.Grammar.{RequestHead, print_request, ReadsRequest, HasNoRequest, NeverHasRequest, MayBecomeRequest}
 use Rattle.httparse.specs.Spans.{name_and_value, RequestExceeds}
-use Rattle.ilp_http.specs.declared.limits.TheConstants.{HEAD_LIMIT, FIELD_LIMIT}
+use Rattle.ilp_http.specs.Limits.{head_limit, field_limit}
 use Rattle.ilp_http.specs.Framing.{NamedValue, framing}
 use Rattle.ilp_http.specs.declared.framing.Framing.{Framing}
 use Rattle.ilp_http.specs.declared.framing.Framing.TheVariants.{Coded, Unannounced, Octets, Unreadable, TooLong}
@@ -14,8 +14,8 @@ use Rattle.ilp_http.specs.declared.refusal.Refusal.TheVariants.{BadRequest, Meth
 -- the octets are this head, within the limits of a head, and then the rest
 pub record BeginsWithHead (octets : List ℕ) (head : RequestHead) (rest : List ℕ) : Type 0 where
   pub reads : ReadsRequest octets head rest
-  pub short : length (print_request head) ≤ HEAD_LIMIT
-  pub few_fields : length head.fields ≤ FIELD_LIMIT
+  pub short : length (print_request head) ≤ head_limit
+  pub few_fields : length head.fields ≤ field_limit
 
 -- the names and values of a head's fields
 abbrev pub fields_of : RequestHead → List NamedValue
@@ -52,7 +52,7 @@ HoldsRequest octets = (head : RequestHead) × (body : List ℕ) × (rest : List 
 pub record EndsInHead (octets : List ℕ) : Type 0 where
   pub none : HasNoRequest octets
   pub may_become : MayBecomeRequest octets
-  pub short : length octets < HEAD_LIMIT
+  pub short : length octets < head_limit
 
 -- the octets begin with a head, and end before its body does
 abbrev pub EndsInBody : List ℕ → Type 0
@@ -72,18 +72,18 @@ HasNoHead octets = (head : RequestHead) (rest : List ℕ) → ¬ (BeginsWithHead
 
 -- so many first octets don't begin a head, whatever follows them
 abbrev pub NeverHasHead : List ℕ → Type 0
-NeverHasHead octets = NeverHasRequest (take HEAD_LIMIT octets)
+NeverHasHead octets = NeverHasRequest (take head_limit octets)
 
 -- so many first octets begin a head that has not ended
 pub record HasLongHead (octets : List ℕ) : Type 0 where
-  pub long : HEAD_LIMIT ≤ length octets
-  pub none : HasNoRequest (take HEAD_LIMIT octets)
-  pub may_become : MayBecomeRequest (take HEAD_LIMIT octets)
+  pub long : head_limit ≤ length octets
+  pub none : HasNoRequest (take head_limit octets)
+  pub may_become : MayBecomeRequest (take head_limit octets)
 
 -- no head within the limits begins the octets, and they begin one of too many fields
 pub record HasManyFields (octets : List ℕ) : Type 0 where
   pub none : HasNoHead octets
-  pub many : RequestExceeds FIELD_LIMIT (take HEAD_LIMIT octets)
+  pub many : RequestExceeds field_limit (take head_limit octets)
 
 -- the octets begin with a head that is refused so
 abbrev pub HasRefusedHead : List ℕ → Refusal → Type 0

@@ -22,7 +22,10 @@ mod writing;
 
 pub use buffer::Buffer;
 pub use examination::{Look, look_at};
-pub use laws::{octets_hold_one_request, requests_are_not_refused};
+pub use laws::{
+    limits_are_those_defined, octets_hold_one_request, requests_are_not_refused,
+    responses_have_one_answer,
+};
 pub use limits::{BODY_LIMIT, BUFFER_LENGTH, FIELD_LIMIT, HEAD_LIMIT, MOST_READS};
 pub use outgoing::{Outgoing, OwnField};
 pub use refusal::{Refusal, RequestFault};

@@ -1,9 +1,12 @@
 //! Reading a request.
-ghost use Rattle.std.specs.Prelude.{◌≡◌, ℕ, ◌≤◌, List, length, take, IfOk, IfErr, IfSome, IsErrOf};
+ghost use Rattle.std.specs.Prelude.{◌≡◌, ◌≢◌, ℕ, ◌≤◌, List, length, take, Err, IfOk, IfErr, IfSome, IsErrOf};
 ghost use Rattle.std.specs.Io.KnownBytes.{Consumes};
 ghost use Rattle.ilp_io.specs.Counts.{Tallies, TalliesUpTo};
+ghost use Rattle.ilp_io.specs.Pulls.{PullsWhile};
+ghost use Rattle.ilp_http.specs.Limits.{most_reads};
+ghost use Rattle.ilp_http.specs.Request.{EndsEarly};
 ghost use Rattle.ilp_http.specs.Layout.{IsLayoutOf};
-ghost use Rattle.ilp_http.specs.Answer.{IsAnswer, IsFaultOf, HasPartsOf, failed_reads};
+ghost use Rattle.ilp_http.specs.Answer.{IsAnswer, AnswersInTime, IsFaultOf, HasPartsOf, failed_reads};
 
 use crate::buffer::{Buffer, ROOM};
 use crate::examination::{Finding, Layout, examine};
@@ -41,10 +44,14 @@ fn fill<S: Source>(
         (S.remaining source.new) (take found.0 octets.new)) }
     ensures refused { IfErr result
         (λ fault. IfSome (S.remaining source.old) (λ input. IsFaultOf input fault)) }
+    ensures whole_in_time { IfOk result (λ found. PullsWhile S.pulled EndsEarly source.old
+        (take found.0 octets.new) source.new) }
+    ensures refused_in_time { IfErr result (λ fault. fault ≢ RequestFault.Failed
+        → AnswersInTime S.pulled source.old source.new (Err fault)) }
     ensures counted { TalliesUpTo (S.tally source.old) (S.tally source.new)
-        MOST_READS (failed_reads result) }
+        most_reads (failed_reads result) }
     ensures patient { IsErrOf result RequestFault.TooManyReads
-        → Tallies (S.tally source.old) (S.tally source.new) MOST_READS 0 }
+        → Tallies (S.tally source.old) (S.tally source.new) most_reads 0 }
 {
     let mut filled = 0;
     let mut needed = 0;
@@ -106,10 +113,13 @@ pub fn read_request<'b, S: Source>(
     ensures answer { IfSome (S.remaining source.old) (λ input. IsAnswer input result) }
     // Also of a source whose octets are not known: some octets begin with the request.
     ensures begun { IfOk result (λ request. (octets : List ℕ) × HasPartsOf octets request) }
+    // Of any source too: it is not read once the octets that came are whole or refused.
+    ensures timely { result ≢ Err RequestFault.Failed
+        → AnswersInTime S.pulled source.old source.new result }
     ensures counted { TalliesUpTo (S.tally source.old) (S.tally source.new)
-        MOST_READS (failed_reads result) }
+        most_reads (failed_reads result) }
     ensures patient { IsErrOf result RequestFault.TooManyReads
-        → Tallies (S.tally source.old) (S.tally source.new) MOST_READS 0 }
+        → Tallies (S.tally source.old) (S.tally source.new) most_reads 0 }
 {
     let mut spans = [EMPTY_HEADER_SPAN; FIELD_LIMIT];
     let (filled, layout) = fill(source, &mut buffer.octets, &mut spans)?;

@@ -1,8 +1,11 @@
 //! Reading a response.
-ghost use Rattle.std.specs.Prelude.{◌≡◌, ◌+◌, ◌≤◌, length, take, IfOk, IfErr, IfSome, IsErrOf};
+ghost use Rattle.std.specs.Prelude.{◌≡◌, ◌≢◌, ◌+◌, ◌≤◌, length, take, Err, IfOk, IfErr, IfSome, IsErrOf};
 ghost use Rattle.ilp_io.specs.Counts.{Tallies, TalliesUpTo};
+ghost use Rattle.ilp_io.specs.Pulls.{PullsWhile};
+ghost use Rattle.ilp_http.specs.Limits.{most_reads};
+ghost use Rattle.ilp_http.specs.Response.{IsUnsettled};
 ghost use Rattle.ilp_http.specs.Placed.{IsWithin, IsPlacedAt, EndsAt};
-ghost use Rattle.ilp_http.specs.ResponseAnswer.{IsResponseAnswer, IsResponseFault, failed_reads};
+ghost use Rattle.ilp_http.specs.ResponseAnswer.{IsResponseAnswer, AnswersInTime, IsResponseFault, failed_reads};
 
 use crate::buffer::{Buffer, ROOM};
 use crate::limits::MOST_READS;
@@ -22,7 +25,8 @@ pub struct Response<'b> {
 /// Why no response was read.
 #[derive(Clone, Copy, Debug, PartialEq, Eq, Error)]
 pub enum ResponseFault {
-    /// The octets begin no head, or end within a response, or their Content-Length is no number.
+    /// The octets begin no head, however many fields come before what makes them none, or end within
+    /// a response, or their Content-Length is no number.
     #[error("a bad response")]
     Bad,
     /// The head or the body is longer than its limit, or the head has too many fields.
@@ -63,10 +67,16 @@ fn fill_response<S: Source>(
         (λ input. IsPlacedAt input (take found.0 octets.new) found.1)) }
     ensures refused { IfErr result
         (λ fault. IfSome (S.remaining source.old) (λ input. IsResponseFault input fault)) }
+    ensures whole_in_time { IfOk result (λ found. PullsWhile S.pulled IsUnsettled source.old
+        (take found.0 octets.new) source.new) }
+    ensures placed { IfOk result
+        (λ found. IsPlacedAt (take found.0 octets.new) (take found.0 octets.new) found.1) }
+    ensures refused_in_time { IfErr result (λ fault. fault ≢ ResponseFault.Failed
+        → AnswersInTime S.pulled source.old source.new (Err fault)) }
     ensures counted { TalliesUpTo (S.tally source.old) (S.tally source.new)
-        MOST_READS (failed_reads result) }
+        most_reads (failed_reads result) }
     ensures patient { IsErrOf result ResponseFault.TooManyReads
-        → Tallies (S.tally source.old) (S.tally source.new) MOST_READS 0 }
+        → Tallies (S.tally source.old) (S.tally source.new) most_reads 0 }
 {
     let mut filled = 0;
     let mut needed = 0;
@@ -101,7 +111,7 @@ fn fill_response<S: Source>(
 /// What is answered depends on all the octets of the source, and not on the pieces in which they
 /// come. The body is empty where there is a Transfer-Encoding, as long as Content-Length says where
 /// there is one, and else all octets up to the end of the input. A status of 100 to 199 is like any
-/// other. Refusals: `Bad` and `TooLong`, as `ResponseFault` says; `Failed` where a read failed;
+/// other. Refusals: `Bad` before `TooLong`, as `ResponseFault` says; `Failed` where a read failed;
 /// `TooManyReads` where 4,096 reads gave no whole response. After any of them the next reading
 /// begins anew.
 pub fn read_response<'b, S: Source>(
@@ -109,10 +119,13 @@ pub fn read_response<'b, S: Source>(
     buffer: &'b mut Buffer,
 ) -> Result<Response<'b>, ResponseFault>
     ensures answer { IfSome (S.remaining source.old) (λ input. IsResponseAnswer input result) }
+    // Of any source: it is not read once the answer rests on no octet that may follow.
+    ensures timely { result ≢ Err ResponseFault.Failed
+        → AnswersInTime S.pulled source.old source.new result }
     ensures counted { TalliesUpTo (S.tally source.old) (S.tally source.new)
-        MOST_READS (failed_reads result) }
+        most_reads (failed_reads result) }
     ensures patient { IsErrOf result ResponseFault.TooManyReads
-        → Tallies (S.tally source.old) (S.tally source.new) MOST_READS 0 }
+        → Tallies (S.tally source.old) (S.tally source.new) most_reads 0 }
 {
     let (filled, place) = fill_response(source, &mut buffer.octets)?;
     let octets = &buffer.octets[..filled];

@@ -1,10 +1,16 @@
 //! Whether the octets that have come so far are a response.
+ghost use Rattle.std.specs.Prelude.{take};
+ghost use Rattle.httparse.specs.Spans.{ResponseOverflows};
+ghost use Rattle.ilp_http.specs.Limits.{head_limit, field_limit};
 ghost use Rattle.ilp_http.specs.Placed.{IsHeadOf, IsFinding};
 
 use crate::framing::{Framing, framing_of};
 use crate::limits::{BODY_LIMIT, FIELD_LIMIT, HEAD_LIMIT};
 use httparse::spans::{EMPTY_HEADER_SPAN, ResponseSpans, parse_response};
 use httparse::{Error, Status};
+
+// As many fields as octets within the limit of a head can have, since each has three at least.
+const MOST_FIELDS: usize = 5_461;
 
 /// The status of a response, and where its body is.
 #[derive(Clone, Copy, Debug)]
@@ -67,8 +73,27 @@ pub(crate) fn examine_response(octets: &[u8]) -> ResponseFinding
         }
         Ok(Status::Partial) => ResponseFinding::TooLong,
         Err(error) => match error {
-            Error::TooManyHeaders => ResponseFinding::TooLong,
+            Error::TooManyHeaders => examine_many(octets),
             _ => ResponseFinding::Bad,
         },
+    }
+}
+
+/// What octets are that begin more fields than a head may have. They may yet turn out to be no head
+/// at all, so this is known once the head is whole.
+#[inline(never)]
+fn examine_many(octets: &[u8]) -> ResponseFinding
+    requires { ResponseOverflows field_limit (take head_limit octets.now) }
+    ensures { IsFinding octets.now result }
+{
+    let mut spans = [EMPTY_HEADER_SPAN; MOST_FIELDS];
+    let front = &octets[..octets.len().min(HEAD_LIMIT)];
+    match parse_response(front, &mut spans) {
+        Ok(Status::Complete(_)) => ResponseFinding::TooLong,
+        Ok(Status::Partial) if octets.len() < HEAD_LIMIT => {
+            ResponseFinding::Unfinished(octets.len() + 1)
+        }
+        Ok(Status::Partial) => ResponseFinding::TooLong,
+        Err(_) => ResponseFinding::Bad,
     }
 }

@@ -1,5 +1,5 @@
 //! Writing a message.
-ghost use Rattle.std.specs.Prelude.{◌≡◌, ◌++◌, length, is_err, OnOk, OnErr, if◌then◌else◌};
+ghost use Rattle.std.specs.Prelude.{◌≡◌, ◌≤◌, ◌++◌, length, take, is_err, OnOk, OnErr, if◌then◌else◌};
 ghost use Rattle.std.specs.Io.KnownBytes.{Appends};
 ghost use Rattle.ilp_io.specs.Counts.{CountsUp};
 ghost use Rattle.ilp_io.specs.Writing.{AppendsProperPrefix};
@@ -7,24 +7,44 @@ ghost use Rattle.ilp_http.specs.Pending.{pending, Sends, Stops};
 ghost use Rattle.ilp_http.specs.Writing.{response_head, response_text, own_field, head_lines, request_text};
 
 use crate::outgoing::{Outgoing, OwnField};
-use crate::pending::Pending;
-use crate::status::{Kind, Status, kind_line, kind_text, own_line, status_line};
-use ilp_io::{Sink, WriteFault};
+use crate::pending::{Pending, ROOM, put_behind};
+use crate::status::{Kind, Status, first_lines, kind_text, lines_to_length};
+use ilp_io::{Sink, WriteFault, put_all};
 use itoa::Buffer;
 
-// The lines of a response before its body.
-fn response_head(status: Status, kind: Kind, body: &[u8]) -> Pending
-    ensures { pending result ≡ response_head status kind body.now }
+// The octets of a short response. The longest head has fewer.
+const SHORT: usize = 256;
+
+// Puts the lines of a response before its body into a room, and answers how many octets they have.
+#[inline]
+fn put_head(room: &mut [u8], status: Status, kind: Kind, body: &[u8]) -> usize
+    requires { SHORT ≤ length room.old }
+    ensures octets { take result room.new ≡ response_head status kind body.now }
+    ensures short { result ≤ SHORT }
 {
     let mut digits = Buffer::new();
+    let text = digits.format(body.len()).as_bytes();
+    let len = put_behind(room, 0, first_lines(status));
+    let len = put_behind(room, len, lines_to_length(kind, body));
+    let len = put_behind(room, len, text);
+    put_behind(room, len, b"\r\nConnection: close\r\n\r\n")
+}
+
+// Writes a head and a body: in one write where they are short enough to wait for each other.
+#[inline(never)]
+fn put_both<W: Sink>(sink: &mut W, head: &[u8], body: &[u8]) -> Result<(), WriteFault>
+    requires { length head.now ≤ ROOM }
+    ensures ok { OnOk result
+        (Appends (W.contents sink.old) (W.contents sink.new) (head.now ++ body.now)) }
+    ensures err { OnErr result
+        (AppendsProperPrefix (W.contents sink.old) (W.contents sink.new) (head.now ++ body.now)) }
+    ensures failed { CountsUp (W.failures sink.old) (W.failures sink.new)
+        (if is_err result then 1 else 0) }
+{
     let mut waiting = Pending::new();
-    waiting.keep(status_line(status));
-    waiting.keep(own_line(status));
-    waiting.keep(kind_line(kind, body));
-    waiting.keep(b"Content-Length: ");
-    waiting.keep(digits.format(body.len()).as_bytes());
-    waiting.keep(b"\r\nConnection: close\r\n\r\n");
-    waiting
+    waiting.keep(head);
+    waiting.add(sink, body)?;
+    waiting.send(sink)
 }
 
 /// Writes a response of HTTP/1.1 (RFC 9112, section 4) after which the connection is closed: the
@@ -45,9 +65,13 @@ pub fn write_response<W: Sink>(
     ensures failed { CountsUp (W.failures sink.old) (W.failures sink.new)
         (if is_err result then 1 else 0) }
 {
-    let mut waiting = response_head(status, kind, body);
-    waiting.add(sink, body)?;
-    waiting.send(sink)
+    let mut room = [0u8; SHORT];
+    let len = put_head(&mut room, status, kind, body);
+    if body.len() > SHORT - len {
+        return put_both(sink, &room[..len], body);
+    }
+    let end = put_behind(&mut room, len, body);
+    put_all(sink, &room[..end])
 }
 
 // Adds three texts.

@@ -1,5 +1,6 @@
 //! A reader whose reads are counted.
 ghost use Rattle.std.specs.Prelude.{◌≡◌};
+ghost use Rattle.std.specs.Io.KnownBytes.{Consumes};
 ghost use Rattle.ilp_io.specs.Counts.{tally_told};
 
 use crate::source::Source;
@@ -37,6 +38,9 @@ impl<R: Read> Source for Counting<R> {
     ghost remaining = { λ counting. R.remaining counting.reader };
 
     ghost tally = { λ counting. tally_told counting.reads counting.failures };
+
+    ghost pulled = { λ old octets new.
+        Consumes (R.remaining old.reader) (R.remaining new.reader) octets };
 
     fn pull(&mut self, room: &mut [u8]) -> io::Result<usize> {
         let outcome = self.reader.read(room);

@@ -1,5 +1,5 @@
 //! A source in memory.
-ghost use Rattle.std.specs.Prelude.{◌≡◌, ◌↔◌, ℕ, ◌<◌, Some, None, min, length, unwrap_or, is_err, IsErr, IfOk, if◌then◌else◌};
+ghost use Rattle.std.specs.Prelude.{◌≡◌, ◌↔◌, ℕ, ◌<◌, ◌≤◌, ◌++◌, Some, None, min, length, take, unwrap_or, is_err, IsErr, IfOk, if◌then◌else◌};
 ghost use Rattle.std.specs.Io.{ReadsAtMost};
 ghost use Rattle.std.specs.Io.KnownBytes.{ReadConsumes};
 ghost use Rattle.ilp_io.specs.Counts.{Tallies, tally_told};
@@ -72,6 +72,9 @@ impl Source for Pieces<'_> {
 
     ghost tally = { λ pieces. tally_told pieces.reads pieces.failures };
 
+    ghost pulled = { λ old octets new. (old.rest.now ≡ octets ++ new.rest.now)
+        × (length octets ≤ old.piece) × (new.piece ≡ old.piece) };
+
     /// Gives the next piece, up to the place where a read fails.
     fn pull(&mut self, room: &mut [u8]) -> io::Result<usize>
         ensures bound { ReadsAtMost result room.new }
@@ -79,6 +82,10 @@ impl Source for Pieces<'_> {
             result room.new }
         ensures counted { Tallies (tally_told self.old.reads self.old.failures)
             (tally_told self.new.reads self.new.failures) 1 (if is_err result then 1 else 0) }
+        ensures gave { IfOk result (λ count.
+            (self.old.rest.now ≡ take count room.new ++ self.new.rest.now)
+            × (length (take count room.new) ≤ self.old.piece)
+            × (self.new.piece ≡ self.old.piece)) }
         ensures fails { IsErr result ↔ (self.old.fails_after ≡ Some 0) }
         ensures gives { IfOk result (λ count. count ≡
             min (min (length room.old) self.old.piece)
