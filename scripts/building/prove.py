@@ -145,8 +145,6 @@ def main():
             lanes.put(lane(room, number))
         if len(prove_all(below, left, lanes)) < count:
             sys.exit(1)
-    check = subprocess.run(["rt", "check"], cwd=f"{TOP}/crates/{sys.argv[1]}")
-    sys.exit(check.returncode)
 
 
 if __name__ == "__main__":

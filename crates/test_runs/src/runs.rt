@@ -1,6 +1,6 @@
 //! Runs: a new book, and calls that are compared step by step.
 
-use crate::calls::Made;
+use crate::calls::{Call, Made};
 use crate::chance::Chance;
 use crate::choice::next_call;
 use crate::configured;
@@ -18,52 +18,68 @@ use std::io;
 // 2025-01-01T00:00:00Z.
 const START: i64 = 1_735_689_600_000;
 
-/// So many calls over a new book.
+/// So many calls over a new book, and more that are compared.
 #[derive(Clone, Copy)]
 pub(crate) struct Run {
     name: u32,
     seed: u64,
+    // How many calls come before them, whose replies nobody looks at. Credits are left out of these, so
+    // that all keys are new.
+    before: u32,
     steps: u32,
     journal: u32,
 }
 
-/// The runs. The fourth fills its journal.
-pub(crate) const RUNS: [Run; 6] = [
+/// The runs. The fourth fills its journal, and the last begins with a long one.
+pub(crate) const RUNS: [Run; 7] = [
     Run {
         name: 1,
         seed: 1,
+        before: 0,
         steps: 500,
         journal: 4096,
     },
     Run {
         name: 2,
         seed: 2,
+        before: 0,
         steps: 500,
         journal: 4096,
     },
     Run {
         name: 3,
         seed: 3,
+        before: 0,
         steps: 500,
         journal: 4096,
     },
     Run {
         name: 4,
         seed: 4,
+        before: 0,
         steps: 500,
         journal: 200,
     },
     Run {
         name: 5,
         seed: 5,
+        before: 0,
         steps: 500,
         journal: 4096,
     },
     Run {
         name: 6,
         seed: 6,
+        before: 0,
         steps: 500,
         journal: 4096,
+    },
+    Run {
+        name: 7,
+        seed: 7,
+        before: 24_000,
+        steps: 200,
+        journal: 65_536,
     },
 ];
 
@@ -98,6 +114,13 @@ fn steps_agree<R: Print + AllocGlobal>(
     let mut chance = Chance::new(run.seed);
     let mut clock = START;
     let mut ends = Ends::new(rt.alloc());
+    for _ in 0..run.before {
+        let made = next_call(&mut chance, book, &ends, &mut clock);
+        if !matches!(made.call, Call::Credit(_)) {
+            let _ = make(rt.alloc(), book, &made)?;
+            ends.walk_on(book)?;
+        }
+    }
     for step in 0..run.steps {
         let made = next_call(&mut chance, book, &ends, &mut clock);
         let agrees = call_agrees(rt, book, &ends, &made, kinds)?;
