@@ -201,7 +201,9 @@ def requests():
     yield Row((HEAD // 2 + 1, b"\r\n")), FIELDS_LARGE
     yield Row(b"POST /", (HEAD, b"a")), FIELDS_LARGE
     yield Row((HEAD, b"A"), b"\0"), FIELDS_LARGE
-    yield Row((HEAD - 1, b"A"), b"\0"), BAD
+    # the octet that makes it no head is the one that makes it too long, and the one before that
+    yield Row((HEAD - 1, b"A"), b"\0"), FIELDS_LARGE
+    yield Row((HEAD - 2, b"A"), b"\0A"), BAD
     # octets that are no request
     for octets in (b"\0", b"\x16\x03\x01\x02\x00\x01\x00\x01\xfc\x03\x03",
                    b"PRI * HTTP/2.0\r\n\r\nSM\r\n\r\n", b"HTTP/1.1 200 OK\r\n\r\n"):

@@ -1,6 +1,6 @@
 -- Octets begin with one request, or with none.
-use Rattle.std.proofs.Common.{◌≡◌, ℕ, ◌-◌, List, [], ◌++◌, length, take, Ok, Err, inl, inr, sym, ap, ◌∙◌, arith, length-append}
-use Rattle.std.proofs.lemmas.List.{take-append-le, take_all, append-nil}
+use Rattle.std.proofs.Common.{◌≡◌, ℕ, ◌-◌, List, [], ◌++◌, length, take, drop, Ok, Err, inl, inr, sym, ap, ◌∙◌, arith, length-append}
+use Rattle.std.proofs.lemmas.List.{take-append-le, take-append-drop, take_all}
 use Rattle.httparse.specs.Grammar.{RequestHead, print_request, ReadsRequest}
 use Rattle.httparse.proofs.GrammarLemmas.{request_unique}
 use Rattle.ilp_http.specs.Limits.{head_limit}
@@ -40,8 +40,8 @@ pub not_refused : (octets : List ℕ) (refusal : Refusal) → HoldsRequest octet
 not_refused octets BadRequest holds refused =
     elim refused [
       | inl never ↦
-          let at = first_octets octets holds.0 (holds.1 ++ holds.2) holds.3.begins in
-          never [] holds.0 _ (at.0, append-nil (take head_limit octets) ∙ at.1)
+          let reads = holds.3.begins.reads in
+          never (drop (head_limit - 1) octets) holds.0 (holds.1 ++ holds.2) (reads.0, take-append-drop (head_limit - 1) octets ∙ reads.1)
       | inr head ↦ not_refused_head octets BadRequest holds head
     ]
 not_refused octets MethodNotAllowed holds refused = not_refused_head octets MethodNotAllowed holds refused
