@@ -6,6 +6,7 @@ to answer by docs/PROTOCOL.md. With the argument `requests` or `responses` it pr
 crates/test_http/data, in which `%XX` is an octet, and `<N PART>` stands for N times the part; with
 `lines` it prints the program's whole output. It shares nothing with the crates.
 """
+import hashlib
 import sys
 
 HEAD, FIELDS, BODY = 16_384, 64, 65_536
@@ -20,6 +21,13 @@ def escaped(octets):
     """An octet that is no visible ASCII, and each that a row gives a meaning, as `%XX`."""
     return "".join(chr(o) if 32 < o < 127 and o not in b"%<>" else " " if o == 32 else f"%{o:02X}"
                    for o in octets)
+
+
+def printed(octets):
+    """Octets as they are printed: escaped, and more than 64 of them as their number and SHA-256."""
+    if len(octets) > 64:
+        return f"<{len(octets)} octets, {hashlib.sha256(octets).hexdigest()}>"
+    return f"<{escaped(octets)}>"
 
 
 class Row:
@@ -48,36 +56,52 @@ def sized(value, body=b"abc"):
     return request(fields=(b"Host: h", b"Content-Length: " + value), body=body)
 
 
-def told(target, values, length):
-    return f"{target}, {values} values, a body of {length}"
+def told(target, lines, body):
+    """A request with these field lines: by name in order of their first, blanks at both ends dropped."""
+    named = {}
+    for line in lines:
+        name, _, value = line.partition(b":")
+        named.setdefault(name.lower(), []).append(value.strip(b" \t"))
+    fields = "".join(f" {escaped(name)}: {printed(value)}" for name, values in named.items() for value in values)
+    return f"{printed(target)}{fields} body {printed(body)}{SETTLED}"
 
 
+# An answer that rests on no octet that follows ends so. Without this, the next read decides.
+SETTLED = ", whatever follows"
+EARLY = "a bad request"
 BAD, METHOD, LENGTH, LARGE, FIELDS_LARGE = (
-    "a bad request", "the method is not POST", "no length of the body", "the body is too long",
-    "the head is too long")
-OK = told("/ilp", 2, 3)
+    answer + SETTLED for answer in (
+        "a bad request", "the method is not POST", "no length of the body", "the body is too long",
+        "the head is too long"))
+
+
+def taken(target=b"/ilp", line=None, fields=(b"Host: h", b"Content-Length: 3"), body=b"abc", size=3,
+          end=b"\r\n"):
+    """A request that is one, and what is told of it, with the first `size` octets of the body."""
+    line = line or b"POST " + target + b" HTTP/1.1"
+    return request(line=line, fields=fields, body=body, end=end), told(target, fields, body[:size])
+
+
+LENGTH_LINE = b"Content-Length: 3"
 
 
 def long_head(size):
-    """A request whose head has so many octets."""
-    start = b"POST /ilp HTTP/1.1\r\nContent-Length: 3\r\nX: "
-    return Row(start, (size - len(start) - 4, b"a"), b"\r\n\r\nabc")
+    """A request whose head has so many octets, and its long field."""
+    start = b"POST /ilp HTTP/1.1\r\n" + LENGTH_LINE + b"\r\nX: "
+    many = size - len(start) - 4
+    return Row(start, (many, b"a"), b"\r\n\r\nabc"), b"X:" + b"a" * many
 
 
-def many_fields(count):
-    """A request with so many fields."""
-    return Row(b"POST /ilp HTTP/1.1\r\nContent-Length: 3\r\n", (count - 1, b"a: b\r\n"), b"\r\nabc")
-
-
-def with_field(field, answer=OK):
-    return request(fields=(field, b"Content-Length: 3")), answer
+def many_fields(count, more=b""):
+    """A request with so many fields, and then these octets before the head ends."""
+    return Row(b"POST /ilp HTTP/1.1\r\nContent-Length: 3\r\n", (count - 1, b"a: b\r\n"), more + b"\r\nabc")
 
 
 def requests():
     fields = (b"Host: h", b"Authorization: Bearer a-token", b"Content-Length: 69")
-    yield request(fields=fields, body=PREPARE), told("/ilp", 3, 69)
-    yield request(fields=fields, body=PREPARE + b"POST / HTTP/1.1\r\n"), told("/ilp", 3, 69)
-    yield request(), OK
+    yield taken(fields=fields, body=PREPARE, size=69)
+    yield taken(fields=fields, body=PREPARE + b"POST / HTTP/1.1\r\n", size=69)
+    yield taken()
     # the request line
     for method in (b"GET", b"HEAD", b"PUT", b"DELETE", b"OPTIONS", b"TRACE", b"CONNECT", b"PATCH",
                    b"post", b"Post", b"POSTS", b"POS", b"!#$%&'*+-.^_`|~"):
@@ -91,15 +115,16 @@ def requests():
                  b"POST /i\xfflp HTTP/1.1", b"POST /i\xc3 HTTP/1.1"):
         if line:
             yield request(line=line), BAD
-    yield request(line=b"POST /ilp HTTP/1.0"), OK
+    yield taken(line=b"POST /ilp HTTP/1.0")
     for target in (b"/", b"*", b"/accounts/bob/settlements", b"http://h/ilp", b"/ilp?x=1", b"/%20",
                    b"/a//b/../c", b"\xc3\xa9", b"/~!$&'()+,;=:@", b"\"<>[]^`{|}"):
-        yield request(line=b"POST " + target + b" HTTP/1.1"), told(target.decode(), 2, 3)
+        yield taken(target)
     # empty lines before it, and line ends
-    yield Row(b"\r\nPOST /ilp HTTP/1.1\r\nContent-Length: 3\r\n\r\nabc"), told("/ilp", 1, 3)
-    yield Row(b"\n\r\n\nPOST /ilp HTTP/1.1\r\nContent-Length: 3\r\n\r\nabc"), told("/ilp", 1, 3)
+    for before in (b"\r\n", b"\n\r\n\n"):
+        row = Row(before + b"POST /ilp HTTP/1.1\r\nContent-Length: 3\r\n\r\nabc")
+        yield row, told(b"/ilp", [LENGTH_LINE], b"abc")
     yield Row(b"\rPOST /ilp HTTP/1.1\r\nContent-Length: 3\r\n\r\nabc"), BAD
-    yield request(end=b"\n"), OK
+    yield taken(end=b"\n")
     yield request(end=b"\r"), BAD
     yield request(end=b"\r\r\n"), BAD
     yield request(end=b"\n\r"), BAD
@@ -111,20 +136,21 @@ def requests():
             continue
         if octet not in TOKEN and octet not in b"\0\x01\x1f\"(),/;<=>?@[\\]{}\x7f\x80\xff":
             continue
-        yield with_field(b"X" + bytes([octet]) + b": a", OK if octet in TOKEN else BAD)
+        fields = (b"X" + bytes([octet]) + b": a", LENGTH_LINE)
+        yield taken(fields=fields) if octet in TOKEN else (request(fields=fields), BAD)
     for field in (b"X : a", b"X\t: a", b" X: a", b"\tX: a", b": a", b"X", b"X Y: a", b"X: a\r\n b",
                   b"X: a\r\n\tb", b"Content-Length : 3"):
-        yield with_field(field, BAD)
+        yield request(fields=(field, LENGTH_LINE)), BAD
     # field values: anything but the controls, and blanks at both ends are dropped
     for value in (b"", b" ", b"\t \t", b"a", b" a ", b"a b", b"a\tb", b"\xff", b"\x80\x9f", b"a:b:c",
                   b"\"q\"", b"~"):
-        yield with_field(b"X:" + value)
+        yield taken(fields=(b"X:" + value, LENGTH_LINE))
     for value in (b"a\0b", b"a\x01", b"a\x1f", b"a\x7f", b"a\rb", b"\x0b", b"a\x08"):
-        yield with_field(b"X: " + value, BAD)
+        yield request(fields=(b"X: " + value, LENGTH_LINE)), BAD
     # Content-Length: digits, however many
     for value in (b"3", b"03", b"00000000000000000000000000000000000000003", b" 3 ", b"\t3\t",
                   b"  3", b"3  "):
-        yield sized(value), OK
+        yield taken(fields=(b"Host: h", b"Content-Length: " + value))
     for value in (b"", b" ", b"+3", b"-3", b"-0", b"3.0", b"3e0", b"0x3", b"3 3", b"3,3", b"3, 3",
                   b"a", b"3a", b"\xb3", b"3;", b"\"3\"", b"3\t3", b"+", b"65537a", b"99999999999999999999 "
                   b"1"):
@@ -133,16 +159,16 @@ def requests():
                   b"18446744073709551616", b"18446744073709551619",
                   b"340282366920938463463374607431768211459", b"9" * 80):
         yield sized(value), LARGE
-    yield sized(b"0", b""), told("/ilp", 2, 0)
-    yield sized(b"0", b"abc"), told("/ilp", 2, 0)
-    yield sized(b"2", b"abc"), told("/ilp", 2, 2)
-    yield sized(b"4", b"abc"), BAD
-    yield Row(b"POST /ilp HTTP/1.1\r\nContent-Length: 65536\r\n\r\n", (BODY, b"a")), told("/ilp", 1, BODY)
-    yield Row(b"POST /ilp HTTP/1.1\r\nContent-Length: 65536\r\n\r\n", (BODY - 1, b"a")), BAD
+    for size, body in ((0, b""), (0, b"abc"), (2, b"abc")):
+        yield taken(fields=(b"Host: h", b"Content-Length: %d" % size), body=body, size=size)
+    yield sized(b"4", b"abc"), EARLY
+    yield (Row(b"POST /ilp HTTP/1.1\r\nContent-Length: 65536\r\n\r\n", (BODY, b"a")),
+           told(b"/ilp", [b"Content-Length: 65536"], b"a" * BODY))
+    yield Row(b"POST /ilp HTTP/1.1\r\nContent-Length: 65536\r\n\r\n", (BODY - 1, b"a")), EARLY
     yield Row(b"POST /ilp HTTP/1.1\r\nContent-Length: 65537\r\n\r\n", (BODY + 1, b"a")), LARGE
     # which field counts
     for name in (b"content-length", b"CONTENT-LENGTH", b"cOnTeNt-LeNgTh"):
-        yield request(fields=(b"Host: h", name + b":3")), OK
+        yield taken(fields=(b"Host: h", name + b":3"))
     yield request(fields=(b"Host: h",)), LENGTH
     yield request(fields=()), LENGTH
     yield request(fields=(b"Content-Lengt: 3", b"Content-Lengthh: 3")), LENGTH
@@ -162,49 +188,67 @@ def requests():
     yield request(line=b"GET /ilp HTTP/1.1", fields=(b"Content-Length: 65537",)), METHOD
     yield request(line=b"GET /ilp HTTP/1.1", fields=(b"X : a",)), BAD
     # how long a head may be
-    yield long_head(HEAD), told("/ilp", 2, 3)
-    yield long_head(HEAD + 1), FIELDS_LARGE
-    yield many_fields(FIELDS), told("/ilp", FIELDS, 3)
+    row, field = long_head(HEAD)
+    yield row, told(b"/ilp", [LENGTH_LINE, field], b"abc")
+    yield long_head(HEAD + 1)[0], FIELDS_LARGE
+    yield many_fields(FIELDS), told(b"/ilp", [LENGTH_LINE] + [b"a: b"] * (FIELDS - 1), b"abc")
     yield many_fields(FIELDS + 1), FIELDS_LARGE
-    yield Row((HEAD - 1, b"A")), BAD
+    # too many fields and a bad line: what comes first
+    yield many_fields(FIELDS + 1, b"X : a\r\n"), FIELDS_LARGE
+    yield Row(b"POST /ilp HTTP/1.1\r\nX : a\r\n", (FIELDS + 1, b"a: b\r\n"), b"\r\nabc"), BAD
+    yield Row((HEAD - 1, b"A")), EARLY
     yield Row((HEAD, b"A")), FIELDS_LARGE
     yield Row((HEAD // 2 + 1, b"\r\n")), FIELDS_LARGE
     yield Row(b"POST /", (HEAD, b"a")), FIELDS_LARGE
     yield Row((HEAD, b"A"), b"\0"), FIELDS_LARGE
-    yield Row((HEAD - 1, b"A"), b"\0"), BAD
+    # the octet that makes it no head is the one that makes it too long, and the one before that
+    yield Row((HEAD - 1, b"A"), b"\0"), FIELDS_LARGE
+    yield Row((HEAD - 2, b"A"), b"\0A"), BAD
     # octets that are no request
-    for octets in (b"\0", b"hello", b"\x16\x03\x01\x02\x00\x01\x00\x01\xfc\x03\x03",
-                   b"PRI * HTTP/2.0\r\n\r\nSM\r\n\r\n", b"HTTP/1.1 200 OK\r\n\r\n", b"\r\n", b"\r\n\r\n"):
+    for octets in (b"\0", b"\x16\x03\x01\x02\x00\x01\x00\x01\xfc\x03\x03",
+                   b"PRI * HTTP/2.0\r\n\r\nSM\r\n\r\n", b"HTTP/1.1 200 OK\r\n\r\n"):
         yield Row(octets), BAD
+    # octets that may become one
+    for octets in (b"hello", b"\r\n", b"\r\n\r\n"):
+        yield Row(octets), EARLY
 
 
 def response(line=b"HTTP/1.1 200 OK", fields=(b"Content-Length: 3",), body=b"abc", end=b"\r\n"):
     return Row(line + end + b"".join(f + end for f in fields) + end + body)
 
 
-def answered(code, length):
-    return f"{code}, a body of {length}"
+def to_end(code, body):
+    """A response that may go on, since it announces no length."""
+    return f"{code} body {printed(body)}"
 
 
-BAD_RESPONSE, LONG_RESPONSE = "a bad response", "the response is too long"
+def answered(code, body):
+    return to_end(code, body) + SETTLED
+
+
+EARLY_RESPONSE = "a bad response"
+BAD_RESPONSE, LONG_RESPONSE = EARLY_RESPONSE + SETTLED, "the response is too long" + SETTLED
+
+
+ABC = answered(200, b"abc")
 
 
 def responses():
     yield response(fields=(b"Content-Type: application/octet-stream", b"Content-Length: 35",
-                           b"Connection: close"), body=FULFILL), answered(200, 35)
-    yield response(line=b"HTTP/1.1 201 Created", fields=(), body=b"x"), answered(201, 1)
+                           b"Connection: close"), body=FULFILL), answered(200, FULFILL)
+    yield response(line=b"HTTP/1.1 201 Created", fields=(), body=b"x"), to_end(201, b"x")
     yield Row(b"hello"), BAD_RESPONSE
-    yield response(), answered(200, 3)
-    yield response(body=b"abcdef"), answered(200, 3)
-    yield response(body=b"ab"), BAD_RESPONSE
-    yield response(fields=()), answered(200, 3)
-    yield response(fields=(), body=b""), answered(200, 0)
+    yield response(), ABC
+    yield response(body=b"abcdef"), ABC
+    yield response(body=b"ab"), EARLY_RESPONSE
+    yield response(fields=()), to_end(200, b"abc")
+    yield response(fields=(), body=b""), to_end(200, b"")
     for code in (b"100", b"101", b"103", b"199", b"204", b"304", b"404", b"409", b"500", b"599",
                  b"000", b"999"):
-        yield response(line=b"HTTP/1.1 " + code + b" x"), answered(int(code), 3)
+        yield response(line=b"HTTP/1.1 " + code + b" x"), answered(int(code), b"abc")
     for line in (b"HTTP/1.1 200", b"HTTP/1.1 200 ", b"HTTP/1.0 200 OK", b"HTTP/1.1 200 a b\tc",
                  b"HTTP/1.1 200 \xff"):
-        yield response(line=line), answered(200, 3)
+        yield response(line=line), ABC
     for line in (b"HTTP/2.0 200 OK", b"HTTP/1.1 20 OK", b"HTTP/1.1 2000 OK", b"HTTP/1.1  200 OK",
                  b"HTTP/1.1 20a OK", b"HTTP/1.1 -20 OK", b"http/1.1 200 OK", b"HTTP/1.1", b" HTTP/1.1 200 OK",
                  b"HTTP/1.1 200 \0"):
@@ -212,28 +256,33 @@ def responses():
     for value in (b"+3", b"", b"3 3", b"x", b"3,3"):
         yield response(fields=(b"Content-Length: " + value,)), BAD_RESPONSE
     yield response(fields=(b"Content-Length: 3", b"Content-Length: 3")), BAD_RESPONSE
-    yield response(fields=(b"content-LENGTH:\t003 ",)), answered(200, 3)
+    yield response(fields=(b"content-LENGTH:\t003 ",)), ABC
     yield response(fields=(b"Content-Length: 65537",)), LONG_RESPONSE
     yield response(fields=(b"Content-Length: 99999999999999999999999",)), LONG_RESPONSE
     for coding in (b"chunked", b"identity", b""):
-        yield response(fields=(b"Transfer-Encoding: " + coding,)), answered(200, 0)
-    yield response(fields=(b"Transfer-Encoding: chunked", b"Content-Length: 65537")), answered(200, 0)
-    yield Row(b"HTTP/1.1 200 OK\r\nContent-Length: 65536\r\n\r\n", (BODY, b"a")), answered(200, BODY)
-    yield Row(b"HTTP/1.1 200 OK\r\n\r\n", (BODY, b"a")), answered(200, BODY)
+        yield response(fields=(b"Transfer-Encoding: " + coding,)), answered(200, b"")
+    yield response(fields=(b"Transfer-Encoding: chunked", b"Content-Length: 65537")), answered(200, b"")
+    yield response(fields=(b"Content-Length: 3", b"transfer-encoding: x")), answered(200, b"")
+    yield Row(b"HTTP/1.1 200 OK\r\nContent-Length: 65536\r\n\r\n", (BODY, b"a")), answered(200, b"a" * BODY)
+    yield Row(b"HTTP/1.1 200 OK\r\n\r\n", (BODY, b"a")), to_end(200, b"a" * BODY)
     yield Row(b"HTTP/1.1 200 OK\r\n\r\n", (BODY + 1, b"a")), LONG_RESPONSE
     start = b"HTTP/1.1 200 OK\r\nX: "
     for size in (HEAD, HEAD + 1):
         tail = b"\r\n\r\n"
-        answer = answered(200, BODY) if size == HEAD else LONG_RESPONSE
+        answer = to_end(200, b"b" * BODY) if size == HEAD else LONG_RESPONSE
         yield Row(start, (size - len(start) - 4, b"a"), tail, (BODY, b"b")), answer
     yield Row(start, (HEAD - len(start) - 4, b"a"), b"\r\n\r\n", (BODY + 1, b"b")), LONG_RESPONSE
     for count in (FIELDS, FIELDS + 1):
-        answer = answered(200, 3) if count == FIELDS else LONG_RESPONSE
+        answer = to_end(200, b"abc") if count == FIELDS else LONG_RESPONSE
         yield Row(b"HTTP/1.1 200 OK\r\n", (count, b"a: b\r\n"), b"\r\nabc"), answer
+    # too many fields and a bad line: a bad head is bad, however many fields it has
+    for lines in ((FIELDS + 1, b"a: b\r\n"), b"X : a\r\n"), (b"X : a\r\n", (FIELDS + 1, b"a: b\r\n")):
+        yield Row(b"HTTP/1.1 200 OK\r\n", *lines, b"\r\nabc"), BAD_RESPONSE
+    yield Row(b"HTTP/1.1 200 OK\r\n", (FIELDS + 1, b"a: b\r\n")), EARLY_RESPONSE
     yield response(fields=(b"X : a",)), BAD_RESPONSE
     yield response(fields=(b"X: a\r\n b",)), BAD_RESPONSE
     yield response(fields=(b"X: a\0",)), BAD_RESPONSE
-    yield response(end=b"\n"), answered(200, 3)
+    yield response(end=b"\n"), ABC
     yield response(end=b"\r"), BAD_RESPONSE
 
 

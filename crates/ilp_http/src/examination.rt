@@ -1,7 +1,9 @@
 //! Whether the octets that have come so far are a request.
-ghost use Rattle.std.specs.Prelude.{◌≡◌, ◌<◌, length};
+ghost use Rattle.std.specs.Prelude.{◌≡◌, ◌<◌, ◌≤◌, length, take};
+ghost use Rattle.httparse.specs.Grammar.{HasNoRequest};
 ghost use Rattle.httparse.specs.Spans.{IsRequestWithin};
-ghost use Rattle.ilp_http.specs.Layout.{length_at, IsSeen, IsExamined};
+ghost use Rattle.ilp_http.specs.Limits.{head_limit};
+ghost use Rattle.ilp_http.specs.Layout.{length_at, IsSeen, StayRefused, IsExamined};
 
 use crate::framing::{Framing, framing_of};
 use crate::limits::{BODY_LIMIT, FIELD_LIMIT, HEAD_LIMIT};
@@ -72,10 +74,29 @@ pub(crate) fn examine(octets: &[u8], spans: &mut [HeaderSpan]) -> Finding
             Err(refusal) => Finding::Refused(refusal),
         },
         Ok(Status::Partial) if octets.len() < HEAD_LIMIT => Finding::InHead,
-        Ok(Status::Partial) => Finding::Refused(Refusal::FieldsTooLarge),
+        Ok(Status::Partial) => Finding::Refused(long_refusal(octets, spans)),
         Err(error) => match error {
             Error::TooManyHeaders => Finding::Refused(Refusal::FieldsTooLarge),
-            _ => Finding::Refused(Refusal::BadRequest),
+            _ if octets.len() < HEAD_LIMIT => Finding::Refused(Refusal::BadRequest),
+            _ => Finding::Refused(long_refusal(octets, spans)),
+        },
+    }
+}
+
+/// Why octets are refused of which so many as a head may have are none: that they are too many comes
+/// first, unless fewer could become no head already.
+fn long_refusal(octets: &[u8], spans: &mut [HeaderSpan]) -> Refusal
+    requires spans { length spans.old ≡ FIELD_LIMIT }
+    requires long { head_limit ≤ length octets.now }
+    requires none { HasNoRequest (take head_limit octets.now) }
+    ensures { StayRefused octets.now result }
+{
+    match parse_request(&octets[..HEAD_LIMIT - 1], spans) {
+        Ok(Status::Complete(_)) => unreachable!(),
+        Ok(Status::Partial) => Refusal::FieldsTooLarge,
+        Err(error) => match error {
+            Error::TooManyHeaders => Refusal::FieldsTooLarge,
+            _ => Refusal::BadRequest,
         },
     }
 }

@@ -7,6 +7,7 @@ mod cuts;
 mod requests;
 mod responses;
 mod row;
+mod shown;
 mod written;
 
 use cuts::print_cuts;

@@ -1,12 +1,15 @@
 //! Requests, and what is told of each.
 
 use crate::row::{any_size, octets_of};
-use ilp_http::{Buffer, Look, Refusal, Request, RequestFault, look_at, read_request};
+use crate::shown::{ending, push_escaped, shown};
+use ilp_http::{Buffer, Look, Refusal, RequestFault, look_at, read_request};
 use ilp_io::Pieces;
+use std::alloc::{AllocError, Global};
 use std::rt::Files;
-use std::{fs, io, str};
+use std::{fs, io};
 
-/// Prints what each row is read as, in one piece, and whether smaller pieces or a look tell the same.
+/// Prints what each row is read as, in one piece, whether that rests on octets that follow, and whether
+/// smaller pieces or a look tell the same.
 pub(crate) fn print_requests<R: Files + Print + AllocGlobal>(rt: &R) -> io::Result<()> {
     let mut buffer = Buffer::new(rt.alloc())?;
     let rows = fs::read_to_string(rt, "requests.txt")?;
@@ -21,41 +24,42 @@ pub(crate) fn print_requests<R: Files + Print + AllocGlobal>(rt: &R) -> io::Resu
     Ok(())
 }
 
+// What is told of a row, read in one piece, and whether it rests on what follows.
 fn print_told<R: Print + AllocGlobal>(
     rt: &R,
     row: &str,
     octets: &[u8],
     buffer: &mut Buffer,
 ) -> io::Result<()> {
+    let alloc = rt.alloc();
     let mut source = Pieces::new(octets, usize::MAX);
-    match read_request(rt.alloc(), &mut source, buffer) {
-        Ok(
-            Request {
-                path,
-                headers,
-                body,
-            },
-        ) => {
-            let path = str::from_utf8(path).unwrap_or("no text");
-            let (values, length) = (headers.len(), body.len());
-            println!(rt; "{row}: {path}, {values} values, a body of {length}")
-        }
-        Err(fault) => println!(rt; "{row}: {fault}"),
-    }
+    let answer = answer_of(alloc, &mut source, buffer)?;
+    let mut failing = Pieces::failing(octets, usize::MAX, octets.len());
+    let with_failed_read = answer_of(alloc, &mut failing, buffer)?;
+    let ending = ending(answer.as_str(), with_failed_read.as_str());
+    println!(rt; "{row}: {answer}{ending}")
 }
 
-/// What a reading in pieces of this size ends with: the length of the body, or the fault.
-fn outcome_of<R: AllocGlobal>(
-    rt: &R,
-    octets: &[u8],
-    piece: usize,
+// The target, the fields and the body of the request that is read, or the fault.
+fn answer_of(
+    alloc: Global,
+    source: &mut Pieces<'_>,
     buffer: &mut Buffer,
-) -> Result<usize, RequestFault> {
-    let mut source = Pieces::new(octets, piece.max(1));
-    match read_request(rt.alloc(), &mut source, buffer) {
-        Ok(request) => Ok(request.body.len()),
-        Err(fault) => Err(fault),
+) -> Result<String, AllocError> {
+    let request = match read_request(alloc, source, buffer) {
+        Ok(request) => request,
+        Err(fault) => return fault.to_string(alloc),
+    };
+    let mut text = shown(alloc, request.path)?;
+    for (name, value) in request.headers.iter() {
+        text.push(' ')?;
+        push_escaped(&mut text, name.as_bytes())?;
+        text.push_str(": ")?;
+        text.push_str(shown(alloc, value.as_bytes())?.as_str())?;
     }
+    text.push_str(" body ")?;
+    text.push_str(shown(alloc, request.body)?.as_str())?;
+    Ok(text)
 }
 
 // A line more where these pieces give another answer than one piece does, and are few enough.
@@ -68,11 +72,13 @@ fn print_pieces<R: Print + AllocGlobal>(
     if octets.len() / piece.max(1) >= 4096 {
         return Ok(());
     }
-    let whole = outcome_of(rt, octets, usize::MAX, buffer);
-    if outcome_of(rt, octets, piece, buffer) == whole {
+    let alloc = rt.alloc();
+    let whole = answer_of(alloc, &mut Pieces::new(octets, usize::MAX), buffer)?;
+    let answer = answer_of(alloc, &mut Pieces::new(octets, piece.max(1)), buffer)?;
+    if answer.as_str() == whole.as_str() {
         return Ok(());
     }
-    println!(rt; "in pieces of {piece} octets it is something else")
+    println!(rt; "in pieces of {piece} octets it is {answer}")
 }
 
 // A line more where a look tells something else of all the octets.
@@ -81,7 +87,8 @@ fn print_look<R: Print + AllocGlobal>(
     octets: &[u8],
     buffer: &mut Buffer,
 ) -> io::Result<()> {
-    let agrees = match outcome_of(rt, octets, usize::MAX, buffer) {
+    let mut source = Pieces::new(octets, usize::MAX);
+    let agrees = match read_request(rt.alloc(), &mut source, buffer) {
         Ok(_) => look_at(octets) == Look::Whole,
         Err(RequestFault::Refused(refusal)) => agrees_on(look_at(octets), refusal),
         Err(_) => false,

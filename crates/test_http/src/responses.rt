@@ -1,12 +1,15 @@
 //! Responses, and what is told of each.
 
 use crate::row::{any_size, octets_of};
-use ilp_http::{Buffer, Response, ResponseFault, read_response};
+use crate::shown::{ending, shown};
+use ilp_http::{Buffer, Response, read_response};
 use ilp_io::Pieces;
+use std::alloc::{AllocError, Global};
 use std::rt::Files;
 use std::{fs, io};
 
-/// Prints what each row is read as, in one piece, and whether smaller pieces tell the same.
+/// Prints what each row is read as, in one piece, whether that rests on octets that follow, and whether
+/// smaller pieces tell the same.
 pub(crate) fn print_responses<R: Files + Print + AllocGlobal>(rt: &R) -> io::Result<()> {
     let mut buffer = Buffer::new(rt.alloc())?;
     let rows = fs::read_to_string(rt, "responses.txt")?;
@@ -20,29 +23,39 @@ pub(crate) fn print_responses<R: Files + Print + AllocGlobal>(rt: &R) -> io::Res
     Ok(())
 }
 
-fn print_told<R: Print>(rt: &R, row: &str, octets: &[u8], buffer: &mut Buffer) -> io::Result<()> {
-    match outcome_of(octets, usize::MAX, buffer) {
-        Ok((status, length)) => println!(rt; "{row}: {status}, a body of {length}"),
-        Err(fault) => println!(rt; "{row}: {fault}"),
-    }
+// What is told of a row, read in one piece, and whether it rests on what follows.
+fn print_told<R: Print + AllocGlobal>(
+    rt: &R,
+    row: &str,
+    octets: &[u8],
+    buffer: &mut Buffer,
+) -> io::Result<()> {
+    let alloc = rt.alloc();
+    let mut source = Pieces::new(octets, usize::MAX);
+    let answer = answer_of(alloc, &mut source, buffer)?;
+    let mut failing = Pieces::failing(octets, usize::MAX, octets.len());
+    let with_failed_read = answer_of(alloc, &mut failing, buffer)?;
+    let ending = ending(answer.as_str(), with_failed_read.as_str());
+    println!(rt; "{row}: {answer}{ending}")
 }
 
-/// What a reading in pieces of this size ends with: the status and the length of the body, or the
-/// fault.
-fn outcome_of(
-    octets: &[u8],
-    piece: usize,
+// The status and the body of the response that is read, or the fault.
+fn answer_of(
+    alloc: Global,
+    source: &mut Pieces<'_>,
     buffer: &mut Buffer,
-) -> Result<(u16, usize), ResponseFault> {
-    let mut source = Pieces::new(octets, piece.max(1));
-    match read_response(&mut source, buffer) {
-        Ok(Response { status, body }) => Ok((status, body.len())),
-        Err(fault) => Err(fault),
+) -> Result<String, AllocError> {
+    match read_response(source, buffer) {
+        Ok(Response { status, body }) => {
+            let body = shown(alloc, body)?;
+            format!(in alloc; "{status} body {body}")
+        }
+        Err(fault) => fault.to_string(alloc),
     }
 }
 
 // A line more where these pieces give another answer than one piece does, and are few enough.
-fn print_pieces<R: Print>(
+fn print_pieces<R: Print + AllocGlobal>(
     rt: &R,
     octets: &[u8],
     piece: usize,
@@ -51,9 +64,11 @@ fn print_pieces<R: Print>(
     if octets.len() / piece.max(1) >= 4095 {
         return Ok(());
     }
-    let whole = outcome_of(octets, usize::MAX, buffer);
-    if outcome_of(octets, piece, buffer) == whole {
+    let alloc = rt.alloc();
+    let whole = answer_of(alloc, &mut Pieces::new(octets, usize::MAX), buffer)?;
+    let answer = answer_of(alloc, &mut Pieces::new(octets, piece.max(1)), buffer)?;
+    if answer.as_str() == whole.as_str() {
         return Ok(());
     }
-    println!(rt; "in pieces of {piece} octets it is something else")
+    println!(rt; "in pieces of {piece} octets it is {answer}")
 }

@@ -1,9 +1,10 @@
-use Rattle.std.proofs.Common.{take, drop, sym, ◌∙◌, subst, arith, length-drop}
+use Rattle.std.proofs.lemmas.List.{append-nil}
+use Rattle.std.proofs.Common.{[], take, drop, sym, ◌∙◌, subst, arith, length-drop}
 use Rattle.httparse.specs.Grammar.{HasNoRequest, NeverHasRequest, MayBecomeRequest}
 use Rattle.httparse.specs.Spans.{RequestOverflows, RequestExceeds}
 use Rattle.ilp_http.specs.Limits.{head_limit, field_limit}
 use Rattle.ilp_http.proofs.FrontLemmas.{take_cut}
-use Rattle.ilp_http.proofs.HeadLemmas.{found-head, refused-by_head, refused-many, refused-long, refused-never}
+use Rattle.ilp_http.proofs.HeadLemmas.{found-head, front-short, refused-by_head, refused-many, refused-never}
 use Rattle.ilp_http.proofs.EarlyLemmas.{in-head, in-body}
 use Rattle.ilp_http.proofs.examination.examine.Goals as goal
 
@@ -41,13 +42,18 @@ returns-in-Ok-Partial c =
     let may_become = rw c.in-Ok-Partial.field-0-is at c.in-Ok-Partial.ensures.unfinished in
     in-head octets c.if-octets-lt-HEAD_LIMIT.true (subst HasNoRequest cut none) (subst MayBecomeRequest cut may_become)
 
-pub returns-in-Ok-Partial-2 : goal.returns-in-Ok-Partial-2
-returns-in-Ok-Partial-2 c =
-    let octets = c.args.octets.now in
-    let cut = take_cut octets c.min.result head_limit c.min.ensures in
+pub long_refusal-requires-clause-none : goal.long_refusal-requires-clause-none
+long_refusal-requires-clause-none c =
+    let cut = take_cut c.args.octets.now c.min.result head_limit c.min.ensures in
     let none = rw c.in-Ok-Partial.field-0-is at c.in-Ok-Partial.ensures.partial in
-    let may_become = rw c.in-Ok-Partial.field-0-is at c.in-Ok-Partial.ensures.unfinished in
-    refused-long octets c.if-octets-lt-HEAD_LIMIT.false (subst HasNoRequest cut none) (subst MayBecomeRequest cut may_become)
+    subst HasNoRequest cut none
+
+pub long_refusal-requires-in_default-2 : goal.long_refusal-requires-in_default-2
+long_refusal-requires-in_default-2 c =
+    let front = take c.min.result c.args.octets.now in
+    let cut = take_cut c.args.octets.now c.min.result head_limit c.min.ensures in
+    let none = subst HasNoRequest (append-nil front) (c.in-Err.ensures.invalid c.in_default-2.not-TooManyHeaders []) in
+    record { spans = c.parse_request.auto.headers ∙ c.requires; long = c.if-octets-lt-HEAD_LIMIT-2.false; none = subst HasNoRequest cut none }
 
 pub returns-in-TooManyHeaders : goal.returns-in-TooManyHeaders
 returns-in-TooManyHeaders c =
@@ -61,5 +67,5 @@ returns-in-TooManyHeaders c =
 pub returns-in_default : goal.returns-in_default
 returns-in_default c =
     let octets = c.args.octets.now in
-    let cut = take_cut octets c.min.result head_limit c.min.ensures in
+    let cut = take_cut octets c.min.result head_limit c.min.ensures ∙ front-short octets c.if-octets-lt-HEAD_LIMIT-2.true in
     refused-never octets (subst NeverHasRequest cut (c.in-Err.ensures.invalid c.in_default.not-TooManyHeaders))
