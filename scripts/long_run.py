@@ -88,17 +88,21 @@ def tell(what: str, steps: int, kinds: Counter[str], seconds: float, differences
     sys.stdout.flush()
 
 
+def all_came_up(kinds: Counter[str], wanted: list[str]) -> bool:
+    """Whether each kind of reply that is wanted came up; those that did not are told."""
+    missing = [kind for kind in wanted if not kinds[kind]]
+    for kind in missing:
+        print(f"never came up: {kind}")
+    return not missing
+
+
 def play_scripts(chosen: argparse.Namespace) -> bool:
     """Whether the first kind of runs went well."""
     start = time.monotonic()
     plans = replays.plans(chosen.connector.resolve(), chosen.seed, chosen.steps)
     steps, kinds, differences = play(replays.run, plans, chosen.jobs)
     tell("steps of scripts", steps, kinds, time.monotonic() - start, differences)
-    missing = [kind for kind in replays.KINDS if not kinds[kind]]
-    if steps >= replays.LONG_RUN and not differences and missing:
-        print(f"never came up: {', '.join(missing)}")
-        return False
-    return not differences
+    return not differences and (steps < replays.LONG_RUN or all_came_up(kinds, replays.KINDS))
 
 
 def play_conversations(chosen: argparse.Namespace) -> bool:
@@ -107,7 +111,7 @@ def play_conversations(chosen: argparse.Namespace) -> bool:
     plans = serving.conversations(chosen.connector.resolve(), chosen.seed, chosen.messages)
     steps, kinds, differences = play(serving.run, plans, chosen.jobs)
     tell("messages", steps, kinds, time.monotonic() - start, differences)
-    return not differences
+    return not differences and (steps < serving.LONG_RUN or all_came_up(kinds, serving.KINDS))
 
 
 def main(arguments: list[str]) -> int:

@@ -53,7 +53,7 @@ class Sender:
     def message(self) -> Message:
         """The next one that is determined."""
         ways: dict[Callable[[], tuple[bool, bytes]], float] = {
-            self.packet: 40, self.wrong_packet: 9, self.message_from: 5, self.late: 0.2,
+            self.packet: 50, self.wrong_packet: 9, self.message_from: 5, self.late: 0.2,
             self.settlement: 10, self.message_to: 5, self.report: 1, self.wrong_request: 9,
             self.mangled: 13, self.cut: 4, self.joined: 4, self.junk: 2}
         while True:
