@@ -29,15 +29,12 @@ from collections.abc import Callable, Iterable
 from concurrent.futures import ProcessPoolExecutor
 from pathlib import Path
 
-# What peers, engines and clients say is made by scripts/cases and scripts/vectors.
-import cases
+# First, since it lets the modules of scripts/vectors be found.
 from cases.operating import is_program, raise_own_limit
 
 from long_runs import replays, serving
 from long_runs.replays import Outcome
 from long_runs.rows import Wrong, check_rows
-
-assert cases
 
 Run = Callable[[replays.Plan], Outcome] | Callable[[serving.Conversation], Outcome]
 
