@@ -18,7 +18,7 @@ MOST_OF_A_LINE = 70_000
 WITHIN_SECONDS = 120
 
 # What must come up in a long run: replies, and edges that were just reached.
-LONG_RUN = 200_000
+LONG_RUN = 1_000_000
 KINDS = [
     "nothing", "bad line", "report: report", "hold: held",
     *(f"hold: bad packet {fault}" for fault in (
