@@ -29,15 +29,12 @@ from collections.abc import Callable, Iterable
 from concurrent.futures import ProcessPoolExecutor
 from pathlib import Path
 
-# What peers, engines and clients say is made by scripts/cases and scripts/vectors.
-import cases
+# First, since it lets the modules of scripts/vectors be found.
 from cases.operating import is_program, raise_own_limit
 
 from long_runs import replays, serving
 from long_runs.replays import Outcome
 from long_runs.rows import Wrong, check_rows
-
-assert cases
 
 Run = Callable[[replays.Plan], Outcome] | Callable[[serving.Conversation], Outcome]
 
@@ -88,17 +85,21 @@ def tell(what: str, steps: int, kinds: Counter[str], seconds: float, differences
     sys.stdout.flush()
 
 
+def all_came_up(kinds: Counter[str], wanted: list[str]) -> bool:
+    """Whether each kind of reply that is wanted came up; those that did not are told."""
+    missing = [kind for kind in wanted if not kinds[kind]]
+    for kind in missing:
+        print(f"never came up: {kind}")
+    return not missing
+
+
 def play_scripts(chosen: argparse.Namespace) -> bool:
     """Whether the first kind of runs went well."""
     start = time.monotonic()
     plans = replays.plans(chosen.connector.resolve(), chosen.seed, chosen.steps)
     steps, kinds, differences = play(replays.run, plans, chosen.jobs)
     tell("steps of scripts", steps, kinds, time.monotonic() - start, differences)
-    missing = [kind for kind in replays.KINDS if not kinds[kind]]
-    if steps >= replays.LONG_RUN and not differences and missing:
-        print(f"never came up: {', '.join(missing)}")
-        return False
-    return not differences
+    return not differences and (steps < replays.LONG_RUN or all_came_up(kinds, replays.KINDS))
 
 
 def play_conversations(chosen: argparse.Namespace) -> bool:
@@ -107,7 +108,7 @@ def play_conversations(chosen: argparse.Namespace) -> bool:
     plans = serving.conversations(chosen.connector.resolve(), chosen.seed, chosen.messages)
     steps, kinds, differences = play(serving.run, plans, chosen.jobs)
     tell("messages", steps, kinds, time.monotonic() - start, differences)
-    return not differences
+    return not differences and (steps < serving.LONG_RUN or all_came_up(kinds, serving.KINDS))
 
 
 def main(arguments: list[str]) -> int:

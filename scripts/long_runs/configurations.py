@@ -8,6 +8,9 @@ from long_runs.packets import MOST, SCHEMES
 LEAST_INTEGER, MOST_INTEGER = -2**63, 2**63 - 1
 MOST_PRICE = 2**32 - 1
 MOST_GAP = 9
+MOST_PEERS, MOST_ASSETS = 256, 64
+# With one for each peer, and three more, there are at most 4,096.
+MOST_FURTHER_ROUTES = 4_096 - MOST_PEERS - 3
 
 # Of a pair of places of assets.
 Prices = dict[tuple[int, int], tuple[int, int]]
@@ -138,9 +141,8 @@ def text_of(chance: random.Random, octets: str, most: int) -> str:
     return "".join(chance.choices(octets, k=chance.randint(1, most)))
 
 
-def drawn_assets(chance: random.Random) -> tuple[Asset, ...]:
-    """A few assets, most of whose scales lie near each other."""
-    count = chance.choice([1, 1, 2, 2, 2, 3, 4, 8])
+def drawn_assets(chance: random.Random, count: int) -> tuple[Asset, ...]:
+    """Assets, most of whose scales lie near each other."""
     middle = chance.choice([0, 2, 6, 9, 18, 240])
     assets: dict[str, Asset] = {}
     while len(assets) < count:
@@ -199,26 +201,29 @@ def drawn_peer(chance: random.Random, name: str, assets: int, large: bool) -> Pe
         engine=engine, threshold=threshold, settle_to=settle_to)
 
 
-def drawn_routes(chance: random.Random, peers: int) -> dict[str, int]:
-    """Prefixes that stand in each other, and some beside each other."""
+def drawn_routes(chance: random.Random, peers: int, further_ones: int) -> dict[str, int]:
+    """One prefix for each peer, and further ones in these and beside them."""
     schemes = [scheme for scheme in SCHEMES if scheme != "peer"]
-    own = {f"test.{'abcdefghijklmnopqrstuvwxyz'[n]}": n for n in range(peers)}
+    own = {f"test.{string.ascii_lowercase[n] if n < 26 else f'p{n}'}": n for n in range(peers)}
     further = ["", "test", "test.a.b", "test.ab", "g"]
     prefixes = set(own) | set(chance.sample(further, chance.randint(0, 3)))
-    for _ in range(chance.randint(0, 6)):
-        begin = chance.choice(sorted(prefix for prefix in prefixes if prefix) + schemes)
+    begins = sorted(prefix for prefix in prefixes if prefix) + schemes
+    for _ in range(further_ones):
         segment = text_of(chance, string.ascii_letters + string.digits + "_~-", chance.choice([1, 2, 9]))
-        prefixes.add(f"{begin}.{segment}")
+        begins.append(f"{chance.choice(begins)}.{segment}"[:200].rstrip("."))
+        prefixes.add(begins[-1])
     names = sorted(prefixes)
     chance.shuffle(names)
     return {name: own.get(name, chance.randrange(peers)) for name in names}
 
 
-def drawn_configuration(chance: random.Random, steps: int) -> Configuration:
-    """A valid configuration of a few peers, whose journal may fill within so many steps."""
+def drawn_configuration(chance: random.Random, steps: int, crowded: bool = False) -> Configuration:
+    """A valid configuration of a few peers, or of as many as there may be, whose journal may fill within
+    so many steps."""
     large = chance.random() < 0.3
-    assets = drawn_assets(chance)
-    count = chance.choice([1] + [2, 3, 4] * 4 + [6, 12])
+    assets = drawn_assets(chance, MOST_ASSETS if crowded else chance.choice([1, 1, 2, 2, 2, 3, 4, 8]))
+    count = MOST_PEERS if crowded else chance.choice([1] + [2, 3, 4] * 4 + [6, 12])
+    further = MOST_FURTHER_ROUTES if crowded else chance.randint(0, 6)
     names: set[str] = set()
     while len(names) < count:
         names.add(chance.choice(["alice", "bob", text_of(chance, string.ascii_lowercase + "0189_-", 16)]))
@@ -230,6 +235,6 @@ def drawn_configuration(chance: random.Random, steps: int) -> Configuration:
     return Configuration(
         chance.choice(["test.hub", "g.hub.one", "private.x", "self.a-b_c~d"]),
         text_of(chance, string.ascii_letters + string.digits + "-", 32),
-        assets, peers, drawn_prices(chance, assets), drawn_routes(chance, count), journal,
+        assets, peers, drawn_prices(chance, assets), drawn_routes(chance, count, further), journal,
         chance.choice([0, 1, 1_000, 1_000, 3_600_000, chance.randint(0, 10_000)]),
         chance.choice([1, 30_000, 30_000, 30_000, 3_600_000, chance.randint(1, 60_000)]))

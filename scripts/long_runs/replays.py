@@ -18,7 +18,7 @@ MOST_OF_A_LINE = 70_000
 WITHIN_SECONDS = 120
 
 # What must come up in a long run: replies, and edges that were just reached.
-LONG_RUN = 200_000
+LONG_RUN = 1_000_000
 KINDS = [
     "nothing", "bad line", "report: report", "hold: held",
     *(f"hold: bad packet {fault}" for fault in (
@@ -46,16 +46,18 @@ KINDS = [
     "a Fulfill just before the deadline", "a sweep just before a deadline", "a sweep at a deadline",
     "a sweep of equal deadlines", "a known key with an equal worth", "a credit of nothing",
     "a key that another peer has", "an ask one below the threshold", "an ask at the threshold",
-    "an ask for the most"]
+    "an ask for the most", "a script of 256 peers"]
 
 
 @dataclass(frozen=True)
 class Plan:
-    """A script that is to be run: from its seed, of so many lines."""
+    """A script that is to be run: from its seed, of so many lines. A crowded one has as many peers, assets
+    and routes as there may be."""
 
     binary: Path
     seed: int
     length: int
+    crowded: bool
 
 
 @dataclass
@@ -71,8 +73,10 @@ class Outcome:
 def plans(binary: Path, seed: int, steps: int) -> Iterator[Plan]:
     """Scripts of so many lines in all; each has a seed of its own, from the first one on."""
     while steps > 0:
-        length = min(random.Random(seed).choice([30, 100, 200, 300, 500, 800]), steps)
-        yield Plan(binary, seed, length)
+        chance = random.Random(f"the length of {seed}")
+        crowded = chance.random() < 0.01
+        length = min(100 if crowded else chance.choice([30, 100, 200, 300, 500, 800]), steps)
+        yield Plan(binary, seed, length, crowded)
         seed, steps = seed + 1, steps - length
 
 
@@ -174,7 +178,7 @@ def keep(plan: Plan, toml: str, configuration: Configuration, lines: list[bytes]
 def run(plan: Plan) -> Outcome:
     """Draws a configuration and a script, and runs it on both sides."""
     chance = random.Random(plan.seed)
-    configuration = drawn_configuration(chance, plan.length)
+    configuration = drawn_configuration(chance, plan.length, plan.crowded)
     toml = as_toml(configuration, chance)
     lines = written(chance, configuration, plan.length)
     texts, kinds = modelled(configuration, lines)
@@ -182,6 +186,7 @@ def run(plan: Plan) -> Outcome:
         file = Path(folder) / "connector.toml"
         file.write_text(toml)
         came = printed(plan.binary, file, lines)
+    kinds["a script of 256 peers"] += plan.crowded
     outcome = Outcome(plan.seed, len(lines), kinds)
     if "".join(texts) != came:
         outcome.difference = keep(plan, toml, configuration, lines)

@@ -53,7 +53,7 @@ class Sender:
     def message(self) -> Message:
         """The next one that is determined."""
         ways: dict[Callable[[], tuple[bool, bytes]], float] = {
-            self.packet: 40, self.wrong_packet: 9, self.message_from: 5, self.late: 0.2,
+            self.packet: 50, self.wrong_packet: 9, self.message_from: 5, self.late: 0.2,
             self.settlement: 10, self.message_to: 5, self.report: 1, self.wrong_request: 9,
             self.mangled: 13, self.cut: 4, self.joined: 4, self.junk: 2}
         while True:
@@ -213,13 +213,14 @@ class Sender:
     def wrong_request(self) -> tuple[bool, bytes]:
         """A request that is refused for how it is made."""
         chance, peer = self.chance, self.chance.choice(self.peers)
-        body = self.prepare(peer).octets()
+        body = self.prepare(peer).octets() if chance.random() < 0.8 else b"\x0c"
         token = f"Authorization: Bearer {self.model.configuration.peers[peer].token}"
+        shown = chance.choice([[token], [token], [], [token, token]])
         size = f"Content-Length: {len(body)}"
         return chance.choice([
             lambda: (True, self.request(chance.choice(["/", "/ilp/", "/ilp?x", "/ILP", "*", "http://h/ilp",
-                                                       "/report"]), body, token)),
-            lambda: (True, self.request("", body, token, line=chance.choice(
+                                                       "/report"]), body, *shown)),
+            lambda: (True, self.request("", body, *shown, line=chance.choice(
                 ["GET /ilp HTTP/1.1", "post /ilp HTTP/1.1", "PUT /ilp HTTP/1.0", "POST /ilp HTTP/1.2",
                  "POST  /ilp HTTP/1.1", "POST /ilp", "POST /ilp HTTP/1.1 ", "@ /ilp HTTP/1.1"]))),
             lambda: (True, self.request("/ilp", body, chance.choice(
@@ -238,5 +239,6 @@ class Sender:
                  ["X : y"], [" X: y"], [": y"], ["X"], ["X: a\0b"], ["X: a\x7fb"], ["X: " + "a" * 15_000]]))),
             lambda: (False, self.request(chance.choice(
                 ["/", "/accounts", "/accounts/nobody/settlements", "/accounts/alice/settlement", "/reports",
-                 "/accounts//messages", "/report?x", "/ilp"]), b"{}", "Idempotency-Key: k")),
+                 "/accounts//messages", "/report?x", "/ilp"]), b"{}", *chance.choice(
+                     [[], ["Idempotency-Key: k"]]))),
         ])()

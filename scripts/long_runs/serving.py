@@ -26,7 +26,17 @@ from long_runs.requests import needs_no_more
 from long_runs.senders import Message, Sender
 from long_runs.worlds import World, narrow, wide
 
-WIDE, NARROW = 1_500, 250
+WIDE, NARROW = 1_000, 500
+
+# What must come up in a long run.
+LONG_RUN = 10_000
+KINDS = [
+    *(f"status {code}" for code in (200, 201, 400, 401, 404, 405, 409, 411, 413, 431, 502, 503)),
+    "status 200, Fulfill", "status 200, Reject of a peer",
+    *(f"status 200, Reject {code}" for code in (
+        "F02", "F03", "F05", "F08", "R00", "R01", "R02", "T01", "T03", "T04")),
+    "a settlement accepted, 1 tries", "a settlement accepted, 2 tries", "a settlement refused, 1 tries"]
+
 # In seconds; settlements that are refused rest some.
 ANSWER, QUIET, END = 60.0, 40.0, 15.0
 PAUSE = 0.02
@@ -143,18 +153,18 @@ def await_quiet(world: World) -> str:
     end = time.monotonic() + QUIET
     while True:
         octets = post(world.setup.engines_port, request("/report"), ANSWER)
-        wanted = report(world.model.with_settlements(world.engines))
+        book = world.model.with_settlements(world.engines)
+        wanted = report(book)
         came = octets.partition(b"\r\n\r\n")[2].decode()
-        if came == wanted and not is_due(world):
+        if came == wanted and not is_due(book):
             return wanted
         expect_that(f"the report is not that of what was answered:\n{came}\nand not\n{wanted}",
                     time.monotonic() < end)
         time.sleep(PAUSE)
 
 
-def is_due(world: World) -> bool:
+def is_due(book: Book) -> bool:
     """Whether a settlement is open or due."""
-    book = world.model.with_settlements(world.engines)
     return any(True for _ in book.open_asks()) or any(
         peer.threshold is not None and book.balance(n) >= peer.threshold
         for n, peer in enumerate(book.configuration.peers))
@@ -191,12 +201,10 @@ def converse(world: World, messages: int, program: Program) -> Counter[str]:
         talks = [pool.submit(talk, world, sender, part) for sender, part in zip(world.senders, parts)]
         for one in talks:
             kinds += one.result()
-    for engine in world.engines:
-        kinds["engine: settlements"] += len(engine.settlements)
     check_end(world, program)
     for engine in world.engines:
-        kinds["engine: accepted"] += sum(one.accepted is True for one in engine.settlements.values())
-        kinds["engine: refused"] += sum(one.accepted is False for one in engine.settlements.values())
+        for one in engine.settlements.values():
+            kinds[f"a settlement {'accepted' if one.accepted else 'refused'}, {min(one.tries, 2)} tries"] += 1
     return kinds
 
 

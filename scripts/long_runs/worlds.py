@@ -98,7 +98,8 @@ def narrow(chance: random.Random, messages: int) -> World:
     """A configuration as scripts have it, without levels, so that no entry comes by itself."""
     drawn = drawn_configuration(chance, messages)
     peers = tuple(replace(peer, threshold=None, settle_to=None) for peer in drawn.peers)
-    drawn = replace(drawn, peers=peers, window=WINDOW, max_hold=MAX_HOLD)
+    journal = chance.randint(2, 200) if chance.random() < 0.5 else drawn.journal
+    drawn = replace(drawn, peers=peers, journal=journal, window=WINDOW, max_hold=MAX_HOLD)
     away = chance.choice(peers).name if chance.random() < 0.3 else None
     one, seen, engines, servers = outside(chance, drawn, away)
     toml, setup = arranged(chance, one)
@@ -111,13 +112,14 @@ def narrow(chance: random.Random, messages: int) -> World:
 # ---- a connector with several senders at once
 
 def wide_configuration(chance: random.Random) -> Configuration:
-    """Peers that may send whatever they do, but for one, whose least is near, and which sends alone."""
+    """Peers that may send whatever they do, but for one, whose least is near, and which sends alone. No
+    total comes near the most by what they send, but for that of the asset to which one alone sends."""
     def drawn(name: str, asset: int, least: int = DEEP, levels: bool = False) -> Peer:
         settle_to = chance.choice([0, 200, 5_000])
         return Peer(
             name, asset, token=f"{name}-{chance.getrandbits(64):x}", least=least,
             fee_ppm=chance.choice([0, 1, 10_000, 250_000]),
-            max_packet=MOST_AMOUNT if least == DEEP else None,
+            max_packet=MOST_AMOUNT,
             engine="" if levels or name == "alice" else None,
             threshold=settle_to + chance.choice([1, 500, 100_000]) if levels else None,
             settle_to=settle_to if levels else None)
