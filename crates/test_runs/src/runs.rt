@@ -77,7 +77,7 @@ pub(crate) const RUNS: [Run; 7] = [
     Run {
         name: 7,
         seed: 7,
-        before: 16_000,
+        before: 40_000,
         steps: 200,
         journal: 65_536,
     },
