@@ -162,19 +162,44 @@ INTERNAL = answer(served.response(200, T00))
 UNREACHABLE = answer(served.response(200, T01))
 
 
+def without_one(lines: list[str], ample: list[str]) -> list[str]:
+    """The ample lines without the first that isn't there."""
+    place = next((n for n, (one, other) in enumerate(zip(lines, ample)) if one != other), len(lines))
+    return ample[:place] + ample[place + 1:]
+
+
+def is_front(found: list[Answer], told: list[Answer]) -> bool:
+    """Whether these are the first that were told, of which the last may be cut short."""
+    if not found:
+        return True
+    last, whole = found[-1], told[len(found) - 1]
+    return (found[:-1] == told[:len(found) - 1] and last.handled == whole.handled
+            and last.lines == whole.lines[:len(last.lines)])
+
+
+def is_unwritten(found: list[Answer], told: list[Answer]) -> bool:
+    """Whether one response was not written whole, and the others are as told."""
+    others = [(one, other) for one, other in zip(found, told) if one.handled != "Fault(Write)"]
+    return len(found) == len(told) == len(others) + 1 and all(one == other for one, other in others)
+
+
 def judge_scene(refusals: dict[Answer, int]) -> Judge:
     """One step may be answered by a refusal, by which so many entries are missing in the book."""
     def judge(run: Run, ample: Run) -> str | None:
-        if (run.status, run.lines) == (ample.status, ample.lines):
-            return SILENT if run.denied else None
+        if not run.denied and (run.status, run.lines) == (0, ample.lines):
+            return None
+        if run.status == 0 and run.lines in [ample.lines, without_one(run.lines, ample.lines)]:
+            return SILENT
         found, told = answers_in(run.lines), answers_in(ample.lines)
         refused = [one for one in found if one in refusals]
-        if run.status == 1 and not refused and found == told[:len(found)]:
+        if run.status == 1 and is_front(found, told):
             return OWN
         if run.status == 0 and run.lines[-1] in UNOPENED:
             return run.lines[-1]
-        kept = [one for one in found if one not in refusals]
         missing = entries_in(ample.lines) - entries_in(run.lines)
+        if run.status == missing == 0 and is_unwritten(found, told):
+            return "a write failed for want of the sink's memory; what was booked stays"
+        kept = [one for one in found if one not in refusals]
         if (run.status != 0 or len(refused) != 1 or missing != refusals[refused[0]]
                 or kept not in [told[:n] + told[n + 1:] for n in range(len(told))]):
             raise Differs(f"status {run.status}, {found}, {missing} entries are missing")
