@@ -68,6 +68,8 @@ class Program:
     def run(self, library: Path, room: Path, growth: int) -> Run:
         """Runs it in this folder without this growth; there is none of the number 0."""
         binary = ROOT / "crates" / self.crate / "out" / self.crate
+        if not binary.exists():
+            raise Differs(f"{binary} is not built")
         names = {**os.environ, "LD_PRELOAD": str(library), "DENIED_GROWTH": str(growth)}
         ended = subprocess.run([binary, *self.arguments], cwd=room, input=self.given, env=names,
                                capture_output=True, text=True, timeout=60, check=False)
@@ -281,8 +283,9 @@ def deny_each(program: Program, library: Path) -> None:
         prepare_room(program, room)
         ample = program.run(library, room, 0)
         for growth in count(passed_over + 1):
+            run = program.run(library, room, growth)
             try:
-                what = program.judge(program.run(library, room, growth), ample)
+                what = program.judge(run, ample)
             except Differs as differs:
                 raise Differs(f"growth {growth}: {differs}") from None
             if what is None:
