@@ -13,13 +13,15 @@ arguments are not understood. A NAME is one of these:
 - check: `connector check -` says want of memory.
 - replay: `connector replay -` prints a front of its text, of whole lines, and then want of memory.
 - http: of two equal requests one is told as want of memory.
-- packet, settlement, message, engine, report, settler: a scene of test_scenes in which something
-  comes twice or more. Once it is answered as want of memory is there, and else as ever.
+- packet, settlement, message, engine, report, settler, page: a scene of test_scenes in which
+  something comes twice or more. One of these is answered as is due where memory is denied, and the
+  others as ever. In the last a settlement is asked for where a page of the journal ends.
 """
 import os
 import subprocess
 import sys
 import tempfile
+from bisect import bisect_left
 from collections import Counter
 from collections.abc import Callable
 from dataclasses import dataclass
@@ -54,16 +56,20 @@ Judge = Callable[[Run, Run], str | None]
 
 @dataclass(frozen=True)
 class Program:
-    """A program, what it is run with, and how its ends are judged."""
+    """A program, what it is run with, and how its ends are judged. Its first growths are passed over,
+    as many as the other program makes, if there is one."""
     crate: str
     judge: Judge
     arguments: tuple[str, ...] = ()
     given: str = ""
     data: tuple[tuple[str, str], ...] = ()
+    behind: "Program | None" = None
 
     def run(self, library: Path, room: Path, growth: int) -> Run:
         """Runs it in this folder without this growth; there is none of the number 0."""
         binary = ROOT / "crates" / self.crate / "out" / self.crate
+        if not binary.exists():
+            raise Differs(f"{binary} is not built")
         names = {**os.environ, "LD_PRELOAD": str(library), "DENIED_GROWTH": str(growth)}
         ended = subprocess.run([binary, *self.arguments], cwd=room, input=self.given, env=names,
                                capture_output=True, text=True, timeout=60, check=False)
@@ -154,30 +160,59 @@ def answer(lines: list[str]) -> Answer:
     return answers_in(lines)[0]
 
 
+# What a step may be answered where memory is denied, and how many entries are missing then.
+Refusals = dict[Answer, tuple[int, ...]]
 UNOPENED = ("no configuration: memory is short", "no desk", "no worker", "no settler")
 UNREAD = Answer("Fault(Memory)", ("body: ",))
 UNAVAILABLE = answer(served.status(503))
 BAD_GATEWAY = answer(served.status(502))
 INTERNAL = answer(served.response(200, T00))
 UNREACHABLE = answer(served.response(200, T01))
+NO_MEMORY = Answer("no memory")
 
 
-def judge_scene(refusals: dict[Answer, int]) -> Judge:
+def without_one(lines: list[str], ample: list[str]) -> list[str]:
+    """The ample lines without the first that isn't there."""
+    place = next((n for n, (one, other) in enumerate(zip(lines, ample)) if one != other), len(lines))
+    return ample[:place] + ample[place + 1:]
+
+
+def is_front(found: list[Answer], told: list[Answer]) -> bool:
+    """Whether these are the first that were told, of which the last may be cut short."""
+    if not found:
+        return True
+    last, whole = found[-1], told[len(found) - 1]
+    return (found[:-1] == told[:len(found) - 1] and last.handled == whole.handled
+            and last.lines == whole.lines[:len(last.lines)])
+
+
+def is_unwritten(found: list[Answer], told: list[Answer]) -> bool:
+    """Whether one response was not written whole, and the others are as told."""
+    others = [(one, other) for one, other in zip(found, told) if one.handled != "Fault(Write)"]
+    return len(found) == len(told) == len(others) + 1 and all(one == other for one, other in others)
+
+
+def judge_scene(refusals: Refusals) -> Judge:
     """One step may be answered by a refusal, by which so many entries are missing in the book."""
     def judge(run: Run, ample: Run) -> str | None:
-        if (run.status, run.lines) == (ample.status, ample.lines):
-            return SILENT if run.denied else None
+        if not run.denied and (run.status, run.lines) == (0, ample.lines):
+            return None
+        if run.status == 0 and run.lines in [ample.lines, without_one(run.lines, ample.lines)]:
+            return SILENT
         found, told = answers_in(run.lines), answers_in(ample.lines)
         refused = [one for one in found if one in refusals]
-        if run.status == 1 and not refused and found == told[:len(found)]:
+        if run.status == 1 and is_front(found, told):
             return OWN
         if run.status == 0 and run.lines[-1] in UNOPENED:
             return run.lines[-1]
-        kept = [one for one in found if one not in refusals]
         missing = entries_in(ample.lines) - entries_in(run.lines)
-        if (run.status != 0 or len(refused) != 1 or missing != refusals[refused[0]]
+        if run.status == missing == 0 and is_unwritten(found, told):
+            return "a write failed for want of the sink's memory; what was booked stays"
+        kept = [one for one in found if one not in refusals]
+        if (run.status != 0 or len(refused) != 1 or missing not in refusals[refused[0]]
                 or kept not in [told[:n] + told[n + 1:] for n in range(len(told))]):
-            raise Differs(f"status {run.status}, {found}, {missing} entries are missing")
+            unlike = [one for one in found if one not in told]
+            raise Differs(f"status {run.status}, {unlike}, {missing} entries are missing")
         return f"{refused[0].handled} {refused[0].lines[-1:]}"
     return judge
 
@@ -185,12 +220,13 @@ def judge_scene(refusals: dict[Answer, int]) -> Judge:
 Step = tuple[list[str], list[str]]
 
 
-def scene(steps: list[Step], refusals: dict[Answer, int], **given: bytes | str) -> Program:
+def scene(steps: list[Step], refusals: Refusals, behind: Program | None = None,
+          **given: bytes | str) -> Program:
     name, lines, _ = served.scene("a growth denied", steps, [], **given)
     folder = ROOT / "crates/test_scenes/data"
     data = {"workers.txt": "", "connections.txt": "\n".join([f"== {name}", *lines, ""]),
             "two_peers.toml": (folder / "two_peers.toml").read_text()}
-    return Program("test_scenes", judge_scene(refusals), data=tuple(data.items()))
+    return Program("test_scenes", judge_scene(refusals), data=tuple(data.items()), behind=behind)
 
 
 ANSWERS = served.fulfill(data=served.ANSWER)
@@ -200,6 +236,9 @@ MESSAGE = served.message([])
 ENGINE = served.packet([], served.for_engine(), token="b-token")
 REPORT = served.at_engines([], "/report")
 TURN = served.turn(1)
+# Two entries a packet and one of a credit make 255, and a page has room for 256: so where a settlement
+# is asked for then, there is no room for what closes it.
+PAGE = [served.packet([], prepare(0))] * 127
 
 PROGRAMS: dict[str, Program] = {
     "check": connector("check", ["ok 2 peers 1 assets 2 routes"]),
@@ -207,14 +246,32 @@ PROGRAMS: dict[str, Program] = {
                         "".join(line + "\n" for line, _ in SCRIPT)),
     "http": Program("test_http", judge_requests,
                     data=(("requests.txt", f"{ROW}\n{ROW}\n"), ("responses.txt", ""))),
-    "packet": scene([PACKET] * 2, {UNREAD: 2, INTERNAL: 2, UNREACHABLE: 0}, bob=FULFILL),
-    "settlement": scene([SETTLEMENT] * 2, {UNREAD: 0, UNAVAILABLE: 0}),
-    "message": scene([MESSAGE] * 2, {UNREAD: 0, UNAVAILABLE: 0, BAD_GATEWAY: 0}, bob=ANSWERS),
-    "engine": scene([ENGINE] * 2, {UNREAD: 0, INTERNAL: 0, UNREACHABLE: 0}, replies=served.ANSWER),
-    "report": scene([REPORT] * 2, {UNREAD: 0, UNAVAILABLE: 0}),
-    "settler": scene([served.DUE] * 2 + [TURN] * 3, {UNREAD: 0, UNAVAILABLE: 0, Answer("no memory"): 0},
-                     says="account accepted"),
+    "packet": scene([PACKET] * 2, {UNREAD: (2,), INTERNAL: (2,), UNREACHABLE: (0,)}, bob=FULFILL),
+    "settlement": scene([SETTLEMENT] * 2, {UNREAD: (0,), UNAVAILABLE: (0,)}),
+    "message": scene([MESSAGE] * 2, {UNREAD: (0,), UNAVAILABLE: (0,), BAD_GATEWAY: (0,)},
+                     bob=ANSWERS),
+    "engine": scene([ENGINE] * 2, {UNREAD: (0,), INTERNAL: (0,), UNREACHABLE: (0,)},
+                    replies=served.ANSWER),
+    "report": scene([REPORT] * 2, {UNREAD: (0,), UNAVAILABLE: (0,)}),
+    "settler": scene([served.DUE] * 2 + [TURN] * 3,
+                     {UNREAD: (0,), UNAVAILABLE: (0,), NO_MEMORY: (0,)}, says="account accepted"),
+    "page": scene(PAGE + [served.DUE] * 2 + [TURN] * 3,
+                  {UNREAD: (0,), UNAVAILABLE: (0,), NO_MEMORY: (0,)},
+                  scene(PAGE, {}, bob=FULFILL), bob=FULFILL, says="account accepted"),
 }
+
+
+def prepare_room(program: Program, room: Path) -> None:
+    for name, text in program.data:
+        (room / name).write_text(text)
+
+
+def growths_of(program: Program, library: Path, room: Path) -> int:
+    """How many growths a program makes."""
+    prepare_room(program, room)
+    most = next(n for n in (2**power for power in count()) if not program.run(library, room, n).denied)
+    return bisect_left(range(most), True, lo=1,
+                       key=lambda n: not program.run(library, room, n).denied) - 1
 
 
 def deny_each(program: Program, library: Path) -> None:
@@ -222,12 +279,13 @@ def deny_each(program: Program, library: Path) -> None:
     became = Counter[str]()
     with tempfile.TemporaryDirectory() as folder:
         room = Path(folder)
-        for name, text in program.data:
-            (room / name).write_text(text)
+        passed_over = growths_of(program.behind, library, room) if program.behind else 0
+        prepare_room(program, room)
         ample = program.run(library, room, 0)
-        for growth in count(1):
+        for growth in count(passed_over + 1):
+            run = program.run(library, room, growth)
             try:
-                what = program.judge(program.run(library, room, growth), ample)
+                what = program.judge(run, ample)
             except Differs as differs:
                 raise Differs(f"growth {growth}: {differs}") from None
             if what is None:

@@ -32,12 +32,21 @@ impl<J: Naming, R: Print + Wait> Uplink for Slow<'_, J, R> {
         _deadline: i64,
         reply: &mut Octets<A>,
     ) -> Result<(), LinkFault> {
-        let _ = print_turn(self.rt, self.desk, &mut self.sweeper);
-        let _ = print_turn(self.rt, self.desk, &mut self.sweeper);
-        let _ = print_turn(self.rt, self.desk, &mut self.sweeper);
-        let _ = print_actor(self.rt, self.sweeper.share(), self.sweeper.records());
+        let _ = print_turns(self.rt, self.desk, &mut self.sweeper);
         put(self.came, reply)
     }
+}
+
+// Prints what comes of three turns of the sweeper, and what it booked.
+fn print_turns<J: Naming, C: Clock + Drop>(
+    rt: &(impl Print + Wait),
+    desk: &Desk<J>,
+    sweeper: &mut Sweeper<J, C>,
+) -> io::Result<()> {
+    print_turn(rt, desk, sweeper)?;
+    print_turn(rt, desk, sweeper)?;
+    print_turn(rt, desk, sweeper)?;
+    print_actor(rt, sweeper.share(), sweeper.records())
 }
 
 // Prints which hold a turn of the sweeper releases.
