@@ -37,7 +37,7 @@ PREPARE = (b"\x0c\x43" + (1).to_bytes(8, "big") + b"20400101000000000"
            + bytes.fromhex("66687aadf862bd776c8fc18b8e9f8e20089714856ee233b3902a591d0d5f2925")
            + b"\x08test.bob\x00")
 
-# As many as plain Rust and nginx may need too.
+# The threads of plain Rust. The connector has twice as many, of which one sender has half.
 WORKERS = 8
 
 HAS_NGINX = shutil.which("nginx") is not None
@@ -236,12 +236,13 @@ def best(found: list[Figures]) -> Figures:
 
 def measure(bench: Bench, row: str, connections: int, delay: int, workers: int) -> None:
     """One row, for each server in turn."""
-    servers = [bench.run_connector, *[bench.run_nginx] * HAS_NGINX, bench.run_rust]
+    servers = [(bench.run_connector, 2 * workers), *[(bench.run_nginx, 0)] * HAS_NGINX,
+               (bench.run_rust, workers)]
     found: dict[str, list[Figures]] = {}
     with bench.run_peer(delay) as peer:
         for _ in range(ROUNDS):
-            for start in servers:
-                with start(peer.port, workers) as server:
+            for start, threads in servers:
+                with start(peer.port, threads) as server:
                     bench.load(server, connections, 1)
                     found.setdefault(server.name, []).append(bench.load(server, connections, SECONDS))
     connector = best(found["connector"])
@@ -303,8 +304,8 @@ def run(bench: Bench) -> None:
         for connections in (1, 8, 64, 256):
             measure(bench, f"{connections} at once", connections, 0, WORKERS)
     if "delay" in ROWS:
-        for workers in (4, 16, 64):
-            measure(bench, f"50 ms, {workers} workers", 64, 50, workers)
+        for workers in (4, 16, 32):
+            measure(bench, f"50 ms, {workers} at once", 64, 50, workers)
     if "drip" in ROWS:
         measure_beside_drips(bench, 1_000, 8)
     if "long" in ROWS:
