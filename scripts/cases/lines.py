@@ -51,8 +51,8 @@ FORMS = [re.compile(form) for form in (
     rf"info rejects to {NAME}: .+",
     rf"warn work waits for a worker, for {SECONDS} now: of \d+ workers? {WAIT}(, {WAIT})*{MORE}",
     rf"info no work waits for a worker any more, after {SECONDS}",
-    r"warn journal: \d+ of \d+ entries, (80|90) percent",
-    r"error journal: \d+ of \d+ entries, 95 percent",
+    r"warn journal: \d+ of \d+ entries, (8\d|9[0-4]) percent",
+    r"error journal: \d+ of \d+ entries, (9[5-9]|100) percent",
     r"error journal: full, with \d+ of \d+ entries: packets get T03, and credits 503",
     r"error clock: \d+\.\d{3} seconds behind the last moment of the book, so that packets come too late",
 )]
