@@ -228,7 +228,7 @@ fn close_left<J: Naming>(rt: &impl Print, left: NotGathered<J>, missing: End<J>)
     let mut ends = ends;
     let _ = println!(rt; "not gathered: {why}, {} ends are left", ends.len());
     let _ = ends.push(missing);
-    print_gathered(rt, desk, ends)
+    print_gathered(rt, desk.into_desk(), ends)
 }
 
 fn print_gathered<J: Naming>(rt: &impl Print, desk: Desk<J>, ends: Vec<End<J>>) -> io::Result<()> {
