@@ -72,9 +72,10 @@ impl<K: Copy> Connection<K> {
         self.accepted
     }
 
-    /// Has events tell of it, if none does. It is lost where the system refuses that.
+    /// Has events tell of it, if none does and more of its request has to come. It is lost where the
+    /// system refuses that.
     pub(crate) fn register(&mut self, registry: &Registry) {
-        if self.registered {
+        if self.registered || !self.is_waiting() {
             return;
         }
         let interest = Interest::READABLE;

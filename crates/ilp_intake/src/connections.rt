@@ -25,7 +25,7 @@ pub(crate) struct Connections<K> {
     most: usize,
     // The number of the next one.
     next: usize,
-    // Whether there may be some of which no event tells yet.
+    // Whether there may be some that wait for more, and of which no event tells yet.
     has_new: bool,
     // When the intake was closed.
     closed: Option<Duration>,
@@ -116,11 +116,12 @@ impl<K: Copy> Connections<K> {
         let mut connection = Connection::new(alloc, self.next, stream, now);
         connection.read(admission);
         self.next = self.next.wrapping_add(1);
-        self.has_new = true;
+        self.has_new = self.has_new || connection.is_waiting();
         let _ = self.waiting.push(connection);
     }
 
-    /// Has events tell of all that wait. One of which the system refuses that is closed.
+    /// Has events tell of all whose request has not come whole. One of which the system refuses that is
+    /// closed.
     pub(crate) fn register_new(&mut self, registry: &Registry) {
         if !self.has_new {
             return;
