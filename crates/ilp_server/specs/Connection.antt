@@ -1,11 +1,11 @@
 -- What becomes of a connection: what was read of it, what the worker made of that, and what was written.
-use Rattle.std.specs.Prelude.{◌≡◌, ℕ, List, Option, Result, Ok, Err, IfSome, IfOk, IsErrOf}
+use Rattle.std.specs.Prelude.{◌≡◌, ◌≢◌, ℕ, List, Option, Result, Ok, Err, IfSome, IfOk, IsErrOf}
 use Rattle.std.specs.Io.KnownBytes.{Appends}
 use Rattle.ilp_io.specs.Counts.{Tally, Tallies, TalliesUpTo, CountsUp}
 use Rattle.ilp_io.specs.Writing.{AppendsProperPrefix}
+use Rattle.ilp_http.specs.Limits.{most_reads}
 use Rattle.ilp_http.specs.Writing.{response_text}
-use Rattle.ilp_http.specs.Answer.{IsAnswer, HasPartsOf, failed_reads}
-use Rattle.ilp_http.specs.declared.limits.TheConstants.{MOST_READS}
+use Rattle.ilp_http.specs.Answer.{IsAnswer, HasPartsOf, AnswersInTime, failed_reads}
 use Rattle.ilp_http.specs.declared.status.Status.{Status}
 use Rattle.ilp_http.specs.declared.refusal.RequestFault.{RequestFault}
 use Rattle.ilp_http.specs.declared.refusal.RequestFault.TheVariants as request_fault
@@ -78,13 +78,14 @@ pub record Wire : Type 0 where
 abbrev pub wire : Option (List ℕ) → Option Tally → Option (List ℕ) → Option ℕ → Wire
 wire input reads output failures = record { input = input; reads = reads; output = output; failures = failures }
 
--- One request is read of a connection, a worker serves it, and one response is written.
-pub record Answers (desk : PlainDesk) (side : Side) (old new : Wire) (before after : PlainWorker) (handled : Handled) : Type 0 where
+-- One request is read of a connection, in time, a worker serves it, and one response is written. Where a read failed, it is not said that it was in time.
+pub record Answers {S : Type 0} (pulled : S → List ℕ → S → Type 0) (start end : S) (desk : PlainDesk) (side : Side) (old new : Wire) (before after : PlainWorker) (handled : Handled) : Type 0 where
   pub request : Result Request RequestFault
   pub read : IfSome old.input (λ octets. IsAnswer octets request)
   pub begun : IfOk request (λ found. (octets : List ℕ) × HasPartsOf octets found)
-  pub counted : TalliesUpTo old.reads new.reads MOST_READS (failed_reads request)
-  pub patient : IsErrOf request request_fault.TooManyReads → Tallies old.reads new.reads MOST_READS 0
+  pub timely : request ≢ Err request_fault.Failed → AnswersInTime pulled start end request
+  pub counted : TalliesUpTo old.reads new.reads most_reads (failed_reads request)
+  pub patient : IsErrOf request request_fault.TooManyReads → Tallies old.reads new.reads most_reads 0
   pub outcome : Result (Result Served NotServed) ConnectionFault
   pub served : IsOutcome desk side request before after outcome
   pub told : IsHandled after outcome old.output new.output handled

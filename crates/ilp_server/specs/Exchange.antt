@@ -1,11 +1,12 @@
 -- A request that is sent, and what comes back for it.
-use Rattle.std.specs.Prelude.{ℕ, List, ⊤, Result, Ok, Err, Option}
+use Rattle.std.specs.Prelude.{◌≢◌, ℕ, List, ⊤, Result, Ok, Err, Option}
 use Rattle.std.specs.Io.KnownBytes.{Appends}
 use Rattle.ilp_io.specs.Writing.{AppendsProperPrefix}
 use Rattle.ilp_http.specs.Response.{IsResponse}
-use Rattle.ilp_http.specs.ResponseAnswer.{IsResponseFault}
+use Rattle.ilp_http.specs.ResponseAnswer.{IsResponseFault, AnswersInTime}
 use Rattle.ilp_http.specs.ResponseAnswer as response
 use Rattle.ilp_http.specs.declared.response.Response.{Response}
+use Rattle.ilp_http.specs.declared.response.ResponseFault.TheVariants.{Failed}
 use Rattle.ilp_server.specs.declared.exchange.PostFault.{PostFault}
 use Rattle.ilp_server.specs.declared.exchange.PostFault.TheVariants.{Unsent, Unanswered}
 
@@ -20,6 +21,12 @@ abbrev pub IsResponseRead : List ℕ → Result Response PostFault → Type 0
 IsResponseRead input (Ok came) = IsResponse input came.status came.body.now
 IsResponseRead input (Err Unsent) = ⊤
 IsResponseRead input (Err (Unanswered fault)) = IsResponseFault input fault
+
+-- The response was read in time. Where a read failed, or the request is unsent, nothing is said.
+abbrev pub IsReadInTime : {S : Type 0} → (S → List ℕ → S → Type 0) → S → S → Result Response PostFault → Type 0
+IsReadInTime pulled old new (Ok came) = AnswersInTime pulled old new (Ok came)
+IsReadInTime pulled old new (Err Unsent) = ⊤
+IsReadInTime pulled old new (Err (Unanswered fault)) = fault ≢ Failed → AnswersInTime pulled old new (Err fault)
 
 -- how many writes failed
 abbrev pub failed_writes : {T : Type 0} → Result T PostFault → ℕ

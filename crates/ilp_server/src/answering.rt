@@ -43,7 +43,7 @@ pub fn answer_connection<
     sink: &mut W,
     buffer: &mut Buffer,
 ) -> Handled
-    ensures { Answers J.desk side
+    ensures { Answers S.pulled source.old source.new J.desk side
         (wire (S.remaining source.old) (S.tally source.old) (W.contents sink.old) (W.failures sink.old))
         (wire (S.remaining source.new) (S.tally source.new) (W.contents sink.new) (W.failures sink.new))
         worker.old worker.new result }

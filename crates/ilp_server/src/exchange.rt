@@ -1,12 +1,11 @@
 //! A request that is sent, and what comes back for it.
 ghost use Rattle.std.specs.Prelude.{◌≡◌, IfSome, IsErrOf};
 ghost use Rattle.ilp_io.specs.Counts.{CountsUp, Tallies, TalliesUpTo};
+ghost use Rattle.ilp_http.specs.Limits.{most_reads};
 ghost use Rattle.ilp_http.specs.Writing.{request_text};
-ghost use Rattle.ilp_server.specs.Exchange.{IsRequestWritten, IsResponseRead, failed_writes, failed_reads};
+ghost use Rattle.ilp_server.specs.Exchange.{IsRequestWritten, IsResponseRead, IsReadInTime, failed_writes, failed_reads};
 
-use ilp_http::{
-    Buffer, MOST_READS, Outgoing, Response, ResponseFault, read_response, write_request,
-};
+use ilp_http::{Buffer, Outgoing, Response, ResponseFault, read_response, write_request};
 use ilp_io::{Sink, Source};
 use thiserror::Error;
 
@@ -35,12 +34,14 @@ pub fn post<'b, W: Sink, S: Source>(
     ensures sent { IsRequestWritten (W.contents sink.old) (W.contents sink.new)
         (request_text head.now body.now) result }
     ensures answered { IfSome (S.remaining source.old) (λ input. IsResponseRead input result) }
+    // Of any source: it is not read once the answer rests on no octet that may follow.
+    ensures timely { IsReadInTime S.pulled source.old source.new result }
     ensures unread { IsErrOf result PostFault.Unsent → source.new ≡ source.old }
     ensures writes { CountsUp (W.failures sink.old) (W.failures sink.new) (failed_writes result) }
     ensures reads { TalliesUpTo (S.tally source.old) (S.tally source.new)
-        MOST_READS (failed_reads result) }
+        most_reads (failed_reads result) }
     ensures patient { IsErrOf result (PostFault.Unanswered ResponseFault.TooManyReads)
-        → Tallies (S.tally source.old) (S.tally source.new) MOST_READS 0 }
+        → Tallies (S.tally source.old) (S.tally source.new) most_reads 0 }
 {
     let Ok(()) = write_request(sink, head, body) else {
         return Err(PostFault::Unsent);
