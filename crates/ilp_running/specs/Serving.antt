@@ -41,7 +41,7 @@ pub record IsClosed (desk : PlainDesk) (book : PlainBook) : Type 0 where
   pub gathered : IsGathered desk book ends
 
 -- A book of the desk in the end, and ends that are not gathered with it, for this reason.
-pub record IsRefused (desk : PlainDesk) (reason : WhyNotGathered) : Type 0 where
+pub record IsNotGathered (desk : PlainDesk) (reason : WhyNotGathered) : Type 0 where
   pub book : PlainBook
   pub ends : List Holding
   pub lawful : IsBookOf desk book
@@ -51,7 +51,7 @@ pub record IsRefused (desk : PlainDesk) (reason : WhyNotGathered) : Type 0 where
 abbrev pub ClosesDesk : PlainDesk → Result PlainBook ServeFault → Type 0
 ClosesDesk desk (Ok book) = IsClosed desk book
 ClosesDesk desk (Err Write) = ⊥
-ClosesDesk desk (Err (NotGathered reason)) = IsRefused desk reason
+ClosesDesk desk (Err (NotGathered reason)) = IsNotGathered desk reason
 ClosesDesk desk (Err (Unprinted reason)) = ⊤
 
 -- The report of the book was printed; or a write of it failed; or nothing was printed.
@@ -66,5 +66,5 @@ Prints book old new (Err (Unprinted reason)) = new ≡ old
 abbrev pub EndsWithReport : PlainDesk → Option (List ℕ) → Option (List ℕ) → Result (Unit {0}) ServeFault → Type 0
 EndsWithReport desk old new (Ok done) = (book : PlainBook) × IsClosed desk book × Prints book old new (Ok done)
 EndsWithReport desk old new (Err Write) = (book : PlainBook) × IsClosed desk book × Prints book old new (Err Write)
-EndsWithReport desk old new (Err (NotGathered reason)) = IsRefused desk reason × (new ≡ old)
+EndsWithReport desk old new (Err (NotGathered reason)) = IsNotGathered desk reason × (new ≡ old)
 EndsWithReport desk old new (Err (Unprinted reason)) = new ≡ old

@@ -155,7 +155,7 @@ impl Places {
 
     /// Gives the place of a connection back that was served. Tells at which sides others wait for one:
     /// they are to ask again.
-    pub(crate) fn served(&self, rt: &impl Wait, work: Work) -> HeldBack {
+    pub(crate) fn give_back_served(&self, rt: &impl Wait, work: Work) -> HeldBack {
         let mut taken = self.taken.lock(rt);
         let taken = &mut *taken;
         taken.give_back(work);

@@ -35,7 +35,7 @@ pub(crate) fn serve_connections<
         if !shared.ending.is_over(rt) {
             serve_job(&shared, &mut responder, job);
         }
-        let held_back = shared.places.served(rt, kind);
+        let held_back = shared.places.give_back_served(rt, kind);
         shared.ending.look_again(held_back);
     }
     let Responder { worker, buffer: _ } = responder;
