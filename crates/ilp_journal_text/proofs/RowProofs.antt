@@ -1,0 +1,17 @@
+-- The worked texts compute.
+use Rattle.std.proofs.Common.{refl}
+use Rattle.std.specs.Fmt.{digits}
+use Rattle.hex.proofs.OnLiterals.{hex_on_literals}
+use Rattle.ilp_journal_text.specs.Rows.{PaidRow, ReleasedRow, EmptyRow}
+
+pub paid_row : PaidRow
+unfolding digits hex_on_literals
+paid_row = refl
+
+pub released_row : ReleasedRow
+unfolding digits hex_on_literals
+released_row = refl
+
+pub empty_row : EmptyRow
+unfolding digits
+empty_row = refl

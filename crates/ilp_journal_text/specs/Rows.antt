@@ -1,0 +1,76 @@
+-- Worked texts. Alice and bob are the peers 0 and 1.
+use Rattle.std.specs.Prelude.{◌≡◌, ℕ, pos, List, [], ◌∷◌, ◌++◌, codes, replicate}
+use Rattle.ilp_accounts.specs.Configuration.{Configuration, PlainPeer, nobody}
+use Rattle.ilp_journal.specs.declared.entry.Entry.{Entry}
+use Rattle.ilp_journal.specs.declared.entry.What.{What}
+use Rattle.ilp_journal.specs.declared.entry.What.TheVariants as what
+use Rattle.ilp_journal.specs.declared.entry.Cause.TheVariants.{Late, WrongPreimage, NoReply, Peer}
+use Rattle.ilp_journal_text.specs.Text.{journal_text}
+
+abbrev pub named : List ℕ → PlainPeer
+named name = record nobody { name = name }
+
+abbrev pub config : Configuration
+config = record {
+  settings = record {
+    address = codes "test.hub";
+    run = codes "r1";
+    listen = [];
+    engine_listen = [];
+    path = [];
+    workers = 1;
+    journal = 16;
+    window_ms = 1000;
+    max_hold_ms = 30000;
+    sweep_ms = 100;
+    settle_ms = 1000;
+  };
+  table = record { assets = []; prices = [] };
+  peers = named (codes "alice") ∷ named (codes "bob") ∷ [];
+  routes = [];
+}
+
+-- what the worker 0 books at a moment
+abbrev pub booked : ℕ → What → Entry
+booked moment what = record { moment = pos moment; actor = 0; what = what }
+
+abbrev pub hold : What
+hold = what.Hold (record { from = 0; to = 1; amount = 100; fee = 1; out = 99; deadline = pos 29000; condition = replicate 32 7 })
+
+-- a payment, a settlement from alice and one to bob
+abbrev pub PaidRow : Type 0
+PaidRow = journal_text config (
+    booked 0 hold
+    ∷ booked 500 (what.Fulfilled 0 (replicate 32 171))
+    ∷ booked 500 (what.Credited (record { peer = 0; key = codes "k~"; named = 1999999999; scale = 9; credited = 199 }))
+    ∷ booked 600 (what.Asked (record { peer = 1; amount = 800 }))
+    ∷ booked 700 (what.Undone 3)
+    ∷ []) ≡
+    codes "ilp-journal 1\n"
+    ++ codes "0 0 hold alice bob 100 1 99 29000 0707070707070707070707070707070707070707070707070707070707070707\n"
+    ++ codes "500 0 fulfilled 0 abababababababababababababababababababababababababababababababab\n"
+    ++ codes "500 0 credited alice 6b7e 1999999999 9 199\n"
+    ++ codes "600 0 asked bob 800\n"
+    ++ codes "700 0 undone 3\n"
+    ++ codes "end 5\n"
+
+-- each cause of a release
+abbrev pub ReleasedRow : Type 0
+ReleasedRow = journal_text config (
+    booked 1 (what.Released 0 Late)
+    ∷ booked 2 (what.Released 1 WrongPreimage)
+    ∷ booked 3 (what.Released 2 NoReply)
+    ∷ booked 4 (what.Released 3 (Peer (codes "F99")))
+    ∷ booked 5 (what.Confirmed 10)
+    ∷ []) ≡
+    codes "ilp-journal 1\n"
+    ++ codes "1 0 released 0 Late\n"
+    ++ codes "2 0 released 1 WrongPreimage\n"
+    ++ codes "3 0 released 2 NoReply\n"
+    ++ codes "4 0 released 3 Peer 463939\n"
+    ++ codes "5 0 confirmed 10\n"
+    ++ codes "end 5\n"
+
+-- no entry
+abbrev pub EmptyRow : Type 0
+EmptyRow = journal_text config [] ≡ codes "ilp-journal 1\nend 0\n"

@@ -1,0 +1,118 @@
+//! The line of an entry.
+ghost use Rattle.std.specs.Prelude.{◌≡◌, ◌≤◌, ◌++◌, length};
+ghost use Rattle.std.specs.List.{flat_map};
+ghost use Rattle.ilp_journal_text.specs.Text.{after_space, name_at, cause_fields, what_fields, entry_line};
+
+use crate::line::Line;
+use ilp_accounts::Config;
+use ilp_journal::{Cause, Credited, Entry, Hold, What};
+
+// The most octets that stand before what an entry's line tells.
+const LONGEST_FRONT: usize = 81;
+
+/// The line of an entry.
+pub(crate) fn entry_line(config: &Config, entry: &Entry) -> Line
+    ensures { result ≡ entry_line config.now entry.now }
+{
+    let mut line = Line::at(entry.moment);
+    line.number(u64::from(entry.actor));
+    put_what(&mut line, config, &entry.what);
+    line.end();
+    line
+}
+
+// Adds what happened.
+fn put_what(line: &mut Line, config: &Config, what: &What)
+    requires front { length line.old ≤ LONGEST_FRONT }
+    ensures octets { line.new ≡ line.old ++ flat_map after_space (what_fields config.now what.now) }
+    ensures short { length line.new ≤ 511 }
+{
+    match what {
+        What::Hold(hold) => put_hold(line, config, hold),
+        What::Fulfilled { hold, preimage } => {
+            line.word("fulfilled");
+            line.number(u64::from(*hold));
+            line.hexadecimal(preimage);
+        }
+        What::Released { hold, cause } => {
+            line.word("released");
+            line.number(u64::from(*hold));
+            put_cause(line, *cause);
+        }
+        What::Credited(credited) => put_credited(line, config, credited),
+        What::Asked(ask) => {
+            line.word("asked");
+            line.word(name_of(config, ask.peer));
+            line.number(ask.amount);
+        }
+        What::Confirmed { ask } => {
+            line.word("confirmed");
+            line.number(u64::from(*ask));
+        }
+        What::Undone { ask } => {
+            line.word("undone");
+            line.number(u64::from(*ask));
+        }
+    }
+}
+
+// Adds a hold.
+fn put_hold(line: &mut Line, config: &Config, hold: &Hold)
+    requires front { length line.old ≤ LONGEST_FRONT }
+    ensures octets { line.new ≡ line.old
+        ++ flat_map after_space (what_fields config.now (What.Hold hold.now)) }
+    ensures short { length line.new ≤ 511 }
+{
+    line.word("hold");
+    line.word(name_of(config, hold.from));
+    line.word(name_of(config, hold.to));
+    line.number(hold.amount);
+    line.number(hold.fee);
+    line.number(hold.out);
+    line.moment(hold.deadline);
+    line.hexadecimal(&hold.condition);
+}
+
+// Adds a credit.
+fn put_credited(line: &mut Line, config: &Config, credited: &Credited)
+    requires front { length line.old ≤ LONGEST_FRONT }
+    ensures octets { line.new ≡ line.old
+        ++ flat_map after_space (what_fields config.now (What.Credited credited.now)) }
+    ensures short { length line.new ≤ 511 }
+{
+    line.word("credited");
+    line.word(name_of(config, credited.peer));
+    line.hexadecimal(credited.key.as_slice());
+    line.wide_number(credited.named);
+    line.number(u64::from(credited.scale));
+    line.number(credited.credited);
+}
+
+// Adds why a hold was released.
+fn put_cause(line: &mut Line, cause: Cause)
+    requires front { length line.old ≤ 200 }
+    ensures octets { line.new ≡ line.old ++ flat_map after_space (cause_fields cause) }
+    ensures short { length line.new ≤ 511 }
+{
+    match cause {
+        Cause::Late => line.word("Late"),
+        Cause::WrongPreimage => line.word("WrongPreimage"),
+        Cause::NoReply => line.word("NoReply"),
+        Cause::Peer(code) => {
+            line.word("Peer");
+            line.hexadecimal(&code);
+        }
+    }
+}
+
+// The name of a peer, empty where there is no such peer.
+fn name_of(config: &Config, peer: u32) -> &str
+    ensures name { result.now ≡ name_at config.now peer }
+    ensures short { length result.now ≤ 16 }
+{
+    if peer < config.peers() {
+        config.name(peer)
+    } else {
+        ""
+    }
+}

@@ -1,0 +1,70 @@
+//! Writing the text of a journal.
+ghost use Rattle.std.specs.Prelude.{◌++◌, length, is_err, OnOk, OnErr, codes, if◌then◌else◌};
+ghost use Rattle.std.specs.List.{flat_map};
+ghost use Rattle.std.specs.Io.KnownBytes.{Appends};
+ghost use Rattle.ilp_io.specs.Counts.{CountsUp};
+ghost use Rattle.ilp_io.specs.Writing.{AppendsProperPrefix};
+ghost use Rattle.ilp_journal_text.specs.Text.{entry_line, end_line, journal_text};
+
+use crate::entry::entry_line;
+use crate::line::Line;
+use ilp_accounts::Config;
+use ilp_io::{Sink, WriteFault, put_all};
+use ilp_journal::{Entry, Journal};
+use std::alloc::Allocator;
+
+/// Writes the text of a journal, line by line, with the peers' names in the configuration. No memory
+/// is taken.
+///
+/// It is refused only where a write fails or takes no octet. Then a front of the text was taken, and
+/// not all of it.
+pub fn put_journal<A: Allocator, W: Sink>(
+    config: &Config,
+    journal: &Journal<A>,
+    sink: &mut W,
+) -> Result<(), WriteFault>
+    ensures ok { OnOk result (Appends (W.contents sink.old) (W.contents sink.new)
+        (journal_text config.now journal.now.entries)) }
+    ensures err { OnErr result (AppendsProperPrefix (W.contents sink.old) (W.contents sink.new)
+        (journal_text config.now journal.now.entries)) }
+    ensures failed { CountsUp (W.failures sink.old) (W.failures sink.new)
+        (if is_err result then 1 else 0) }
+{
+    put_all(sink, b"ilp-journal 1\n")?;
+    put_entries(config, journal, sink)?;
+    put_all(sink, Line::last(journal.len()).as_slice())
+}
+
+// The lines of the entries.
+fn put_entries<A: Allocator, W: Sink>(
+    config: &Config,
+    journal: &Journal<A>,
+    sink: &mut W,
+) -> Result<(), WriteFault>
+    ensures ok { OnOk result (Appends (W.contents sink.old) (W.contents sink.new)
+        (flat_map (entry_line config.now) journal.now.entries)) }
+    ensures err { OnErr result (AppendsProperPrefix (W.contents sink.old) (W.contents sink.new)
+        (flat_map (entry_line config.now) journal.now.entries)) }
+    ensures failed { CountsUp (W.failures sink.old) (W.failures sink.new)
+        (if is_err result then 1 else 0) }
+{
+    for number in 0..journal.len() {
+        let Some(entry) = journal.get(number) else {
+            unreachable!();
+        };
+        put_entry(config, entry, sink)?;
+    }
+    Ok(())
+}
+
+// The line of an entry.
+fn put_entry<W: Sink>(config: &Config, entry: &Entry, sink: &mut W) -> Result<(), WriteFault>
+    ensures ok { OnOk result (Appends (W.contents sink.old) (W.contents sink.new)
+        (entry_line config.now entry.now)) }
+    ensures err { OnErr result (AppendsProperPrefix (W.contents sink.old) (W.contents sink.new)
+        (entry_line config.now entry.now)) }
+    ensures failed { CountsUp (W.failures sink.old) (W.failures sink.new)
+        (if is_err result then 1 else 0) }
+{
+    put_all(sink, entry_line(config, entry).as_slice())
+}
