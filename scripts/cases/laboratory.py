@@ -58,10 +58,11 @@ class Laboratory:
         return self.keep(connect(port))
 
     def start(self, setup: Setup, descriptors: int = DESCRIPTORS, errors: int | None = None,
-              argument: str | None = None, output: int | None = None) -> Program:
+              argument: str | None = None, output: int | None = None,
+              threads: int | None = None) -> Program:
         """A program that was started, and may not listen yet."""
         folder = Path(self.stack.enter_context(tempfile.TemporaryDirectory(prefix="server-check-")))
-        program = Program(self.binary, folder, setup, descriptors, errors, argument, output)
+        program = Program(self.binary, folder, setup, descriptors, errors, argument, output, threads)
         self.stack.callback(program.kill)
         self.programs.append(program)
         return program

@@ -64,6 +64,24 @@ def configuration_that_is_refused(laboratory: Laboratory) -> None:
 
 
 @case
+def thread_that_is_not_started(laboratory: Laboratory) -> None:
+    """One after the other, of two workers, sweeper, settler, watcher and two intakes. Those that run end,
+    or the program would not. With room for all of them it serves."""
+    setup = Setup(top={"workers": 2})
+    for threads in range(7):
+        program = laboratory.start(setup, threads=threads)
+        expect(f"{threads} threads: the exit status", program.end(5.0), 1)
+        expect(f"{threads} threads: standard output", program.output(), "refused 67 SpawnFault\n")
+        listening, *others = [line.said for line in program.lines()]
+        expect_that(f"the first line is {listening!r}", listening.startswith("info listening at "))
+        expect(f"{threads} threads: other lines", others, ["error a thread can't be started"])
+    program = laboratory.start(setup, threads=7)
+    program.await_listening()
+    expect("a credit", credit(program, 7), created(quantity(7, 2)))
+    close(program, bob=7)
+
+
+@case
 def built_in_configuration(laboratory: Laboratory) -> None:
     """`-` is the built-in one; its ports 7768 and 7769, and bob's 7002, are to be free."""
     setup = Setup(listen=f"{HERE}:7768", engine_listen=f"{HERE}:7769", token="a-token")

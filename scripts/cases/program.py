@@ -16,6 +16,10 @@ from cases.stand_ins import free_port
 
 DESCRIPTORS = 4096
 
+# In octets: the stack of each thread where a program has room for so many threads alone, and its room for
+# all else, which is less than a stack.
+STACK, BESIDE = 2**30, 3 * 2**28
+
 # Where the program runs, clocks on walls are not those of UTC.
 ZONE = "AWAY-5:45"
 RUN = "r1"
@@ -110,13 +114,23 @@ def numbers_in(text: str) -> list[int]:
     return numbers
 
 
+def limit_threads(threads: int) -> None:
+    """Leaves room for the stacks of so many threads. The C library gives a thread as much stack as the
+    first one may have. A limit of processes would not hold for root."""
+    _, most = resource.getrlimit(resource.RLIMIT_STACK)
+    resource.setrlimit(resource.RLIMIT_STACK, (STACK, most))
+    room = threads * STACK + BESIDE
+    resource.setrlimit(resource.RLIMIT_AS, (room, room))
+
+
 class Program:
     """`connector serve` over a configuration, or with another argument that is given. Its two streams
-    go to files, or to other descriptors that are given."""
+    go to files, or to other descriptors that are given. It can start so many threads where that is
+    given."""
 
     def __init__(self, binary: Path, folder: Path, setup: Setup, descriptors: int = DESCRIPTORS,
                  errors: int | None = None, argument: str | None = None,
-                 output: int | None = None) -> None:
+                 output: int | None = None, threads: int | None = None) -> None:
         self.setup = setup
         self.folder = folder
         self.started = time.time()
@@ -125,6 +139,8 @@ class Program:
 
         def limit() -> None:
             resource.setrlimit(resource.RLIMIT_NOFILE, (descriptors, descriptors))
+            if threads is not None:
+                limit_threads(threads)
 
         with open(folder / "stdout", "wb") as printed, open(folder / "stderr", "wb") as told:
             self.child = subprocess.Popen(
@@ -170,7 +186,7 @@ class Program:
     def refused_to_run(self) -> bool:
         """Whether its configuration was refused, which is told without a time."""
         text = self.output()
-        return text.startswith("refused ") and not text.startswith("refused 66 ")
+        return text.startswith("refused ") and not text.startswith(("refused 66 ", "refused 67 "))
 
     def await_listening(self, within: float = 10.0) -> None:
         """Waits for the line that says that it listens."""

@@ -7,6 +7,7 @@ mod running;
 mod sockets;
 
 use ilp_workers::Clock;
+use std::sync::atomic::{AtomicI64, Ordering};
 
 // 2025-01-01T00:00:00Z.
 const START: i64 = 1_735_689_600_000;
@@ -18,6 +19,16 @@ struct Still;
 impl Clock for Still {
     fn now(&mut self) -> i64 {
         START
+    }
+}
+
+/// A clock that tells the moment that it was set to last, by whichever thread.
+#[derive(Clone, Copy)]
+struct Settable<'a>(&'a AtomicI64);
+
+impl Clock for Settable<'_> {
+    fn now(&mut self) -> i64 {
+        self.0.load(Ordering::SeqCst)
     }
 }
 

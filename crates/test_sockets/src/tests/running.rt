@@ -1,19 +1,21 @@
-//! The running connector, in a conversation of its peers and a settlement engine, and beside a peer that
-//! says nothing. The tests themselves start the threads: what a connector asks of its runtime has types of
-//! its own, of which a proof knows nothing in another thread where the runtime is a parameter.
+//! The running connector, in a conversation of its peers and a settlement engine, beside a peer that says
+//! nothing, and beside one that answers once its packet was swept. The tests themselves start the threads:
+//! what a connector asks of its runtime has types of its own, of which a proof knows nothing in another
+//! thread where the runtime is a parameter.
 
 mod conversation;
 mod messages;
 mod silence;
+mod sweeping;
 
-use super::Still;
+use super::{START, Settable, Still};
 use conversation::{Others, converse};
 use ilp_accounts::Config;
 use ilp_connector::BUILT_IN;
 use ilp_links::{Hurry, TcpLinks};
 use ilp_notices::Notices;
 use ilp_running::serve;
-use messages::{PRINTED, PRINTED_OF_SILENCE};
+use messages::{PRINTED, PRINTED_OF_SILENCE, SWEPT};
 use silence::{Scene, stay_silent};
 use std::alloc::Global;
 use std::io;
@@ -21,12 +23,14 @@ use std::io::{Eprint, ErrorKind};
 use std::net::{Net, TcpListener, TcpStream};
 use std::rt::Files;
 use std::sync::Wait;
+use std::sync::atomic::AtomicI64;
 use std::test::Fail;
 use std::thread::{Threads, join};
 use std::time::Clock;
+use sweeping::sweep;
 
-// Serves until it is asked to close. Gives what was printed.
-fn printed<R>(rt: &R, config: &Config, notices: &Notices) -> io::Result<Vec<u8>>
+// Serves by this clock until it is asked to close. Gives what was printed.
+fn printed<R, C>(rt: &R, config: &Config, notices: &Notices, clock: C) -> io::Result<Vec<u8>>
 where
     R: Net<Listener = TcpListener, Stream = TcpStream>
         + Threads
@@ -37,9 +41,10 @@ where
         + Copy
         + Send
         + Sync,
+    C: ilp_workers::Clock + Copy + Drop + Send,
 {
     let hurry = Hurry::new();
-    let links = TcpLinks::new(*rt, config, Still, notices, &hurry);
+    let links = TcpLinks::new(*rt, config, clock, notices, &hurry);
     let mut writer = Vec::new(config.allocator());
     match serve(rt, config, &links, &mut writer) {
         Ok(()) => Ok(writer),
@@ -79,6 +84,23 @@ fn stay_silent_at<R: Net<Stream = TcpStream> + Clock>(
         bob,
     };
     stay_silent(rt, alloc, &scene)
+}
+
+// Has a packet swept that was passed on to a bob who listens here.
+fn sweep_at<R: Net<Stream = TcpStream> + Clock>(
+    rt: &R,
+    alloc: Global,
+    peers: &String,
+    engines: &String,
+    bob: &TcpListener,
+    moment: &AtomicI64,
+) -> io::Result<bool> {
+    let scene = Scene {
+        peers: peers.as_str(),
+        engines: engines.as_str(),
+        bob,
+    };
+    sweep(rt, alloc, &scene, moment)
 }
 
 // What a test plays on: the configuration, and where bob and his engine listen.
@@ -124,7 +146,7 @@ fn a_conversation(rt: HostRuntime) -> Result<(), Fail> {
     } = built_in(&rt, alloc)?;
     let (written, said) = join(
         &rt,
-        || printed(&rt, &config, &notices),
+        || printed(&rt, &config, &notices, Still),
         || converse_with(&rt, alloc, &bob, &engine),
     );
     assert!(rt; is_right(written, said, PRINTED));
@@ -140,25 +162,33 @@ fn free_place<R: Net<Listener = TcpListener, Stream = TcpStream>>(
     Ok(format!(in alloc; "{place}")?)
 }
 
-// The terms of a connector with two workers at these places, which holds packets for a second at most.
-fn terms(alloc: Global, peers: &str, engines: &str, bob: &str) -> io::Result<String> {
+// The terms of a connector with two workers at these places, which holds packets for so many milliseconds
+// at most.
+fn terms(
+    alloc: Global,
+    peers: &str,
+    engines: &str,
+    bob: &str,
+    max_hold_ms: u32,
+) -> io::Result<String> {
     let text = format!(in alloc;
-        "address = \"test.hub\"\nrun = \"r1\"\nlisten = \"{peers}\"\nengine_listen = \"{engines}\"\nworkers = 2\nmax_hold_ms = 1000\n[[asset]]\ncode = \"USD\"\nscale = 2\n[[peer]]\nname = \"alice\"\nasset = \"USD/2\"\ntoken = \"a-token\"\nout_token = \"to-alice\"\nhost = \"127.0.0.1:1\"\nleast = -100\n[[peer]]\nname = \"bob\"\nasset = \"USD/2\"\ntoken = \"b-token\"\nout_token = \"to-bob\"\nhost = \"{bob}\"\nleast = -100\n[[route]]\nprefix = \"test.bob\"\npeer = \"bob\"\n"
+        "address = \"test.hub\"\nrun = \"r1\"\nlisten = \"{peers}\"\nengine_listen = \"{engines}\"\nworkers = 2\nmax_hold_ms = {max_hold_ms}\n[[asset]]\ncode = \"USD\"\nscale = 2\n[[peer]]\nname = \"alice\"\nasset = \"USD/2\"\ntoken = \"a-token\"\nout_token = \"to-alice\"\nhost = \"127.0.0.1:1\"\nleast = -100\n[[peer]]\nname = \"bob\"\nasset = \"USD/2\"\ntoken = \"b-token\"\nout_token = \"to-bob\"\nhost = \"{bob}\"\nleast = -100\n[[route]]\nprefix = \"test.bob\"\npeer = \"bob\"\n"
     )?;
     Ok(text)
 }
 
 // The stage of a connector at these places, whose bob has no engine.
-fn silent<R: Net<Listener = TcpListener, Stream = TcpStream>>(
+fn beside_bob<R: Net<Listener = TcpListener, Stream = TcpStream>>(
     rt: &R,
     alloc: Global,
     peers: &str,
     engines: &str,
+    max_hold_ms: u32,
 ) -> io::Result<Stage> {
     let bob = TcpListener::bind(rt, "127.0.0.1:0")?;
     let engine = TcpListener::bind(rt, "127.0.0.1:0")?;
     let place = format!(in alloc; "{}", bob.local_addr()?)?;
-    let text = terms(alloc, peers, engines, place.as_str())?;
+    let text = terms(alloc, peers, engines, place.as_str(), max_hold_ms)?;
     stage_of(alloc, text.as_str(), bob, engine)
 }
 
@@ -171,12 +201,32 @@ fn a_silent_peer(rt: HostRuntime) -> Result<(), Fail> {
         notices,
         bob,
         engine: _engine,
-    } = silent(&rt, alloc, peers.as_str(), engines.as_str())?;
+    } = beside_bob(&rt, alloc, peers.as_str(), engines.as_str(), 1_000)?;
     let (written, said) = join(
         &rt,
-        || printed(&rt, &config, &notices),
+        || printed(&rt, &config, &notices, Still),
         || stay_silent_at(&rt, alloc, &peers, &engines, &bob),
     );
     assert!(rt; is_right(written, said, PRINTED_OF_SILENCE));
+    Ok(())
+}
+
+#[test]
+fn a_hold_that_is_swept(rt: HostRuntime) -> Result<(), Fail> {
+    let alloc = rt.alloc();
+    let (peers, engines) = (free_place(&rt, alloc)?, free_place(&rt, alloc)?);
+    let Stage {
+        config,
+        notices,
+        bob,
+        engine: _engine,
+    } = beside_bob(&rt, alloc, peers.as_str(), engines.as_str(), 3_600_000)?;
+    let moment = AtomicI64::new(START);
+    let (written, said) = join(
+        &rt,
+        || printed(&rt, &config, &notices, Settable(&moment)),
+        || sweep_at(&rt, alloc, &peers, &engines, &bob, &moment),
+    );
+    assert!(rt; is_right(written, said, SWEPT));
     Ok(())
 }

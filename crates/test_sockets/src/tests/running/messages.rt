@@ -8,7 +8,12 @@ pub(crate) const PREPARE: &[u8] = b"\x0c\x43\0\0\0\0\0\0\0\x3220250101000030000\
 \x66\x68\x7a\xad\xf8\x62\xbd\x77\x6c\x8f\xc1\x8b\x8e\x9f\x8e\x20\
 \x08\x97\x14\x85\x6e\xe2\x33\xb3\x90\x2a\x59\x1d\x0d\x5f\x29\x25\x08test.bob\0";
 
-/// The same as it is passed on: the window of a second is taken from its expiry.
+/// A Prepare of 50 for `test.bob`, which expires an hour after the clock of the test.
+pub(crate) const LASTING: &[u8] = b"\x0c\x43\0\0\0\0\0\0\0\x3220250101010000000\
+\x66\x68\x7a\xad\xf8\x62\xbd\x77\x6c\x8f\xc1\x8b\x8e\x9f\x8e\x20\
+\x08\x97\x14\x85\x6e\xe2\x33\xb3\x90\x2a\x59\x1d\x0d\x5f\x29\x25\x08test.bob\0";
+
+/// The first as it is passed on: the window of a second is taken from its expiry.
 pub(crate) const PASSED_ON: &[u8] = b"\x0c\x43\0\0\0\0\0\0\0\x3220250101000029000\
 \x66\x68\x7a\xad\xf8\x62\xbd\x77\x6c\x8f\xc1\x8b\x8e\x9f\x8e\x20\
 \x08\x97\x14\x85\x6e\xe2\x33\xb3\x90\x2a\x59\x1d\x0d\x5f\x29\x25\x08test.bob\0";
@@ -47,6 +52,9 @@ pub(crate) const SETTLEMENT: &[u8] = b"POST /accounts/bob/settlements HTTP/1.1\r
 Host: 127.0.0.1:7003\r\nContent-Type: application/json\r\nContent-Length: 26\r\n\
 Idempotency-Key: r1-5\r\nConnection: close\r\n\r\n{\"amount\":\"900\",\"scale\":2}";
 
+/// The operator's request for the report.
+pub(crate) const REPORT: &[u8] = b"POST /report HTTP/1.1\r\nHost: hub\r\nContent-Length: 0\r\n\r\n";
+
 /// The operator's request to close.
 pub(crate) const CLOSE: &[u8] = b"POST /close HTTP/1.1\r\nHost: hub\r\nContent-Length: 0\r\n\r\n";
 
@@ -66,6 +74,24 @@ pub(crate) const TOO_LONG_TOLD: &[u8] =
 pub(crate) const UNREACHABLE: &[u8] = b"HTTP/1.1 200 OK\r\n\
 Content-Type: application/octet-stream\r\nContent-Length: 32\r\nConnection: close\r\n\r\n\
 \x0e\x1eT01\x08test.hub\x10peer unreachable\0";
+
+/// What a packet is answered whose hold was swept: a Reject R00 of `test.hub` (RFC 0027).
+pub(crate) const TIMED_OUT: &[u8] = b"HTTP/1.1 200 OK\r\n\
+Content-Type: application/octet-stream\r\nContent-Length: 25\r\nConnection: close\r\n\r\n\
+\x0e\x17R00\x08test.hub\x09timed out\0";
+
+/// The report once a hold was swept, and in the end.
+pub(crate) const SWEPT: &[u8] = b"balance   alice                                            0\n\
+balance   bob                                              0\n\
+open      alice                                            0\n\
+open      bob                                              0\n\
+held      USD/2                                            0\n\
+fees      USD/2                                            0\n\
+bought    USD/2                                            0\n\
+sold      USD/2                                            0\n\
+settled   USD/2                                            0\n\
+entries                                                    2\n\
+fulfilled                                                  0\n";
 
 /// What is printed in the end of a connector with a silent peer.
 pub(crate) const PRINTED_OF_SILENCE: &[u8] =

@@ -55,8 +55,8 @@ where
     Ok(refused.as_slice() == TOO_LONG_TOLD && credited.as_slice() == CREDITED)
 }
 
-// Asks for something at a place, and gives what is answered.
-fn ask<R>(rt: &R, alloc: Global, place: &str, request: &[u8]) -> io::Result<Vec<u8>>
+/// Asks for something at a place, and gives what is answered.
+pub(crate) fn ask<R>(rt: &R, alloc: Global, place: &str, request: &[u8]) -> io::Result<Vec<u8>>
 where
     R: Net<Stream = TcpStream> + Clock,
 {
