@@ -9,7 +9,7 @@ Each case has a configuration, ports and tokens of its own, runs `connector serv
 on 127.0.0.1, and is told as `ok` or by what differed from the rules (docs/PROTOCOL.md,
 docs/OPERATING.md). At its end each line on standard error is to have one of the forms of
 scripts/cases/lines.py. The exit status is 1 where one differs, and 2 where the arguments are not
-understood. Without names all cases are played, which takes some six minutes. It needs Linux, Python
+understood. Without names all cases are played, which takes some eight minutes. It needs Linux, Python
 3.11 and at least 1,512 open files, and shares nothing with the crates.
 """
 import signal
@@ -17,16 +17,16 @@ import sys
 import time
 from pathlib import Path
 
-from cases import (bodies, clients, conversations, ending, engines, links, operating, strangers, telling,
-                   telling_of_the_book, waiting)
+from cases import (bodies, clients, conversations, ending, engines, journal_texts, journals, links, operating,
+                   strangers, telling, telling_of_the_book, waiting)
 from cases.case import CASES, Case, Differs
 from cases.laboratory import Laboratory
 
 # Each of them lists its cases as it is read.
-PARTS = (conversations, links, engines, clients, strangers, bodies, operating, telling,
-         telling_of_the_book, waiting, ending)
+PARTS = (conversations, links, engines, clients, strangers, bodies, operating, journals, journal_texts,
+         telling, telling_of_the_book, waiting, ending)
 
-# In seconds; the longest case takes some 20.
+# In seconds; the longest case takes a minute and some.
 MOST_OF_A_CASE = 90
 
 

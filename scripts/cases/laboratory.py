@@ -57,12 +57,19 @@ class Laboratory:
         """A connection that is closed with the case, if it is not before."""
         return self.keep(connect(port))
 
+    def folder(self) -> Path:
+        """A new folder, which goes with the case."""
+        return Path(self.stack.enter_context(tempfile.TemporaryDirectory(prefix="server-check-")))
+
     def start(self, setup: Setup, descriptors: int = DESCRIPTORS, errors: int | None = None,
               argument: str | None = None, output: int | None = None,
-              threads: int | None = None) -> Program:
+              threads: int | None = None, journal: Path | str | None = None) -> Program:
         """A program that was started, and may not listen yet."""
-        folder = Path(self.stack.enter_context(tempfile.TemporaryDirectory(prefix="server-check-")))
-        program = Program(self.binary, folder, setup, descriptors, errors, argument, output, threads)
+        return self.run(Program(self.binary, self.folder(), setup, descriptors, errors, argument, output,
+                                threads, journal))
+
+    def run(self, program: Program) -> Program:
+        """The same, of one that was started elsewhere."""
         self.stack.callback(program.kill)
         self.programs.append(program)
         return program

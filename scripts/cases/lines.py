@@ -32,6 +32,13 @@ BAD_200 = ("a 200 without a Fulfill or a Reject that can be read: it may have fu
 KEPT_OPEN = "kept open, since its engine said neither yes nor no"
 REACHED_AGAIN = r"reached again, after (1 failure|\d+ failures)"
 
+# A path, as it is quoted in a line.
+PATH = r'"[^"]+"'
+
+# What is told at the start where no journal is kept.
+NO_JOURNAL = ("warn no journal is kept: balances and keys are forgotten at the end, so each start needs a "
+              "`run` that no earlier one had")
+
 # Each line has one of these forms, level and text.
 FORMS = [re.compile(form) for form in (
     rf"info listening at {PLACE} for peers and at {PLACE} for engines: \d+ workers?, \d+ peers?, .+",
@@ -55,6 +62,14 @@ FORMS = [re.compile(form) for form in (
     r"warn journal: \d+ of \d+ entries, (8\d|9[0-4]) percent",
     r"error journal: \d+ of \d+ entries, (9[5-9]|100) percent",
     r"error journal: full, with \d+ of \d+ entries: packets get T03, and credits 503",
+    re.escape(NO_JOURNAL),
+    rf"info journal {PATH}: (begun with its \d+ entries|saved with \d+ entries)",
+    rf"warn journal {PATH}: not there yet, .+",
+    rf"warn journal {PATH}: can't be saved: .+",
+    rf"error journal {PATH}: (not saved.+|another connector has it: .+|a connector stopped .+)",
+    r"error compare with peers and engines what was booked since, .+",
+    rf"error can't (make|read|lock|remove) {PATH}: .+",
+    rf"warn {PATH} lies there, .+",
     r"error clock: \d+\.\d{3} seconds behind the last moment of the book, so that packets come too late",
 )]
 

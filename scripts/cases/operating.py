@@ -7,7 +7,7 @@ from pathlib import Path
 
 from cases.case import case, expect, expect_that, expect_within
 from cases.laboratory import Laboratory, close, credit, expect_packet, expect_served
-from cases.lines import WHOLE
+from cases.lines import NO_JOURNAL, WHOLE
 from cases.messages import HERE, bearer, created, post, request, response, soon
 from cases.program import Program, Setup
 from cases.stand_ins import FULFILLS
@@ -25,9 +25,9 @@ def expect_refused(laboratory: Laboratory, setup: Setup, address: str, why: str 
     expect(f"{address}: the exit status", program.end(5.0), 1)
     expect(f"{address}: standard output", program.output(), "refused 66 ListenFault\n")
     told = [line.said for line in program.lines()]
-    expect(f"{address}: how many lines are on standard error", len(told), 1)
-    expect_that(f"{address}: the line is {told[0]!r}",
-                re.fullmatch(f"error can't listen at {re.escape(address)}: {why}", told[0]) is not None)
+    expect(f"{address}: the lines but the last", told[:-1], [NO_JOURNAL])
+    expect_that(f"{address}: the last line is {told[-1]!r}",
+                re.fullmatch(f"error can't listen at {re.escape(address)}: {why}", told[-1]) is not None)
 
 
 @case
@@ -72,8 +72,9 @@ def thread_that_is_not_started(laboratory: Laboratory) -> None:
         program = laboratory.start(setup, threads=threads)
         expect(f"{threads} threads: the exit status", program.end(5.0), 1)
         expect(f"{threads} threads: standard output", program.output(), "refused 67 SpawnFault\n")
-        listening, *others = [line.said for line in program.lines()]
-        expect_that(f"the first line is {listening!r}", listening.startswith("info listening at "))
+        first, listening, *others = [line.said for line in program.lines()]
+        expect("the first line", first, NO_JOURNAL)
+        expect_that(f"the second line is {listening!r}", listening.startswith("info listening at "))
         expect(f"{threads} threads: other lines", others, ["error a thread can't be started"])
     program = laboratory.start(setup, threads=7)
     program.await_listening()

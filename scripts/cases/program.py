@@ -24,6 +24,9 @@ STACK, BESIDE = 2**30, 3 * 2**28
 ZONE = "AWAY-5:45"
 RUN = "r1"
 
+# Refusals whose lines on standard error are those of a running connector.
+TOLD_WITH_A_TIME = ("refused 64 ", "refused 66 ", "refused 67 ", "refused 73 ")
+
 
 def secret() -> str:
     """A text that stands nowhere by chance."""
@@ -126,27 +129,32 @@ def limit_threads(threads: int) -> None:
 class Program:
     """`connector serve` over a configuration, or with another argument that is given. Its two streams
     go to files, or to other descriptors that are given. It can start so many threads where that is
-    given."""
+    given. A journal is kept where one is given, and another user runs it where his number is."""
 
     def __init__(self, binary: Path, folder: Path, setup: Setup, descriptors: int = DESCRIPTORS,
                  errors: int | None = None, argument: str | None = None,
-                 output: int | None = None, threads: int | None = None) -> None:
+                 output: int | None = None, threads: int | None = None,
+                 journal: Path | str | None = None, user: int | None = None) -> None:
         self.setup = setup
         self.folder = folder
+        self.binary = binary
         self.started = time.time()
-        configuration = folder / "connector.toml"
-        configuration.write_text(setup.text())
+        self.configuration = folder / "connector.toml"
+        self.configuration.write_text(setup.text())
+        words = [str(binary), "serve", argument or str(self.configuration)]
+        words += [str(journal)] if journal is not None else []
 
         def limit() -> None:
+            # A file that is too large is to be an error, and no signal.
+            signal.signal(signal.SIGXFSZ, signal.SIG_IGN)
             resource.setrlimit(resource.RLIMIT_NOFILE, (descriptors, descriptors))
             if threads is not None:
                 limit_threads(threads)
 
         with open(folder / "stdout", "wb") as printed, open(folder / "stderr", "wb") as told:
             self.child = subprocess.Popen(
-                [str(binary), "serve", argument or str(configuration)], stdin=subprocess.DEVNULL,
-                stdout=printed if output is None else output,
-                stderr=told if errors is None else errors, preexec_fn=limit,
+                words, stdin=subprocess.DEVNULL, stdout=printed if output is None else output,
+                stderr=told if errors is None else errors, preexec_fn=limit, user=user,
                 env={**os.environ, "TZ": ZONE})
 
     def output(self) -> str:
@@ -186,20 +194,25 @@ class Program:
     def refused_to_run(self) -> bool:
         """Whether its configuration was refused, which is told without a time."""
         text = self.output()
-        return text.startswith("refused ") and not text.startswith(("refused 66 ", "refused 67 "))
+        return text.startswith("refused ") and not text.startswith(TOLD_WITH_A_TIME)
 
     def await_listening(self, within: float = 10.0) -> None:
         """Waits for the line that says that it listens."""
         end = time.monotonic() + within
-        while "\n" not in self.errors():
+        while not re.search(r" info listening at .+\n", self.errors()):
             if self.child.poll() is not None:
                 raise Differs(f"it ended with status {self.child.returncode} before it listened; "
                               f"it printed {self.output()!r} and {self.errors()!r}")
             if time.monotonic() > end:
-                raise Differs(f"no line on standard error within {within} seconds")
+                raise Differs(f"no line says that it listens within {within} seconds")
             time.sleep(0.005)
-        expect_that(f"the first line does not name {self.setup.listen}: {self.errors()!r}",
+        expect_that(f"the line does not name {self.setup.listen}: {self.errors()!r}",
                     self.setup.listen in self.errors())
+
+    def limit_files(self, octets: int) -> None:
+        """Lets no file of it grow beyond so many octets."""
+        _, most = resource.prlimit(self.child.pid, resource.RLIMIT_FSIZE)
+        resource.prlimit(self.child.pid, resource.RLIMIT_FSIZE, (octets, most))
 
     def end(self, within: float) -> int:
         """The status with which it ends, which it must do within so many seconds."""

@@ -6,7 +6,7 @@ from concurrent.futures import Future, ThreadPoolExecutor
 from cases.case import case, expect, expect_that, expect_within
 from cases.laboratory import (Laboratory, close, credit, expect_end, expect_packet, expect_served,
                               post_close, send_packet)
-from cases.lines import MORE, expect_longer_waits
+from cases.lines import MORE, NO_JOURNAL, expect_longer_waits
 from cases.links import FAULTS
 from cases.messages import HERE, bearer, created, post, request, response, seconds_since, soon
 from cases.program import Program, Setup, secret
@@ -33,8 +33,8 @@ def of_bob(program: Program, level: str, text: str) -> str:
 
 @case
 def line_at_the_start(laboratory: Laboratory) -> None:
-    """A quiet conversation has a line of the start, with addresses, workers and peers, one of its
-    credit, and one of the close."""
+    """A quiet conversation has two lines of the start, that no journal is kept and with addresses, workers
+    and peers, one of its credit, and one of the close."""
     program = laboratory.serve(FULFILLS, engine_of(), workers=37, levels=False)
     setup = program.setup
     expect_served(program, amount=1)
@@ -43,7 +43,8 @@ def line_at_the_start(laboratory: Laboratory) -> None:
     expect("a wrong token", post(setup.peers_port, stranger), response(401))
     close(program, alice=-1, bob=2)
     expect("the lines", [line.said for line in program.lines()],
-           [f"info listening at {setup.listen} for peers and at {setup.engine_listen} for engines: "
+           [NO_JOURNAL,
+            f"info listening at {setup.listen} for peers and at {setup.engine_listen} for engines: "
             f"37 workers, 2 peers, alice without an engine, bob with the engine at "
             f"{HERE}:{setup.engine}",
             "info credit 2 of bob: 1",
@@ -62,7 +63,7 @@ def one_worker(laboratory: Laboratory) -> None:
 @case
 def limit_of_open_files(laboratory: Laboratory) -> None:
     """A limit that is lower than what the configuration may need is told, and by how much; the first
-    line is that of the start all the same."""
+    lines are those of the start all the same."""
     for workers in (4, 64):
         wanted = WAITING_FILES + FILES_OF_A_WORKER * workers + MORE_FILES
         for limit in (wanted - 1, wanted):
@@ -73,7 +74,7 @@ def limit_of_open_files(laboratory: Laboratory) -> None:
             told = [f"warn open files: {limit} at most, and this configuration may need {wanted}: "
                     f"set ulimit -n {wanted}"] if limit < wanted else []
             expect(f"{workers} workers, {limit} open files: the lines between the first and the last",
-                   lines[1:-1], told)
+                   lines[2:-1], told)
 
 
 # ---- peers and engines
@@ -226,6 +227,7 @@ def standard_error_that_breaks(laboratory: Laboratory) -> None:
     with os.fdopen(reading, "rb", buffering=0) as told:
         first = told.read(1)
     expect_that("it said nothing", first != b"")
+    await_connection(program)
     for _ in range(3):
         expect_packet("a packet", program, soon(), T01)
     program.expect_running()

@@ -147,7 +147,7 @@ def codes_of_any_octets(laboratory: Laboratory) -> None:
     close(program)
     # That it is text in lines of known forms is seen of each case at its end.
     expect_within("lines on Rejects", len(program.told("info rejects to alice: .+")), 1, 2)
-    expect("how many lines there are beside", len(program.told("(?!info rejects).+")), 2)
+    expect("how many lines there are beside", len(program.told("(?!info rejects).+")), 3)
 
 
 # ---- the journal

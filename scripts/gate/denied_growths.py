@@ -11,6 +11,7 @@ run. The exit status is 1 where an end is not as the rules have it (docs/PROTOCO
 arguments are not understood. A NAME is one of these:
 
 - check: `connector check -` says want of memory.
+- carry: so does `connector check - journal` over a journal with a hold, a credit and a settlement.
 - replay: `connector replay -` prints a front of its text, of whole lines, and then want of memory.
 - http: of two equal requests one is told as want of memory.
 - packet, settlement, message, engine, report, settler, page: a scene of test_scenes in which
@@ -84,6 +85,12 @@ SILENT = "the program told nothing of its own want of memory"
 
 REFUSED = "refused 44 Memory"
 QUANTITY = '{"amount":"1000","scale":2}'
+JOURNAL = f"""ilp-journal 1
+{START} 0 hold alice bob 100 0 100 {START + 29_000} {prepare()[27:59].hex()}
+{START} 0 credited bob {b"k".hex()} 1000 2 1000
+{START} 0 asked bob 800
+end 3
+"""
 SCRIPT = [
     (f"hold {START} alice {prepare().hex()}", "held 0 to bob out 100"),
     (f"answer {START} 0 {FULFILL.hex()}", "entry 1 fulfilled 0"),
@@ -97,8 +104,9 @@ SCRIPT = [
 ]
 
 
-def connector(command: str, text: list[str], given: str = "") -> Program:
-    """The connector, which prints this text, or a front of it and then want of memory."""
+def connector(command: str, text: list[str], given: str = "", journal: str | None = None) -> Program:
+    """The connector, which prints this text, or a front of it and then want of memory. Where a journal is
+    given, it is the command's second argument."""
     def judge(run: Run, _: Run) -> str | None:
         if not run.denied and (run.status, run.lines) == (0, text):
             return None
@@ -106,7 +114,9 @@ def connector(command: str, text: list[str], given: str = "") -> Program:
         if run.status != 1 or last != REFUSED or front != text[:len(front)]:
             raise Differs(f"status {run.status}, {run.lines}")
         return f"want of memory after {len(front)} lines"
-    return Program("connector", judge, (command, "-"), given)
+    if journal is None:
+        return Program("connector", judge, (command, "-"), given)
+    return Program("connector", judge, (command, "-", "journal"), given, (("journal", journal),))
 
 
 # ---- requests
@@ -242,6 +252,7 @@ PAGE = [served.packet([], prepare(0))] * 127
 
 PROGRAMS: dict[str, Program] = {
     "check": connector("check", ["ok 2 peers 1 assets 2 routes"]),
+    "carry": connector("check", ["ok 2 peers 1 assets 2 routes 4 entries"], journal=JOURNAL),
     "replay": connector("replay", "\n".join(text for _, text in SCRIPT).splitlines(),
                         "".join(line + "\n" for line, _ in SCRIPT)),
     "http": Program("test_http", judge_requests,

@@ -13,7 +13,8 @@ from itertools import groupby
 
 from packets import CONDITION, string
 from scenes import (ALICE, BOB, F99, FULFILL, HANDED, ONES, R00, START, T00, T01, actor, answered,
-                    asked, balances, clock, closed, fulfill, held, own_reject, report_lines)
+                    asked, balances, clock, closed, fulfill, held, own_reject, report_lines,
+                    shown)
 
 F02 = own_reject(b"F02", b"unreachable")
 F03 = own_reject(b"F03", b"invalid amount")
@@ -50,12 +51,6 @@ def digits(octets):
         return octets.hex()
     runs = ((f"{octet:02x}", len(list(run))) for octet, run in groupby(octets))
     return "".join(f"<{n} {one}>" if n >= 9 else one * n for one, n in runs)
-
-
-def shown(text):
-    """The lines of a head or of a report, in quotes and with their ends."""
-    lines = text.replace("\n", "\n\0").split("\0")
-    return ['"' + line.replace("\r", r"\r").replace("\n", r"\n") + '"' for line in lines if line]
 
 
 def response(code, body=b"", kind=OCTETS, handled=None):

@@ -100,6 +100,18 @@ def report_lines(alice, bob, paid, credited, entries, fulfilled):
     return lines + [column("entries", "", entries), column("fulfilled", "", fulfilled)]
 
 
+def shown(text):
+    """The lines of a head or of a report, in quotes and with their ends."""
+    lines = text.replace("\n", "\n\0").split("\0")
+    return ['"' + line.replace("\r", r"\r").replace("\n", r"\n") + '"' for line in lines if line]
+
+
+def totals(entries, fulfilled, amount):
+    """What the ends add up to and the book has, where no fee is taken."""
+    numbers = f"entries: {entries}, fulfilled: {fulfilled}, paid: {amount}, got: {amount}"
+    return [f"{whose}: Totals {{ {numbers} }}" for whose in ("ends", "book")]
+
+
 def actor(number, entries, *records):
     return [f"actor {number}: {entries} entries", *records]
 
@@ -202,12 +214,27 @@ def forwarded(hold, answer):
             f"records: 1, record: Some({answered(answer, hold, amount=50)}) }})")
 
 
+def beside(hold, answer):
+    """What a worker comes to that forwards once the other thread has begun."""
+    return f"Beside {{ begun: true, asked: 1, forwarded: {forwarded(hold, answer)} }}"
+
+
 TWO = scene(
     "two at once",
-    [f"first {forwarded(0, 3)}", f"second (true, (1, {forwarded(1, 2)}))"]
+    [f"first {forwarded(0, 3)}", f"second {beside(1, 2)}"]
     + held(0, amount=50) + held(1, 1, amount=50) + closed(2, 1, actor=1) + closed(3, 0)
-    + balances(100) + report_lines(-100, 100, 100, 0, entries=4, fulfilled=2),
+    + balances(100) + report_lines(-100, 100, 100, 0, entries=4, fulfilled=2) + totals(4, 2, 100),
     act="two", workers="2", alice=prepare(50), other=prepare(50, HANDED), bob=FULFILL)
+
+
+def unlocked():
+    """The report of a book without entries, while the other worker forwards a packet."""
+    body = "".join(line + "\n" for line in report_lines(0, 0, 0, 0, entries=0, fulfilled=0))
+    head = ["HTTP/1.1 200 OK", "Content-Type: text/plain", f"Content-Length: {len(body)}",
+            "Connection: close", ""]
+    response = "".join(line + "\r\n" for line in head) + body
+    return (["Done(Ok)", *shown(response), f"second {beside(0, 1)}"]
+            + held(0, 1, amount=50) + closed(1, 0, actor=1) + balances(50))
 
 
 class Dice:
@@ -230,9 +257,8 @@ def many(workers, packets):
             amount = amounts.roll()
             if peers.roll() % 8 > 3:
                 fulfilled, paid = fulfilled + 1, paid + amount
-    totals = (f"Totals {{ entries: {2 * workers * packets}, fulfilled: {fulfilled}, "
-              f"paid: {paid}, got: {paid} }}")
-    return [f"senders answered with a Fulfill: {fulfilled}", f"ends: {totals}", f"book: {totals}"]
+    return [f"senders answered with a Fulfill: {fulfilled}",
+            *totals(2 * workers * packets, fulfilled, paid)]
 
 
 def gathered(name, act, first=(), entries=(), asked=1, booked=2, kept=(answered(1, 0),),
@@ -251,6 +277,8 @@ SCENES = FORWARDS + [
     scene("each growth denied", denied(), act="deny", workers="5", alice=prepare(),
           other=prepare(expires=HANDED), bob=FULFILL),
     TWO,
+    scene("a report beside a packet", unlocked(), act="report",
+          workers="2", alice=prepare(50), other=prepare(50, HANDED), bob=FULFILL),
     scene("many workers", many(64, 200), act="many", over="lending.toml", workers="64",
           alice=prepare(), other=prepare(destination=b"test.alice")),
     gathered("a desk that is closed", "close", entries=BOOK),

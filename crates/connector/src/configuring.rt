@@ -3,8 +3,8 @@
 use crate::Exit;
 use ilp_accounts::{Config, explain};
 use ilp_connector::{BUILT_IN, CONFIG_LIMIT, Refusal, read_config};
+use ilp_journal_file::Noting;
 use std::alloc::AllocError;
-use std::io::Read;
 use std::rt::Runtime;
 use std::{fs, io};
 
@@ -68,33 +68,5 @@ pub(crate) fn refused(refusal: Refusal, why: Result<String, AllocError>) -> Exit
     match why {
         Ok(why) => Exit::Explained(refusal, why),
         Err(AllocError) => Exit::Refused(refusal),
-    }
-}
-
-// A reader that keeps the error of its last read that failed.
-#[derive(Drop)]
-struct Noting<R> {
-    reader: R,
-    error: Option<io::Error>,
-}
-
-impl<R> Noting<R> {
-    fn new(reader: R) -> Self {
-        Noting {
-            reader,
-            error: None,
-        }
-    }
-}
-
-impl<R: Read> Read for Noting<R> {
-    ghost remaining = { λ noting. R.remaining noting.reader };
-
-    fn read(&mut self, room: &mut [u8]) -> io::Result<usize> {
-        let outcome = self.reader.read(room);
-        if let Err(error) = outcome {
-            self.error = Some(error);
-        }
-        outcome
     }
 }

@@ -1,25 +1,38 @@
-//! The connector's command line. It describes a packet, checks a configuration, replays a script from
-//! standard input over one, or runs a connector of one.
+//! The connector's command line. It describes a packet, checks a configuration and a journal, replays a
+//! script from standard input over a configuration, or runs a connector of one.
 #![tactic(auto)]
 
+mod carrying;
 mod checking;
 mod configuring;
+mod expecting;
 mod replaying;
 mod serving;
 
-use checking::run_check;
+use checking::{run_check, run_check_journal};
 use ilp_connector::{Refusal, describe_packet};
+use ilp_journal_file::FileFault;
 use replaying::run_replay;
 use serving::run_serve;
 use std::env;
+use std::fs::File;
 use std::io::ErrorKind;
 use std::net::{Net, TcpListener, TcpStream};
 use std::process::ExitCode;
-use std::rt::Runtime;
+use std::rt::{Files, Runtime};
 use std::sync::Wait;
 use std::thread::Threads;
 
-const USAGE: &str = "usage: connector packet HEX, check CONFIG, replay CONFIG, serve CONFIG";
+const USAGE: &str =
+    "usage: connector packet HEX, check CONFIG, replay CONFIG, serve CONFIG [JOURNAL]";
+
+// What the program is asked for: a command, what it is about, and where a journal is kept.
+#[derive(Drop)]
+struct Words {
+    command: String,
+    argument: String,
+    journal: Option<String>,
+}
 
 // How the program ends.
 #[derive(Drop)]
@@ -34,16 +47,27 @@ enum Exit {
     OutputFailed,
 }
 
+/// A journal's file that can't be used. Why was told already.
+impl From<FileFault> for Exit {
+    fn from(fault: FileFault) -> Exit {
+        Exit::Refused(match fault {
+            FileFault::Unread => Refusal::JournalUnread,
+            FileFault::Unwritten => Refusal::WriteFault,
+            FileFault::Memory => Refusal::Memory,
+        })
+    }
+}
+
 fn main(rt: HostRuntime) -> ExitCode {
-    let exit = match words(&rt) {
-        Ok((command, argument)) => run(&rt, command.as_str(), argument.as_str()),
+    let exit = match given_words(&rt) {
+        Ok(words) => run(&rt, &words),
         Err(exit) => exit,
     };
     ExitCode::from(status(&rt, exit))
 }
 
-// The command and its argument.
-fn words<R: Runtime + AllocGlobal>(rt: &R) -> Result<(String, String), Exit> {
+// The words that the program is started with.
+fn given_words<R: Runtime + AllocGlobal>(rt: &R) -> Result<Words, Exit> {
     let mut words = match env::args(rt) {
         Ok(args) => args.skip(1),
         Err(error) if error.kind() == ErrorKind::OutOfMemory => {
@@ -51,17 +75,22 @@ fn words<R: Runtime + AllocGlobal>(rt: &R) -> Result<(String, String), Exit> {
         }
         Err(_) => return Err(Exit::Misused),
     };
-    match (words.next(), words.next(), words.next()) {
-        (Some(command), Some(argument), None) => Ok((command, argument)),
+    match (words.next(), words.next(), words.next(), words.next()) {
+        (Some(command), Some(argument), journal, None) => Ok(Words {
+            command,
+            argument,
+            journal,
+        }),
         _ => Err(Exit::Misused),
     }
 }
 
 // Runs what the words ask for.
-fn run<R>(rt: &R, command: &str, argument: &str) -> Exit
+fn run<R>(rt: &R, words: &Words) -> Exit
 where
     R: Runtime
         + AllocGlobal
+        + Files<File = File>
         + Net<Listener = TcpListener, Stream = TcpStream>
         + Threads
         + Wait
@@ -69,11 +98,14 @@ where
         + Send
         + Sync,
 {
-    match (command, argument) {
-        ("packet", text) => run_packet(rt, text),
-        ("check", path) => run_check(rt, path),
-        ("replay", path) => run_replay(rt, path),
-        ("serve", path) => run_serve(rt, path),
+    let argument = words.argument.as_str();
+    match (words.command.as_str(), &words.journal) {
+        ("packet", None) => run_packet(rt, argument),
+        ("check", None) => run_check(rt, argument),
+        ("check", Some(journal)) => run_check_journal(rt, argument, journal.as_str()),
+        ("replay", None) => run_replay(rt, argument),
+        ("serve", None) => run_serve(rt, argument, None),
+        ("serve", Some(journal)) => run_serve(rt, argument, Some(journal.as_str())),
         _ => Exit::Misused,
     }
 }

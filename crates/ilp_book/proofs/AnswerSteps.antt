@@ -3,6 +3,7 @@ use Rattle.std.proofs.Common.{◌≡◌, ℕ, suc, ◌+◌, ℤ, Bool, true, fal
 use Rattle.std.specs.Prelude.{Result, Ok, Err, ◌≤ℤ◌, ◌<ℤ◌, int_le, int_lt, ◌↔◌, ◌≢◌, option_map, option_and_then, IsSome, IsNone, IfSome}
 use Rattle.std.proofs.lemmas.Int.{ints}
 use Rattle.ilp_order.specs.Refusals.{◌>>=◌, refuse_if}
+use Rattle.ilp_accounts.specs.Configuration.{Configuration}
 use Rattle.ilp_journal.specs.declared.entry.Entry.{Entry}
 use Rattle.ilp_journal.specs.declared.entry.What.TheVariants as what
 use Rattle.ilp_journal.specs.declared.entry.Cause.{Cause}
@@ -17,7 +18,7 @@ use Rattle.ilp_book.specs.declared.fault.NotOpen.{NotOpen}
 use Rattle.ilp_terms.specs.Condition.{meets}
 use Rattle.ilp_book.specs.Book.{PlainBook, By, moment_at, entry_by, with_entry, pushed}
 use Rattle.ilp_book.specs.Open.{earlier, numbered_hold, earliest_from, earliest}
-use Rattle.ilp_book.specs.Lawful.{IsLawful, IsOutcome}
+use Rattle.ilp_book.specs.Lawful.{IsLawful, KeepsRule}
 use Rattle.ilp_book.specs.AnswerStep.{preimage_of, verdict, ending, outcome_of, answer_booked, answer_step, due, expire_booked, expire_step}
 use Rattle.ilp_book.proofs.LawfulGrowth.{Admits, lawful_push, limits_now}
 use Rattle.ilp_order.proofs.RefusalLemmas.{chosen, is_none_at, is_some_at, some_same, ok_same}
@@ -25,11 +26,11 @@ use Rattle.ilp_book.proofs.InTime.{in_time, calm}
 
 -- ---- verdicts
 
--- A preimage is good and not late. A cause is Late where it is late, and another where it is not.
+-- A preimage is good and not late. A cause is Late where it is late, and another where it is not; no reply makes it Restart.
 abbrev Tells : Bool → (List ℕ → Bool) → Result (List ℕ) Cause → Type 0
 Tells late good (Ok preimage) = (good preimage ≡ true) × (late ≡ false)
 Tells true good (Err c) = c ≡ cause.Late
-Tells false good (Err c) = c ≢ cause.Late
+Tells false good (Err c) = (c ≢ cause.Late) × (c ≢ cause.Restart)
 
 -- a verdict in terms of its tests
 verdict_tests : (late : Bool) (reply : PeerReply) (good : List ℕ → Bool) (v : Result (List ℕ) Cause)
@@ -40,15 +41,15 @@ verdict_tests false (peer_reply.Fulfill preimage) good v e = of_test (good preim
   where
     of_test : (b : Bool) → good preimage ≡ b → (refuse_if (not b) cause.WrongPreimage >>= λ _. Ok preimage) ≡ v → Tells false good v
     of_test true g e = subst (Tells false good) e (g, refl)
-    of_test false g e = subst (Tells false good) e (λ e. cc)
-verdict_tests false peer_reply.BadFulfill good v e = subst (Tells false good) e (λ e. cc)
-verdict_tests false (peer_reply.Reject code) good v e = subst (Tells false good) e (λ e. cc)
-verdict_tests false peer_reply.NoReply good v e = subst (Tells false good) e (λ e. cc)
+    of_test false g e = subst (Tells false good) e (λ e. cc, λ e. cc)
+verdict_tests false peer_reply.BadFulfill good v e = subst (Tells false good) e (λ e. cc, λ e. cc)
+verdict_tests false (peer_reply.Reject code) good v e = subst (Tells false good) e (λ e. cc, λ e. cc)
+verdict_tests false peer_reply.NoReply good v e = subst (Tells false good) e (λ e. cc, λ e. cc)
 
--- what an answer says is what became of its hold
-answer_outcome : (base : ℕ) (j : Entries) (n : ℕ) (m : ℤ) (h : Hold) (reply : PeerReply) → hold_at j n ≡ Some h → IsOutcome base j m (ending n (verdict h m reply))
+-- an answer of an open hold keeps its rule
+answer_rule : (C : Configuration) (base : ℕ) (j : Entries) (n : ℕ) (m : ℤ) (h : Hold) (reply : PeerReply) → open_hold_at j n ≡ Some h → KeepsRule C base j m (ending n (verdict h m reply))
 unfolding verdict
-answer_outcome base j n m h reply stands = of (verdict h m reply) (verdict_tests (int_le h.deadline m) reply (meets h.condition) (verdict h m reply) refl)
+answer_rule C base j n m h reply is = of (verdict h m reply) (verdict_tests (int_le h.deadline m) reply (meets h.condition) (verdict h m reply) refl)
   where
     late : (a b : ℤ) → int_le a b ≡ true → a ≤ℤ b
     late a b e = omega (arith, ints)
@@ -61,11 +62,15 @@ answer_outcome base j n m h reply stands = of (verdict h m reply) (verdict_tests
 
     released : (b : Bool) (c : Cause) → int_le h.deadline m ≡ b → Tells b (meets h.condition) (Err c) → (c ≡ cause.Late) ↔ (h.deadline ≤ℤ m)
     released true c e t = (λ _. late h.deadline m e, λ _. t)
-    released false c e t = (λ is. absurd (t is), λ is. absurd (never h.deadline m e is))
+    released false c e t = (λ is. absurd (t.0 is), λ is. absurd (never h.deadline m e is))
 
-    of : (v : Result (List ℕ) Cause) → Tells (int_le h.deadline m) (meets h.condition) v → IsOutcome base j m (ending n v)
-    of (Ok preimage) t = rw stands (t.0, early h.deadline m t.1)
-    of (Err c) t = rw stands (released (int_le h.deadline m) c refl t)
+    no_restart : (b : Bool) (c : Cause) → Tells b (meets h.condition) (Err c) → c ≡ cause.Restart → ⊥
+    no_restart true c t is = let same : cause.Late ≡ cause.Restart = sym t ∙ is in cc
+    no_restart false c t is = t.1 is
+
+    of : (v : Result (List ℕ) Cause) → Tells (int_le h.deadline m) (meets h.condition) v → KeepsRule C base j m (ending n v)
+    of (Ok preimage) t = rw is (t.0, early h.deadline m t.1)
+    of (Err c) t = (rw is (released (int_le h.deadline m) c refl t), λ restart. absurd (no_restart (int_le h.deadline m) c t restart))
 
 -- ---- answers
 
@@ -79,27 +84,24 @@ answers_open j n h e stands unanswered names =
     subst (λ o. IfSome o (λ k. IsSome (hold_at j k) × IsNone (answer_of j k))) (sym names)
     (is_some_at (hold_at j n) h stands, is_none_at (answer_of j n) unanswered)
 
--- the end of a hold that stands unanswered is admitted
-answer_admitted : (book : PlainBook) (caller : By) (n : ℕ) (h : Hold) (v : Result (List ℕ) Cause) → IsLawful book → hold_at book.entries n ≡ Some h → is_unanswered book.entries n ≡ true
-    → IsOutcome book.base book.entries (moment_at book.entries caller.now) (ending n v) → Admits book (entry_by book caller (ending n v))
-answer_admitted book caller n h (Ok preimage) lawful stands unanswered outcome =
-    let e : Entry = entry_by book caller (what.Fulfilled n preimage) in
+-- the end of an open hold is admitted
+answer_admitted : (book : PlainBook) (caller : By) (n : ℕ) (v : Result (List ℕ) Cause) → IsLawful book
+    → KeepsRule book.config book.base book.entries (moment_at book.entries caller.now) (ending n v) → Admits book (entry_by book caller (ending n v))
+answer_admitted book caller n (Ok preimage) lawful rule =
     let r = (limits_now book lawful).room in
-    calm book e lawful (answers_open book.entries n h e stands unanswered refl) tt outcome tt tt tt
+    calm book (entry_by book caller (what.Fulfilled n preimage)) lawful rule
     (in_time book caller (what.Fulfilled n preimage) lawful) (λ _. refl) (λ _. refl) (omega (arith, r))
-answer_admitted book caller n h (Err c) lawful stands unanswered outcome =
-    let e : Entry = entry_by book caller (what.Released n c) in
+answer_admitted book caller n (Err c) lawful rule =
     let r = (limits_now book lawful).room in
-    calm book e lawful (answers_open book.entries n h e stands unanswered refl) tt outcome tt tt tt
+    calm book (entry_by book caller (what.Released n c)) lawful rule
     (in_time book caller (what.Released n c) lawful) (λ _. refl) (λ _. refl) (omega (arith, r))
 
 -- the entry of an answer keeps the book lawful
 pub answer_keeps : (book : PlainBook) (caller : By) (n : ℕ) (reply : PeerReply) (h : Hold) → IsLawful book → open_hold_at book.entries n ≡ Some h
     → IsLawful (pushed book (entry_by book caller (ending n (verdict h (moment_at book.entries caller.now) reply))))
 answer_keeps book caller n reply h lawful is =
-    let open_hold : (is_unanswered book.entries n ≡ true) × (hold_at book.entries n ≡ Some h) = open_stands book.entries n h is in
-    let v = verdict h (moment_at book.entries caller.now) reply in
-    lawful_push book _ lawful (answer_admitted book caller n h v lawful open_hold.1 open_hold.0 (answer_outcome book.base book.entries n (moment_at book.entries caller.now) h reply open_hold.1))
+    let m = moment_at book.entries caller.now in
+    lawful_push book _ lawful (answer_admitted book caller n (verdict h m reply) lawful (answer_rule book.config book.base book.entries n m h reply is))
 
 -- the entry of an answer keeps the book lawful, where its moment and its verdict are known by equations
 pub answer_keeps_at : (book : PlainBook) (caller : By) (n : ℕ) (reply : PeerReply) (h : Hold) (m : ℤ) (v : Result (List ℕ) Cause) → IsLawful book → open_hold_at book.entries n ≡ Some h
@@ -165,7 +167,7 @@ pub expire_keeps : (book : PlainBook) (caller : By) (n : ℕ) → IsLawful book 
     → IsLawful (pushed book (entry_by book caller (what.Released n cause.Late)))
 expire_keeps book caller n lawful is =
     let facts = due_facts book.entries (moment_at book.entries caller.now) n is in
-    lawful_push book _ lawful (answer_admitted book caller n facts.0 (Err cause.Late) lawful facts.1 facts.2 (rw facts.1 (λ _. facts.3, λ _. refl)))
+    lawful_push book _ lawful (answer_admitted book caller n (Err cause.Late) lawful (rw (facts.2, facts.1) (λ _. facts.3, λ _. refl), λ restart. cc))
 
 -- the entry of a sweep keeps the book lawful, where its moment is known by an equation
 pub expire_keeps_at : (book : PlainBook) (caller : By) (n : ℕ) (m : ℤ) → IsLawful book → m ≡ moment_at book.entries caller.now → due book.entries m ≡ Some n

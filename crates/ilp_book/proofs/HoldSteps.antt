@@ -15,7 +15,7 @@ use Rattle.ilp_journal.specs.declared.entry.What.TheVariants as what
 use Rattle.ilp_journal.specs.declared.entry.Hold.{Hold}
 use Rattle.ilp_journal.specs.Journal.{open_count}
 use Rattle.ilp_journal.specs.Balance.{balance}
-use Rattle.ilp_journal.specs.TrialBalance.{total_in, total_out, has_asset}
+use Rattle.ilp_journal.specs.TrialBalance.{total_in, total_out, has_asset, amount_in, amount_out}
 use Rattle.ilp_packet.specs.Packet.{PlainPrepare}
 use Rattle.ilp_lookup.specs.Answer.{routed_peer}
 use Rattle.ilp_lookup.proofs.RoutedPeer.{IsRoute-routed_peer}
@@ -23,11 +23,11 @@ use Rattle.ilp_book.specs.declared.calls.Held.{Held}
 use Rattle.ilp_book.specs.declared.fault.HoldFault.{HoldFault}
 use Rattle.ilp_book.specs.declared.fault.HoldFault.TheVariants as hold_fault
 use Rattle.ilp_book.specs.Configured.{IsKnown, peer_assets, asset_of, quote_between}
-use Rattle.ilp_book.specs.Lawful.{IsLawful, IsWithinLimits, HasTerms}
+use Rattle.ilp_book.specs.Lawful.{IsLawful, IsWithinLimits, IsInTime, HasTerms}
 use Rattle.ilp_book.specs.Book.{PlainBook, By, Growth, granted, denied, moment_at, entry_by, has_room, with_entry, Made, Does}
 use Rattle.ilp_book.specs.HoldStep.{Incoming, given_route, incoming, with_quote_fault, latest_answer, has_total, hold_terms, hold_fitted, hold_checked, hold_booked, hold_step}
 use Rattle.ilp_book.proofs.Known.{route_known, asset_is, covered}
-use Rattle.ilp_book.proofs.LawfulGrowth.{Admits, lawful_push, limits_now}
+use Rattle.ilp_book.proofs.LawfulGrowth.{Admits, counted, at_most, lawful_push, limits_now}
 use Rattle.ilp_order.proofs.RefusalLemmas.{refused_not, found, bound, ok_same, not_true}
 use Rattle.ilp_book.proofs.InTime.{in_time}
 
@@ -117,32 +117,48 @@ within C x p v total now new = by_test (has_asset (peer_assets C) x p) (asset_is
     by_test true h = new (h refl)
     by_test false h = omega (arith, now)
 
--- a hold of allowed terms is admitted where there is room, totals and balance for it
+-- a hold of allowed terms is admitted where it is in time, and there is room, totals and balance for it
+pub hold_admits : (book : PlainBook) (m : ℤ) (actor : ℕ) (h : Hold) → IsLawful book → IsInTime book.entries (record { moment = m; actor = actor; what = what.Hold h }) → HasTerms book.config m h
+    → has_room book 2 ≡ true → ((peer_at book.config h.from).least +ℤ pos h.amount) ≤ℤ balance book.entries h.from
+    → ((x : ℕ) → total_in (peer_assets book.config) book.base book.entries x + counted book (amount_in (peer_assets book.config) x h) ≤ most)
+    → ((x : ℕ) → total_out (peer_assets book.config) book.base book.entries x + counted book (amount_out (peer_assets book.config) x h) ≤ most)
+    → Admits book (record { moment = m; actor = actor; what = what.Hold h })
+hold_admits book m actor h lawful timely terms room least totals_in totals_out =
+    let limits : IsWithinLimits book = limits_now book lawful in
+    let fits : length book.entries + open_count book.entries + 2 ≤ book.config.settings.journal = leb-true _ _ room in
+    record {
+      rule = terms;
+      moments = timely;
+      cover = λ p known. covered book.config book.entries h.from h.amount p (limits.least p known) least;
+      room = omega (arith, fits);
+      totals_in = totals_in;
+      totals_out = totals_out;
+    }
+
+-- so it is at the moment of a call, where the totals of both assets have room for it
 pub fitted_admitted : (book : PlainBook) (caller : By) (h : Hold) → IsLawful book → HasTerms book.config (moment_at book.entries caller.now) h
     → has_room book 2 ≡ true → has_total book h ≡ true → int_lt (balance book.entries h.from -ℤ pos h.amount) (peer_at book.config h.from).least ≡ false
     → Admits book (entry_by book caller (what.Hold h))
 fitted_admitted book caller h lawful terms room total least =
     let C = book.config in
     let limits : IsWithinLimits book = limits_now book lawful in
+    let since = nat_le book.base (length book.entries) in
     let in_fits = nat_le (total_in (peer_assets C) book.base book.entries (asset_of C h.from) + h.amount) most in
     let out_fits = nat_le (total_out (peer_assets C) book.base book.entries (asset_of C h.to) + h.out) most in
     let totals : (in_fits ≡ true) × (out_fits ≡ true) = and_parts in_fits out_fits total in
-    let fits : length book.entries + open_count book.entries + 2 ≤ C.settings.journal = leb-true _ _ room in
-    record {
-      answers = tt;
-      closings = tt;
-      outcomes = tt;
-      holds = terms;
-      credits = tt;
-      asks = tt;
-      moments = in_time book caller (what.Hold h) lawful;
-      cover = λ p known. covered C book.entries h.from h.amount p (limits.least p known) (lower _ _ _ least);
-      room = omega (arith, fits);
-      totals_in = λ x. within C x h.from h.amount (total_in (peer_assets C) book.base book.entries x) (limits.totals_in x)
-          (λ same. subst (λ y. total_in (peer_assets C) book.base book.entries y + h.amount ≤ most) same (leb-true _ _ totals.0));
-      totals_out = λ x. within C x h.to h.out (total_out (peer_assets C) book.base book.entries x) (limits.totals_out x)
-          (λ same. subst (λ y. total_out (peer_assets C) book.base book.entries y + h.out ≤ most) same (leb-true _ _ totals.1));
-    }
+    hold_admits book (moment_at book.entries caller.now) caller.actor h lawful (in_time book caller (what.Hold h) lawful) terms room (lower _ _ _ least)
+    (λ x. omega (
+      arith,
+      at_most since (amount_in (peer_assets C) x h),
+      within C x h.from h.amount (total_in (peer_assets C) book.base book.entries x) (limits.totals_in x)
+          (λ same. subst (λ y. total_in (peer_assets C) book.base book.entries y + h.amount ≤ most) same (leb-true _ _ totals.0)),
+    ))
+    (λ x. omega (
+      arith,
+      at_most since (amount_out (peer_assets C) x h),
+      within C x h.to h.out (total_out (peer_assets C) book.base book.entries x) (limits.totals_out x)
+          (λ same. subst (λ y. total_out (peer_assets C) book.base book.entries y + h.out ≤ most) same (leb-true _ _ totals.1)),
+    ))
   where
     lower : (b l : ℤ) (a : ℕ) → int_lt (b -ℤ pos a) l ≡ false → (l +ℤ pos a) ≤ℤ b
     lower b l a t = omega (arith, ints)

@@ -1,20 +1,20 @@
 -- The moment of a call, and entries that lower no balance and open nothing.
 use Rattle.std.proofs.Common.{◌≡◌, ℕ, ◌+◌, ◌≤◌, ℤ, pos, ◌+ℤ◌, length, sym, subst, arith}
-use Rattle.std.specs.Prelude.{◌≤ℤ◌}
+use Rattle.std.specs.Prelude.{◌≤ℤ◌, nat_le}
 use Rattle.std.specs.Int.{int_min, int_max}
 use Rattle.std.proofs.lemmas.Int.{ints, clamps}
 use Rattle.ilp_accounts.specs.Configuration.{peer_at}
 use Rattle.ilp_journal.specs.declared.entry.Entry.{Entry}
 use Rattle.ilp_journal.specs.declared.entry.What.{What}
 use Rattle.ilp_journal.specs.declared.entry.Hold.{Hold}
-use Rattle.ilp_journal.specs.Journal.{AnswersOnce, ClosesOnce, of_hold, open_count, opening, closing, last_moment}
+use Rattle.ilp_journal.specs.Journal.{of_hold, open_count, opening, closing, last_moment}
 use Rattle.ilp_journal.specs.Balance.{balance, fall}
 use Rattle.ilp_journal.specs.TrialBalance.{amount_in, amount_out}
 use Rattle.ilp_book.specs.Configured.{peer_assets}
 use Rattle.ilp_terms.specs.Expiry.{last_of_all}
 use Rattle.ilp_book.specs.Book.{PlainBook, By, entry_by, moment_at, pushed}
-use Rattle.ilp_book.specs.Lawful.{IsLawful, IsWithinLimits, HasOutcome, IsGoodHold, IsGoodCredit, IsGoodAsk, IsInTime}
-use Rattle.ilp_book.proofs.LawfulGrowth.{Admits, lawful_push, limits_now, last_in_time}
+use Rattle.ilp_book.specs.Lawful.{IsLawful, IsWithinLimits, KeepsRuleOf, IsInTime}
+use Rattle.ilp_book.proofs.LawfulGrowth.{Admits, at_most, lawful_push, limits_now, last_in_time}
 
 -- an entry at the moment of a call is in time
 pub in_time : (book : PlainBook) (caller : By) (w : What) → IsLawful book → IsInTime book.entries (entry_by book caller w)
@@ -27,26 +27,20 @@ in_time book caller w lawful =
     between : (last now : ℤ) → pos 0 ≤ℤ last → last ≤ℤ last_of_all → let m : ℤ = int_max (int_max (pos 0) (int_min now last_of_all)) last in (last ≤ℤ m) × (pos 0 ≤ℤ m) × (m ≤ℤ last_of_all)
     between last now low high = (omega (arith, ints, clamps), omega (arith, ints, clamps), omega (arith, ints, clamps))
 
--- an entry that lowers no balance and is no hold is admitted where it keeps its own rules
+-- an entry that lowers no balance and is no hold is admitted where it keeps its own rule
 pub calm : (book : PlainBook) (e : Entry) → IsLawful book
-    → AnswersOnce book.entries e → ClosesOnce book.entries e → HasOutcome book.base book.entries e → IsGoodHold book.config book.entries e → IsGoodCredit book.config book.entries e
-    → IsGoodAsk book.config book.entries e → IsInTime book.entries e → ((p : ℕ) → fall p e.what ≡ 0) → ((f : Hold → ℕ) → of_hold f e.what ≡ 0)
+    → KeepsRuleOf book book.entries e → IsInTime book.entries e → ((p : ℕ) → fall p e.what ≡ 0) → ((f : Hold → ℕ) → of_hold f e.what ≡ 0)
     → length book.entries + 1 + (open_count book.entries + opening e.what) ≤ book.config.settings.journal + closing e.what → Admits book e
-calm book e lawful answers closings outcomes holds credits asks moments falls no_hold room =
+calm book e lawful rule moments falls no_hold room =
     let limits : IsWithinLimits book = limits_now book lawful in
     let assets = peer_assets book.config in
     record {
-      answers = answers;
-      closings = closings;
-      outcomes = outcomes;
-      holds = holds;
-      credits = credits;
-      asks = asks;
+      rule = rule;
       moments = moments;
       cover = λ p known. rw (falls p) (same (balance book.entries p) (peer_at book.config p).least (limits.least p known));
       room = room;
-      totals_in = λ x. omega (arith, no_hold (amount_in assets x), limits.totals_in x);
-      totals_out = λ x. omega (arith, no_hold (amount_out assets x), limits.totals_out x);
+      totals_in = λ x. omega (arith, no_hold (amount_in assets x), at_most (nat_le book.base (length book.entries)) (of_hold (amount_in assets x) e.what), limits.totals_in x);
+      totals_out = λ x. omega (arith, no_hold (amount_out assets x), at_most (nat_le book.base (length book.entries)) (of_hold (amount_out assets x) e.what), limits.totals_out x);
     }
   where
     same : (b l : ℤ) → l ≤ℤ b → (l +ℤ pos 0) ≤ℤ b

@@ -16,7 +16,6 @@ use Rattle.ilp_journal.specs.Places.{Each}
 use Rattle.ilp_journal.specs.Journal.{Entries, AnswersHold, ClosesAsk, AnswersOnce, ClosesOnce, as_hold, is_unanswered, open_hold_at, open_count, opening, closing, last_moment}
 use Rattle.ilp_journal.proofs.Sums.{Each-parts}
 use Rattle.ilp_journal.proofs.Growth.{open_count-push}
-use Rattle.ilp_journal.proofs.Bases.{base_zero, base-push}
 use Rattle.ilp_journal.proofs.Closers.{AnswersHold-once, ClosesAsk-once}
 use Rattle.ilp_holds.specs.Table.{Table}
 use Rattle.ilp_settlement.specs.KeyTable.{PlainKeyTable}
@@ -25,20 +24,20 @@ use Rattle.ilp_tallies.specs.Tallies.{PlainTallies, AreTallies, KnowsPeers, Grow
 use Rattle.ilp_tallies.proofs.Growing.{own_tallies}
 use Rattle.ilp_book.specs.Book.{PlainBook, pushed}
 use Rattle.ilp_book.specs.Configured.{peer_assets}
-use Rattle.ilp_book.specs.Lawful.{IsLawful, IsGoodHold, IsGoodCredit, IsGoodAsk}
+use Rattle.ilp_book.specs.Lawful.{IsLawful, KeepsRuleOf}
 use Rattle.ilp_book.specs.Open.{as_credit}
 use Rattle.ilp_book.specs.Parts.{AreParts, book_of}
 use Rattle.ilp_book.specs.Tables.{deadline_of, AreTables, FollowsHolds, KeepsKey}
 use Rattle.ilp_book.proofs.LawfulGrowth.{lawful_empty, limits_now}
+use Rattle.ilp_book.proofs.Rules.{rule_answers, rule_closes, answers_once, closes_once}
 use Rattle.ilp_book.proofs.TableSteps.{open_after, kept_after, key_fresh, peers_known, room_to_ask, keeps_nothing}
 
 -- the parts of a book of no entries
-pub parts_new : (C : Configuration) (journal : Booked) (tallies : PlainTallies) (holds : Table) (keys : PlainKeyTable) → IsValid C → journal.entries ≡ [] → journal.limit ≡ C.settings.journal
-    → AreTables (peer_assets C) 0 [] tallies holds keys → AreParts C 0 journal tallies holds keys
-parts_new C journal tallies holds keys valid empty limited tabled = record {
+pub parts_new : (C : Configuration) (base : ℕ) (journal : Booked) (tallies : PlainTallies) (holds : Table) (keys : PlainKeyTable) → IsValid C → journal.entries ≡ [] → journal.limit ≡ C.settings.journal
+    → AreTables (peer_assets C) base [] tallies holds keys → AreParts C base journal tallies holds keys
+parts_new C base journal tallies holds keys valid empty limited tabled = record {
   valid = valid;
-  lawful = rw empty (lawful_empty (book_of C 0 journal) valid);
-  opened = base_zero journal.entries;
+  lawful = rw empty (lawful_empty (book_of C base journal) valid);
   limited = limited;
   tabled = rw empty tabled;
   room = rw empty (omega arith);
@@ -66,13 +65,24 @@ last_entry_stands (x ∷ xs) none = absurd (from x xs (length (x ∷ xs) - 1) (o
 
 -- ---- what is named
 
+-- the last entry of a lawful book keeps its rule
+pub rule_last : (book : PlainBook) (e : Entry) → IsLawful (pushed book e) → KeepsRuleOf book book.entries e
+rule_last book e after = (Each-parts (KeepsRuleOf book) book.entries e after.rules).1
+
+-- so it answers an open hold, if any, and closes an open settlement, if any
+pub answers_last : (book : PlainBook) (e : Entry) → IsLawful (pushed book e) → AnswersOnce book.entries e
+answers_last book e after = rule_answers book.config book.base book.entries e (rule_last book e after)
+
+pub closes_last : (book : PlainBook) (e : Entry) → IsLawful (pushed book e) → ClosesOnce book.entries e
+closes_last book e after = rule_closes book.config book.base book.entries e (rule_last book e after)
+
 -- a lawful entry answers a hold that stands before it
 pub names_hold : (book : PlainBook) (e : Entry) → IsLawful (pushed book e) → AnswersHold book.entries e
-names_hold book e after = AnswersHold-once book.entries e (Each-parts AnswersOnce book.entries e after.answers).1
+names_hold book e after = AnswersHold-once book.entries e (answers_last book e after)
 
 -- and closes a settlement that stands before it
 pub names_ask : (book : PlainBook) (e : Entry) → IsLawful (pushed book e) → ClosesAsk book.entries e
-names_ask book e after = ClosesAsk-once book.entries e (Each-parts ClosesOnce book.entries e after.closings).1
+names_ask book e after = ClosesAsk-once book.entries e (closes_last book e after)
 
 -- ---- what ends
 
@@ -89,9 +99,7 @@ ends_alone (what.Undone ask) one = refl
 -- it leaves one open less
 pub end_frees : (book : PlainBook) (e : Entry) → IsLawful book → IsLawful (pushed book e) → closing e.what ≡ 1 → open_count (book.entries ++ e ∷ []) + 1 ≡ open_count book.entries
 end_frees book e before after one =
-    let answers = Each-parts AnswersOnce book.entries e after.answers in
-    let closes = Each-parts ClosesOnce book.entries e after.closings in
-    omega (arith, open_count-push book.entries e before.answers before.closings answers.1 closes.1, one, ends_alone e.what one)
+    omega (arith, open_count-push book.entries e (answers_once book before) (closes_once book before) (answers_last book e after) (closes_last book e after), one, ends_alone e.what one)
 
 -- so one more entry fits
 pub end_fits : (C : Configuration) (base : ℕ) (journal : Booked) (tallies : PlainTallies) (holds : Table) (keys : PlainKeyTable) (e : Entry) → AreParts C base journal tallies holds keys → IsLawful (pushed (book_of C base journal) e) → closing e.what ≡ 1
@@ -130,9 +138,7 @@ end_keeps keys n w one = keeps_nothing keys n w (no_credit w one)
 -- it leaves so many more open as it opens
 grown_opens : (book : PlainBook) (e : Entry) → IsLawful book → IsLawful (pushed book e) → closing e.what ≡ 0 → open_count (book.entries ++ e ∷ []) ≡ open_count book.entries + opening e.what
 grown_opens book e before after none =
-    let answers = Each-parts AnswersOnce book.entries e after.answers in
-    let closes = Each-parts ClosesOnce book.entries e after.closings in
-    omega (arith, open_count-push book.entries e before.answers before.closings answers.1 closes.1, none)
+    omega (arith, open_count-push book.entries e (answers_once book before) (closes_once book before) (answers_last book e after) (closes_last book e after), none)
 
 -- so the entry fits, and what is open then is counted
 pub grown_fits : (C : Configuration) (base : ℕ) (journal : Booked) (tallies : PlainTallies) (holds : Table) (keys : PlainKeyTable) (opened : ℕ) (e : Entry) → AreParts C base journal tallies holds keys → IsLawful (pushed (book_of C base journal) e) → closing e.what ≡ 0 → opening e.what ≡ opened
@@ -145,6 +151,27 @@ grown_fits C base journal tallies holds keys opened e parts after none opens =
     (omega (arith, limits, longer, parts.limited), omega (arith, grown, opens, limits, parts.limited))
 
 -- ---- one entry more
+
+-- an entry that may come next fits
+pub next_fits : (C : Configuration) (base : ℕ) (journal : Booked) (tallies : PlainTallies) (holds : Table) (keys : PlainKeyTable) (e : Entry) → AreParts C base journal tallies holds keys → IsLawful (pushed (book_of C base journal) e)
+    → length journal.entries < journal.limit
+next_fits C base journal tallies holds keys e parts after =
+    omega (arith, (limits_now (pushed (book_of C base journal) e) after).room, length-append journal.entries (e ∷ []), parts.limited)
+
+-- it opens one at most
+pub opens_one : (w : What) → opening w ≤ 1
+opens_one (what.Hold h) = omega arith
+opens_one (what.Fulfilled h preimage) = omega arith
+opens_one (what.Released h cause) = omega arith
+opens_one (what.Credited c) = omega arith
+opens_one (what.Asked a) = omega arith
+opens_one (what.Confirmed ask) = omega arith
+opens_one (what.Undone ask) = omega arith
+
+-- and leaves no more open than were and it opens
+opens_at_most : (book : PlainBook) (e : Entry) → IsLawful book → IsLawful (pushed book e) → open_count (book.entries ++ e ∷ []) ≤ open_count book.entries + opening e.what
+opens_at_most book e before after =
+    omega (arith, open_count-push book.entries e (answers_once book before) (closes_once book before) (answers_last book e after) (closes_last book e after))
 
 -- what the tables want to know of the next entry
 pub record IsNext (j : Entries) (tallies : PlainTallies) (deadlines : FinMap nat_cmp ℤ) (e : Entry) : Type 0 where
@@ -163,18 +190,17 @@ pub is_next : (C : Configuration) (base : ℕ) (journal : Booked) (tallies : Pla
     → IsNext journal.entries tallies holds.map e
 is_next C base journal tallies holds keys e parts after room =
     let j = journal.entries in
-    let hold = (Each-parts (IsGoodHold C) j e after.holds).1 in
-    let credit = (Each-parts (IsGoodCredit C) j e after.credits).1 in
-    let ask = (Each-parts (IsGoodAsk C) j e after.asks).1 in
+    let book = book_of C base journal in
+    let rule = rule_last book e after in
     record {
       tallied = own_tallies (peer_assets C) base j tallies parts.tabled.tallied;
       longer = omega (arith, room, parts.limited, parts.valid.settings.journal.1);
-      few = room_to_ask C j e.what ask;
-      known = subst (λ (assets : List ℕ). KnowsPeers (length assets) e.what) (sym parts.tabled.tallied.listed) (peers_known C j e.moment e.what hold credit ask);
-      answers = parts.lawful.answers;
-      closings = parts.lawful.closings;
-      answer = (Each-parts AnswersOnce j e after.answers).1;
-      closes = (Each-parts ClosesOnce j e after.closings).1;
+      few = room_to_ask C base j e.moment e.what rule;
+      known = subst (λ (assets : List ℕ). KnowsPeers (length assets) e.what) (sym parts.tabled.tallied.listed) (peers_known C base j e.moment e.what rule);
+      answers = answers_once book parts.lawful;
+      closings = closes_once book parts.lawful;
+      answer = answers_last book e after;
+      closes = closes_last book e after;
       absent = parts.tabled.open_holds (length j) ∙ ap deadline_of (none_past j (length j) (omega arith));
     }
   where
@@ -191,21 +217,27 @@ still_next j k tallies same deadlines those e entries listed held next =
     subst (λ (es : Entries). IsNext es same those e) (sym entries)
     (subst (λ (t : PlainTallies). IsNext j t those e) (sym listed) (subst (λ (m : FinMap nat_cmp ℤ). IsNext j tallies m e) (sym held) next))
 
+-- it is so of each entry that may come next, where room is made for it
+pub next_of : (C : Configuration) (base : ℕ) (journal : Booked) (entries : Entries) (tallies same : PlainTallies) (holds : Table) (those : FinMap nat_cmp ℤ) (keys : PlainKeyTable) (e : Entry) → AreParts C base journal tallies holds keys → IsLawful (pushed (book_of C base journal) e)
+    → entries ≡ journal.entries → same ≡ tallies → those ≡ holds.map → IsNext entries same those e
+next_of C base journal entries tallies same holds those keys e parts lawful grown listed held =
+    still_next journal.entries entries tallies same holds.map those e grown listed held (is_next C base journal tallies holds keys e parts lawful (next_fits C base journal tallies holds keys e parts lawful))
+
 -- the parts of the book after an entry that its tables follow
 pub parts_next : (C : Configuration) (base : ℕ) (before after : Booked) (tallies tallied : PlainTallies) (holds held : Table) (keys kept : PlainKeyTable) (e : Entry) → AreParts C base before tallies holds keys → IsLawful (pushed (book_of C base before) e)
     → after.entries ≡ before.entries ++ e ∷ [] → after.limit ≡ before.limit → open_count (before.entries ++ e ∷ []) ≤ after.spare
     → GrowsBy before.entries e tallies tallied → FollowsHolds holds.map held.map (length before.entries) e.what → KeepsKey keys kept (length before.entries) e.what → AreParts C base after tallied held kept
 parts_next C base before after tallies tallied holds held keys kept e parts lawful grown limit room grows follows keeps =
     let j = before.entries in
+    let book = book_of C base before in
     record {
       valid = parts.valid;
       lawful = rw grown lawful;
-      opened = rw grown (base-push j e base parts.opened);
       limited = limit ∙ parts.limited;
       tabled = rw grown (record {
         tallied = grows (peer_assets C) base parts.tabled.tallied;
-        open_holds = open_after j e holds.map held.map parts.lawful.answers (Each-parts AnswersOnce j e lawful.answers).1 parts.tabled.open_holds follows;
-        kept = kept_after j e keys kept (key_fresh C j e.what (Each-parts (IsGoodCredit C) j e lawful.credits).1) parts.tabled.kept keeps;
+        open_holds = open_after j e holds.map held.map (answers_once book parts.lawful) (answers_last book e lawful) parts.tabled.open_holds follows;
+        kept = kept_after j e keys kept (key_fresh C base j e.moment e.what (rule_last book e lawful)) parts.tabled.kept keeps;
       });
       room = rw grown room;
     }
@@ -219,14 +251,14 @@ parts_closed C base before after tallies tallied holds held keys kept e parts la
     parts_next C base before after tallies tallied holds held keys kept e parts lawful grown limit (omega (arith, frees, used, parts.room)) grows follows
     (subst (λ (t : PlainKeyTable). KeepsKey keys t (length before.entries) e.what) (sym still) (end_keeps keys (length before.entries) e.what one))
 
--- those after another entry, with room made between
+-- those after an entry for which room was made between
 pub parts_grown : (C : Configuration) (base : ℕ) (before between after : Booked) (tallies same tallied : PlainTallies) (holds those held : Table) (keys ready kept : PlainKeyTable) (opened : ℕ) (e : Entry) → AreParts C base before tallies holds keys → IsLawful (pushed (book_of C base before) e)
-    → closing e.what ≡ 0 → opening e.what ≡ opened → between.entries ≡ before.entries → after.entries ≡ between.entries ++ e ∷ [] → open_count before.entries + opened ≤ after.spare → after.limit ≡ before.limit
+    → opening e.what ≤ opened → between.entries ≡ before.entries → after.entries ≡ between.entries ++ e ∷ [] → open_count before.entries + opened ≤ after.spare → after.limit ≡ before.limit
     → same ≡ tallies → GrowsBy between.entries e same tallied → those.map ≡ holds.map → FollowsHolds those.map held.map (length between.entries) e.what → KeepsKey keys ready (length before.entries) e.what → kept ≡ ready
     → AreParts C base after tallied held kept
-parts_grown C base before between after tallies same tallied holds those held keys ready kept opened e parts lawful none opens entries grown room limit listed grows held_are follows keeps still =
+parts_grown C base before between after tallies same tallied holds those held keys ready kept opened e parts lawful opens entries grown room limit listed grows held_are follows keeps still =
     let j = before.entries in
-    let counted = grown_opens (book_of C base before) e parts.lawful lawful none in
+    let counted = opens_at_most (book_of C base before) e parts.lawful lawful in
     parts_next C base before after tallies tallied holds held keys kept e parts lawful (grown ∙ ap (λ (es : Entries). es ++ e ∷ []) entries) limit (omega (arith, counted, opens, room))
     (subst (λ (t : PlainTallies). GrowsBy j e t tallied) listed (subst (λ (es : Entries). GrowsBy es e same tallied) entries grows))
     (subst (λ (m : FinMap nat_cmp ℤ). FollowsHolds m held.map (length j) e.what) held_are (subst (λ (es : Entries). FollowsHolds those.map held.map (length es) e.what) entries follows))

@@ -10,7 +10,8 @@ use Rattle.ilp_journal.specs.declared.entry.Entry.{Entry}
 use Rattle.ilp_journal.specs.Places.{Each}
 use Rattle.ilp_journal.specs.declared.entry.What.{What}
 use Rattle.ilp_journal.specs.declared.entry.What.TheVariants as what
-use Rattle.ilp_journal.specs.Journal.{Entries, AnswersOnce, ClosesOnce, of_hold, open_count, open_asks, opening, closing, last_moment}
+use Rattle.ilp_journal.specs.declared.entry.Cause.TheVariants.{Restart}
+use Rattle.ilp_journal.specs.Journal.{Entries, of_hold, open_count, open_asks, opening, closing, last_moment}
 use Rattle.ilp_journal.specs.Balance.{balance, rise, fall}
 use Rattle.ilp_journal.specs.TrialBalance.{total_in, total_out, amount_in, amount_out}
 use Rattle.ilp_journal.proofs.Sums.{by_push, Each-push, Each-parts, Each-each}
@@ -19,24 +20,24 @@ use Rattle.ilp_journal.proofs.BooksGrowth.{total_in-push, total_out-push, total_
 use Rattle.ilp_book.specs.Configured.{IsKnown, peer_assets}
 use Rattle.ilp_terms.specs.Expiry.{last_of_all}
 use Rattle.ilp_book.specs.Book.{PlainBook, with_entries, with_base, pushed}
-use Rattle.ilp_book.specs.Lawful.{IsLawful, IsWithinLimits, IsOutcome, HasOutcome, IsGoodHold, IsGoodCredit, IsGoodAsk, IsInTime}
+use Rattle.ilp_book.specs.Lawful.{IsLawful, IsWithinLimits, KeepsRule, KeepsRuleOf, IsInTime}
 use Rattle.ilp_book.proofs.Known.{peer_valid}
+use Rattle.ilp_book.proofs.Rules.{rule_answers, rule_closes, answers_once, closes_once}
+
+-- what of an amount counts in the totals, if the next entry is since the base
+abbrev pub counted : PlainBook → ℕ → ℕ
+counted book amount = cond (nat_le book.base (length book.entries)) amount 0
 
 -- what the rules want of one more entry
 pub record Admits (book : PlainBook) (e : Entry) : Type 0 where
-  pub answers : AnswersOnce book.entries e
-  pub closings : ClosesOnce book.entries e
-  pub outcomes : HasOutcome book.base book.entries e
-  pub holds : IsGoodHold book.config book.entries e
-  pub credits : IsGoodCredit book.config book.entries e
-  pub asks : IsGoodAsk book.config book.entries e
+  pub rule : KeepsRuleOf book book.entries e
   pub moments : IsInTime book.entries e
   pub cover : (p : ℕ) → IsKnown book.config p → ((peer_at book.config p).least +ℤ pos (fall p e.what)) ≤ℤ balance book.entries p
   pub room : length book.entries + 1 + (open_count book.entries + opening e.what) ≤ book.config.settings.journal + closing e.what
-  pub totals_in : (x : ℕ) → total_in (peer_assets book.config) book.base book.entries x + of_hold (amount_in (peer_assets book.config) x) e.what ≤ most
-  pub totals_out : (x : ℕ) → total_out (peer_assets book.config) book.base book.entries x + of_hold (amount_out (peer_assets book.config) x) e.what ≤ most
+  pub totals_in : (x : ℕ) → total_in (peer_assets book.config) book.base book.entries x + counted book (of_hold (amount_in (peer_assets book.config) x) e.what) ≤ most
+  pub totals_out : (x : ℕ) → total_out (peer_assets book.config) book.base book.entries x + counted book (of_hold (amount_out (peer_assets book.config) x) e.what) ≤ most
 
-at_most : (b : Bool) (n : ℕ) → cond b n 0 ≤ n
+pub at_most : (b : Bool) (n : ℕ) → cond b n 0 ≤ n
 at_most true n = omega arith
 at_most false n = omega arith
 
@@ -44,20 +45,22 @@ limits_after : (book : PlainBook) (e : Entry) → IsLawful book → Admits book 
 limits_after book e lawful new =
     let C = book.config in
     let j = book.entries in
+    let answers = answers_once book lawful in
+    let closings = closes_once book lawful in
+    let answer = rule_answers C book.base j e new.rule in
+    let closing = rule_closes C book.base j e new.rule in
     record {
       least = λ p known. covered (peer_at C p).least (balance j p) (balance (j ++ e ∷ []) p) (rise j p e.what) (fall p e.what)
-          (balance-push j e p lawful.answers lawful.closings new.answers new.closings) (new.cover p known);
-      room = omega (arith, new.room, open_count-push j e lawful.answers lawful.closings new.answers new.closings, length-append j (e ∷ []));
+          (balance-push j e p answers closings answer closing) (new.cover p known);
+      room = omega (arith, new.room, open_count-push j e answers closings answer closing, length-append j (e ∷ []));
       totals_in = λ x. omega (
         arith,
-        total_in-push (peer_assets C) j e x book.base lawful.answers new.answers,
-        at_most (nat_le book.base (length j)) (of_hold (amount_in (peer_assets C) x) e.what),
+        total_in-push (peer_assets C) j e x book.base answers answer,
         new.totals_in x,
       );
       totals_out = λ x. omega (
         arith,
-        total_out-push (peer_assets C) j e x book.base lawful.answers new.answers,
-        at_most (nat_le book.base (length j)) (of_hold (amount_out (peer_assets C) x) e.what),
+        total_out-push (peer_assets C) j e x book.base answers answer,
         new.totals_out x,
       );
     }
@@ -73,12 +76,7 @@ pub lawful_push : (book : PlainBook) (e : Entry) → IsLawful book → Admits bo
 lawful_push book e lawful new =
     let j = book.entries in
     record {
-      answers = Each-push AnswersOnce j e lawful.answers new.answers;
-      closings = Each-push ClosesOnce j e lawful.closings new.closings;
-      outcomes = Each-push (HasOutcome book.base) j e lawful.outcomes new.outcomes;
-      holds = Each-push (IsGoodHold book.config) j e lawful.holds new.holds;
-      credits = Each-push (IsGoodCredit book.config) j e lawful.credits new.credits;
-      asks = Each-push (IsGoodAsk book.config) j e lawful.asks new.asks;
+      rules = Each-push (KeepsRuleOf book) j e lawful.rules new.rule;
       moments = Each-push IsInTime j e lawful.moments new.moments;
       empty = lawful.empty;
       limits = Each-push (After book) j e lawful.limits (limits_after book e lawful new);
@@ -88,12 +86,7 @@ lawful_push book e lawful new =
 pub lawful_empty : (book : PlainBook) → IsValid book.config → IsLawful (with_entries book [])
 unfolding balance total_in total_out open_asks
 lawful_empty book valid = record {
-  answers = tt;
-  closings = tt;
-  outcomes = tt;
-  holds = tt;
-  credits = tt;
-  asks = tt;
+  rules = tt;
   moments = tt;
   empty = record { least = λ p known. (peer_valid book.config p valid known).least; room = omega arith; totals_in = λ x. omega arith; totals_out = λ x. omega arith };
   limits = tt;
@@ -125,23 +118,18 @@ limits_raised book raised later limits = record {
 -- a lawful book whose base is raised is lawful
 pub lawful_raised : (book : PlainBook) (raised : ℕ) → book.base ≤ raised → IsLawful book → IsLawful (with_base book raised)
 lawful_raised book raised later lawful = record {
-  answers = lawful.answers;
-  closings = lawful.closings;
-  outcomes = Each-each (HasOutcome book.base) (HasOutcome raised) book.entries (λ before e has. same before e.moment e.what has) lawful.outcomes;
-  holds = lawful.holds;
-  credits = lawful.credits;
-  asks = lawful.asks;
+  rules = Each-each (KeepsRuleOf book) (KeepsRuleOf (with_base book raised)) book.entries (λ before e rule. kept before e.moment e.what rule) lawful.rules;
   moments = lawful.moments;
   empty = limits_raised (with_entries book []) raised later lawful.empty;
   limits = Each-each (After book) (After (with_base book raised)) book.entries
       (λ before e within. limits_raised (pushed (with_entries book before) e) raised later within) lawful.limits;
 }
   where
-    same : (before : Entries) (m : ℤ) (w : What) → IsOutcome book.base before m w → IsOutcome raised before m w
-    same before m (what.Hold h) has = tt
-    same before m (what.Fulfilled hold preimage) has = has
-    same before m (what.Released hold cause) has = has
-    same before m (what.Credited c) has = tt
-    same before m (what.Asked a) has = tt
-    same before m (what.Confirmed ask) has = tt
-    same before m (what.Undone ask) has = tt
+    kept : (before : Entries) (m : ℤ) (w : What) → KeepsRule book.config book.base before m w → KeepsRule book.config raised before m w
+    kept before m (what.Hold h) rule = rule
+    kept before m (what.Fulfilled hold preimage) rule = rule
+    kept before m (what.Released hold cause) rule = (rule.0, λ (is : cause ≡ Restart). omega (arith, rule.1 is, later))
+    kept before m (what.Credited c) rule = rule
+    kept before m (what.Asked a) rule = rule
+    kept before m (what.Confirmed ask) rule = rule
+    kept before m (what.Undone ask) rule = rule

@@ -1,4 +1,5 @@
 pub mod Known
+pub mod Rules
 pub mod LawfulGrowth
 pub mod InTime
 pub mod HoldSteps
@@ -10,6 +11,11 @@ pub mod FirstAnswer
 pub mod Keeping
 pub mod Earliest
 pub mod TableSteps
+pub mod Judging
+pub mod Ending
+pub mod TakingUp
+pub mod CarriedBooks
+pub mod Rebasing
 pub mod KeptOnce
 pub mod SettledForGood
 pub mod RowProofs

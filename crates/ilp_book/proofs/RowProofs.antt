@@ -8,7 +8,7 @@ use Rattle.ilp_journal.specs.Journal.{open_holds, open_asks}
 use Rattle.ilp_book.specs.HoldStep.{hold_terms, hold_fitted, hold_checked, hold_step}
 use Rattle.ilp_book.specs.AnswerStep.{verdict, answer_step, expire_step}
 use Rattle.ilp_book.specs.SettleStep.{credit_checked, credit_step, ask_checked, ask_step, close_step}
-use Rattle.ilp_book.specs.Rows.{PaidRow, LateRow, ReleasedRow, ExpiredRow, LeastRow, TermsRow, TotalRow, FullRow, OlderRow, CreditedRow, SettledRow}
+use Rattle.ilp_book.specs.Rows.{PaidRow, LateRow, ReleasedRow, ExpiredRow, LeastRow, TermsRow, TotalRow, FullRow, OlderRow, CreditedRow, SettledRow, CarriedRow}
 
 pub paid_row : (c : List ℕ) → meets c (replicate 32 0) ≡ true → PaidRow c
 unfolding quote balance total_in total_out open_holds hold_terms hold_fitted hold_checked hold_step verdict answer_step
@@ -68,3 +68,7 @@ credited_row = refl
 pub settled_row : SettledRow
 unfolding balance open_asks credit_checked credit_step ask_checked ask_step close_step
 settled_row = refl
+
+pub carried_row : (c : List ℕ) → CarriedRow c
+unfolding quote balance total_in total_out hold_terms hold_fitted hold_checked hold_step
+carried_row c = record { before = refl; from_then_on = refl; base = refl; given_back = refl }

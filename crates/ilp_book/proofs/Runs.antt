@@ -9,6 +9,7 @@ use Rattle.ilp_book.specs.Configured.{peer_assets}
 use Rattle.ilp_book.specs.Lawful.{IsLawful}
 use Rattle.ilp_book.specs.Run.{Call, hold, answer, expire, credit, ask, close, Step, made_by, after_step, book_after, IsAllowed, AreAllowed}
 use Rattle.ilp_book.proofs.LawfulGrowth.{lawful_empty}
+use Rattle.ilp_book.proofs.Rules.{answers_once}
 use Rattle.ilp_book.proofs.HoldSteps.{hold_lawful}
 use Rattle.ilp_book.proofs.AnswerSteps.{answer_lawful, expire_lawful}
 use Rattle.ilp_book.proofs.SettleSteps.{credit_lawful, ask_lawful, close_lawful}
@@ -31,7 +32,7 @@ steps_lawful book (s ∷ ss) valid lawful allowed =
 
 -- a lawful book is balanced
 pub lawful_balanced : (book : PlainBook) (x : ℕ) → IsLawful book → IsBalanced (peer_assets book.config) book.entries x
-lawful_balanced book x lawful = trial_balance (peer_assets book.config) x book.entries lawful.answers
+lawful_balanced book x lawful = trial_balance (peer_assets book.config) x book.entries (answers_once book lawful)
 
 -- from the book of no entries on
 pub runs_lawful : (C : Configuration) (steps : List Step) → IsValid C → AreAllowed C steps → IsLawful (book_after (new_book C) steps)

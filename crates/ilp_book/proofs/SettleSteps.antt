@@ -1,6 +1,6 @@
 -- A credit, an ask or a closing that a step appends to a lawful journal is admitted by its rules.
 use Rattle.std.proofs.Common.{◌≡◌, ℕ, ◌+◌, ◌≤◌, ℤ, pos, negsuc, ◌+ℤ◌, ◌-ℤ◌, true, false, not, ◌&&◌, List, length, Option, Some, None, refl, sym, ap, ◌∙◌, subst, arith}
-use Rattle.std.specs.Prelude.{Result, Ok, Err, ◌≤ℤ◌, ◌<ℤ◌, int_le, nat_lt, ◌==◌, unwrap_or, option_map, option_and_then, IsSome, IsNone, IfSome, IsSomeAnd, nat_abs}
+use Rattle.std.specs.Prelude.{Result, Ok, Err, ◌≤ℤ◌, ◌<ℤ◌, int_le, nat_lt, nat_le, ◌==◌, unwrap_or, option_map, option_and_then, IsSome, IsNone, IfSome, IsSomeAnd, nat_abs}
 use Rattle.std.specs.Int.{int_min}
 use Rattle.std.specs.Str.{bytes_eq}
 use Rattle.std.proofs.lemmas.Int.{ints, clamps}
@@ -16,7 +16,7 @@ use Rattle.ilp_journal.specs.declared.entry.What.TheVariants as what
 use Rattle.ilp_journal.specs.declared.entry.Ask.{Ask}
 use Rattle.ilp_journal.specs.declared.entry.Credited.{Credited}
 use Rattle.ilp_journal.specs.Keys.{IsKey}
-use Rattle.ilp_journal.specs.Journal.{Entries, ask_at, closing_of, is_unclosed, open_count, open_ask_at}
+use Rattle.ilp_journal.specs.Journal.{Entries, open_count, open_ask_at}
 use Rattle.ilp_journal.specs.Balance.{balance}
 use Rattle.ilp_book.specs.declared.calls.Asked.{Asked}
 use Rattle.ilp_book.specs.declared.calls.Kept.{Kept}
@@ -27,11 +27,11 @@ use Rattle.ilp_book.specs.declared.fault.AskFault.TheVariants as ask_fault
 use Rattle.ilp_book.specs.Configured.{IsKnown}
 use Rattle.ilp_book.specs.Book.{PlainBook, By, Does, Growth, granted, denied, entry_by, has_room, moment_at, pushed, with_entry}
 use Rattle.ilp_book.specs.Open.{as_credit, credit_at, has_key, kept_at}
-use Rattle.ilp_book.specs.Lawful.{IsLawful, IsWithinLimits, IsFreshCredit, IsDueAsk, owed_above}
+use Rattle.ilp_book.specs.Lawful.{IsLawful, IsWithinLimits, IsInTime, IsFreshCredit, IsDueAsk, owed_above}
 use Rattle.ilp_book.specs.SettleStep.{Payment, EngineVerdict, accepted, rejected, closing_of_verdict, amount_of, credit_of, kept, credit_fresh, credit_checked, credit_booked, credit_step, still_open, due_amount, ask_fitted, ask_checked, ask_booked, ask_step, close_booked, close_step}
 use Rattle.ilp_book.proofs.Known.{peer_valid, covered}
-use Rattle.ilp_book.proofs.LawfulGrowth.{Admits, lawful_push, limits_now}
-use Rattle.ilp_order.proofs.RefusalLemmas.{refused_not, none_refused, found, ok_same, some_same, not_true, chosen, is_none_at, is_some_at}
+use Rattle.ilp_book.proofs.LawfulGrowth.{Admits, at_most, lawful_push, limits_now}
+use Rattle.ilp_order.proofs.RefusalLemmas.{refused_not, none_refused, found, ok_same, some_same, not_true, chosen, is_some_at}
 use Rattle.ilp_book.proofs.InTime.{in_time, calm}
 use Rattle.ilp_book.proofs.OpenAsks.{first_found, few_open}
 
@@ -42,15 +42,13 @@ pub close_keeps : (book : PlainBook) (caller : By) (n : ℕ) (verdict : EngineVe
     → IsLawful (pushed book (entry_by book caller (closing_of_verdict n verdict)))
 close_keeps book caller n verdict a lawful is = of verdict
   where
-    closes : IsSome (ask_at book.entries n) × IsNone (closing_of book.entries n)
-    closes =
-        let open_ask : (is_unclosed book.entries n ≡ true) × (ask_at book.entries n ≡ Some a) = chosen (is_unclosed book.entries n) (ask_at book.entries n) a is in
-        (is_some_at (ask_at book.entries n) a open_ask.1, is_none_at (closing_of book.entries n) open_ask.0)
+    stands : IsSome (open_ask_at book.entries n)
+    stands = is_some_at (open_ask_at book.entries n) a is
 
     of : (v : EngineVerdict) → IsLawful (pushed book (entry_by book caller (closing_of_verdict n v)))
-    of accepted = let r = (limits_now book lawful).room in lawful_push book _ lawful (calm book (entry_by book caller (what.Confirmed n)) lawful tt closes tt tt tt tt
+    of accepted = let r = (limits_now book lawful).room in lawful_push book _ lawful (calm book (entry_by book caller (what.Confirmed n)) lawful stands
         (in_time book caller (what.Confirmed n) lawful) (λ _. refl) (λ _. refl) (omega (arith, r)))
-    of rejected = let r = (limits_now book lawful).room in lawful_push book _ lawful (calm book (entry_by book caller (what.Undone n)) lawful tt closes tt tt tt tt
+    of rejected = let r = (limits_now book lawful).room in lawful_push book _ lawful (calm book (entry_by book caller (what.Undone n)) lawful stands
         (in_time book caller (what.Undone n) lawful) (λ _. refl) (λ _. refl) (omega (arith, r)))
 
 -- the same, where its moment and what it says are known by equations
@@ -99,12 +97,17 @@ none_kept j peer key e = of_test (kept_at j peer key) refl e
 pub fresh_credit : (C : Configuration) (j : Entries) (p : Payment) → IsKnown C p.peer → IsKey p.key → kept j p.peer p.key ≡ None → IsFreshCredit C j (credit_of C p)
 fresh_credit C j p known key none = record { known = known; named = key; rounded = refl; fresh = none_kept j p.peer p.key none }
 
--- a fresh credit is admitted where there is room
+-- a fresh credit is admitted where it is in time and there is room
+pub credit_admits : (book : PlainBook) (m : ℤ) (actor : ℕ) (c : Credited) → IsLawful book → IsInTime book.entries (record { moment = m; actor = actor; what = what.Credited c })
+    → IsFreshCredit book.config book.entries c → has_room book 1 ≡ true → Admits book (record { moment = m; actor = actor; what = what.Credited c })
+credit_admits book m actor c lawful timely fresh fits =
+    let room : length book.entries + open_count book.entries + 1 ≤ book.config.settings.journal = leb-true _ _ fits in
+    calm book _ lawful fresh timely (λ _. refl) (λ _. refl) (omega (arith, room))
+
+-- so it is at the moment of a call
 pub credit_admitted : (book : PlainBook) (caller : By) (c : Credited) → IsLawful book → IsFreshCredit book.config book.entries c → has_room book 1 ≡ true
     → Admits book (entry_by book caller (what.Credited c))
-credit_admitted book caller c lawful fresh fits =
-    let room : length book.entries + open_count book.entries + 1 ≤ book.config.settings.journal = leb-true _ _ fits in
-    calm book _ lawful tt tt tt tt fresh tt (in_time book caller _ lawful) (λ _. refl) (λ _. refl) (omega (arith, room))
+credit_admitted book caller c lawful = credit_admits book (moment_at book.entries caller.now) caller.actor c lawful (in_time book caller (what.Credited c) lawful)
 
 -- what is booked of a payment is a fresh credit that has room
 credit_facts : (book : PlainBook) (p : Payment) (c : Credited) → IsKnown book.config p.peer → IsKey p.key → credit_checked book p ≡ Ok c
@@ -135,7 +138,7 @@ credit_lawful book caller p growth lawful known key =
 -- ---- asks
 
 -- what is due is asked for from the threshold on
-due_from : (o : Option Levels) (peer : PlainPeer) (b : ℤ) (amount : ℕ) → IfSome o (AreOrdered peer) → due_amount b o ≡ Some amount
+pub due_from : (o : Option Levels) (peer : PlainPeer) (b : ℤ) (amount : ℕ) → IfSome o (AreOrdered peer) → due_amount b o ≡ Some amount
     → IsSomeAnd o (λ (v : Levels). (v.threshold ≤ℤ b) × (pos amount ≡ owed_above b v.settle_to))
 due_from None peer b amount v e = absurd cc
 due_from (Some v) peer b amount h e =
@@ -187,27 +190,27 @@ due_covered (Some v) peer b amount h due = bounded b peer.least v.settle_to amou
     bounded : (b l s : ℤ) (n : ℕ) → pos n ≡ int_min (b -ℤ s) (pos most) → l ≤ℤ s → (l +ℤ pos n) ≤ℤ b
     bounded b l s n e h = omega (arith, ints, clamps)
 
--- a due ask is admitted where there is room
-pub ask_admitted : (book : PlainBook) (caller : By) (a : Ask) → IsValid book.config → IsLawful book → IsDueAsk book.config book.entries a → has_room book 2 ≡ true
-    → Admits book (entry_by book caller (what.Asked a))
-ask_admitted book caller a valid lawful due fits =
+-- a due ask is admitted where it is in time and there is room
+pub ask_admits : (book : PlainBook) (m : ℤ) (actor : ℕ) (a : Ask) → IsValid book.config → IsLawful book → IsInTime book.entries (record { moment = m; actor = actor; what = what.Asked a })
+    → IsDueAsk book.config book.entries a → has_room book 2 ≡ true → Admits book (record { moment = m; actor = actor; what = what.Asked a })
+ask_admits book m actor a valid lawful timely due fits =
     let limits : IsWithinLimits book = limits_now book lawful in
     let room : length book.entries + open_count book.entries + 2 ≤ book.config.settings.journal = leb-true _ _ fits in
     let p = peer_at book.config a.peer in
     record {
-      answers = tt;
-      closings = tt;
-      outcomes = tt;
-      holds = tt;
-      credits = tt;
-      asks = due;
-      moments = in_time book caller (what.Asked a) lawful;
+      rule = due;
+      moments = timely;
       cover = λ q q_known. covered book.config book.entries a.peer a.amount q (limits.least q q_known)
           (due_covered p.levels p (balance book.entries a.peer) a.amount (peer_valid book.config a.peer valid due.known).levels due.due);
       room = omega (arith, room);
-      totals_in = λ x. omega (arith, limits.totals_in x);
-      totals_out = λ x. omega (arith, limits.totals_out x);
+      totals_in = λ x. omega (arith, at_most (nat_le book.base (length book.entries)) 0, limits.totals_in x);
+      totals_out = λ x. omega (arith, at_most (nat_le book.base (length book.entries)) 0, limits.totals_out x);
     }
+
+-- so it is at the moment of a call
+pub ask_admitted : (book : PlainBook) (caller : By) (a : Ask) → IsValid book.config → IsLawful book → IsDueAsk book.config book.entries a → has_room book 2 ≡ true
+    → Admits book (entry_by book caller (what.Asked a))
+ask_admitted book caller a valid lawful = ask_admits book (moment_at book.entries caller.now) caller.actor a valid lawful (in_time book caller (what.Asked a) lawful)
 
 -- what is booked of an ask is due and has room
 ask_facts : (book : PlainBook) (peer : ℕ) (ask : Ask) → IsValid book.config → IsKnown book.config peer → ask_checked book peer ≡ Ok ask

@@ -28,7 +28,7 @@ use Rattle.ilp_tallies.specs.OpenAsks.{HasRoomToAsk}
 use Rattle.ilp_tallies.specs.Tallies.{PlainTallies, AreTallies, KnowsPeers}
 use Rattle.ilp_book.specs.Configured.{peer_assets}
 use Rattle.ilp_book.specs.Open.{earliest, as_credit, has_key, kept_at}
-use Rattle.ilp_book.specs.Lawful.{IsHold, IsCredit, IsAsk}
+use Rattle.ilp_book.specs.Lawful.{KeepsRule}
 use Rattle.ilp_book.proofs.Known.{peers_listed}
 use Rattle.ilp_book.proofs.AnswerSteps.{open_stands}
 use Rattle.ilp_book.proofs.Earliest.{earliest_is}
@@ -163,31 +163,31 @@ keeps_nothing keys n w none peer key =
 -- ---- what the rules say of an entry's peers
 
 -- the peers of an entry that its rules allow are known
-pub peers_known : (C : Configuration) (j : Entries) (m : ℤ) (w : What) → IsHold C m w → IsCredit C j w → IsAsk C j w → KnowsPeers (length (peer_assets C)) w
-peers_known C j m (what.Hold h) hold credit ask = (rw (peers_listed C) hold.sender, rw (peers_listed C) hold.receiver)
-peers_known C j m (what.Fulfilled hold preimage) h c a = tt
-peers_known C j m (what.Released hold cause) h c a = tt
-peers_known C j m (what.Credited c) hold credit ask = rw (peers_listed C) credit.known
-peers_known C j m (what.Asked a) hold credit ask = rw (peers_listed C) ask.known
-peers_known C j m (what.Confirmed ask) h c a = tt
-peers_known C j m (what.Undone ask) h c a = tt
+pub peers_known : (C : Configuration) (base : ℕ) (j : Entries) (m : ℤ) (w : What) → KeepsRule C base j m w → KnowsPeers (length (peer_assets C)) w
+peers_known C base j m (what.Hold h) rule = (rw (peers_listed C) rule.sender, rw (peers_listed C) rule.receiver)
+peers_known C base j m (what.Fulfilled hold preimage) rule = tt
+peers_known C base j m (what.Released hold cause) rule = tt
+peers_known C base j m (what.Credited c) rule = rw (peers_listed C) rule.known
+peers_known C base j m (what.Asked a) rule = rw (peers_listed C) rule.known
+peers_known C base j m (what.Confirmed ask) rule = tt
+peers_known C base j m (what.Undone ask) rule = tt
 
 -- a settlement is asked for where fewer are open than there is room for
-pub room_to_ask : (C : Configuration) (j : Entries) (w : What) → IsAsk C j w → HasRoomToAsk j w
-room_to_ask C j (what.Hold h) ask = tt
-room_to_ask C j (what.Fulfilled hold preimage) ask = tt
-room_to_ask C j (what.Released hold cause) ask = tt
-room_to_ask C j (what.Credited c) ask = tt
-room_to_ask C j (what.Asked a) ask = omega (arith, ask.few_open)
-room_to_ask C j (what.Confirmed ask) a = tt
-room_to_ask C j (what.Undone ask) a = tt
+pub room_to_ask : (C : Configuration) (base : ℕ) (j : Entries) (m : ℤ) (w : What) → KeepsRule C base j m w → HasRoomToAsk j w
+room_to_ask C base j m (what.Hold h) rule = tt
+room_to_ask C base j m (what.Fulfilled hold preimage) rule = tt
+room_to_ask C base j m (what.Released hold cause) rule = tt
+room_to_ask C base j m (what.Credited c) rule = tt
+room_to_ask C base j m (what.Asked a) rule = omega (arith, rule.few_open)
+room_to_ask C base j m (what.Confirmed ask) rule = tt
+room_to_ask C base j m (what.Undone ask) rule = tt
 
 -- a credit's key is not kept yet
-pub key_fresh : (C : Configuration) (j : Entries) (w : What) → IsCredit C j w → IsFresh j w
-key_fresh C j (what.Hold h) credit = tt
-key_fresh C j (what.Fulfilled hold preimage) credit = tt
-key_fresh C j (what.Released hold cause) credit = tt
-key_fresh C j (what.Credited c) credit = credit.fresh
-key_fresh C j (what.Asked a) credit = tt
-key_fresh C j (what.Confirmed ask) credit = tt
-key_fresh C j (what.Undone ask) credit = tt
+pub key_fresh : (C : Configuration) (base : ℕ) (j : Entries) (m : ℤ) (w : What) → KeepsRule C base j m w → IsFresh j w
+key_fresh C base j m (what.Hold h) rule = tt
+key_fresh C base j m (what.Fulfilled hold preimage) rule = tt
+key_fresh C base j m (what.Released hold cause) rule = tt
+key_fresh C base j m (what.Credited c) rule = rule.fresh
+key_fresh C base j m (what.Asked a) rule = tt
+key_fresh C base j m (what.Confirmed ask) rule = tt
+key_fresh C base j m (what.Undone ask) rule = tt

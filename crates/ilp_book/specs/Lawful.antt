@@ -1,5 +1,5 @@
 -- Which journals a configuration allows. Each rule is one of an entry and the entries before it.
-use Rattle.std.specs.Prelude.{◌≡◌, ◌≢◌, ℕ, ◌+◌, ◌≤◌, ◌<◌, ℤ, pos, ◌+ℤ◌, ◌-ℤ◌, ◌<ℤ◌, ◌≤ℤ◌, ◌↔◌, IsTrue, IsNone, IfSome, IsSomeAnd, IsOkAnd, length, ⊤, []}
+use Rattle.std.specs.Prelude.{◌≡◌, ◌≢◌, ℕ, ◌+◌, ◌≤◌, ◌<◌, ℤ, pos, ◌+ℤ◌, ◌-ℤ◌, ◌<ℤ◌, ◌≤ℤ◌, ◌↔◌, IsTrue, IsNone, IsSome, IsSomeAnd, IsOkAnd, length, []}
 use Rattle.std.specs.Int.{int_min}
 use Rattle.ilp_assets.specs.declared.quote.Quote.{Quote}
 use Rattle.ilp_assets.specs.Quote.{most}
@@ -10,13 +10,13 @@ use Rattle.ilp_accounts.specs.Configuration.{Configuration, peer_at}
 use Rattle.ilp_journal.specs.declared.entry.Entry.{Entry}
 use Rattle.ilp_journal.specs.declared.entry.What.{What}
 use Rattle.ilp_journal.specs.declared.entry.What.TheVariants as what
-use Rattle.ilp_journal.specs.declared.entry.Cause.TheVariants.{Late}
+use Rattle.ilp_journal.specs.declared.entry.Cause.TheVariants.{Late, Restart}
 use Rattle.ilp_journal.specs.declared.entry.Hold.{Hold}
 use Rattle.ilp_journal.specs.declared.entry.Ask.{Ask}
 use Rattle.ilp_journal.specs.declared.entry.Credited.{Credited}
 use Rattle.ilp_journal.specs.Places.{Each}
 use Rattle.ilp_journal.specs.Keys.{IsKey}
-use Rattle.ilp_journal.specs.Journal.{Entries, AnswersOnce, ClosesOnce, hold_at, last_moment, open_count, open_asks}
+use Rattle.ilp_journal.specs.Journal.{Entries, open_hold_at, open_ask_at, last_moment, open_count, open_asks}
 use Rattle.ilp_journal.specs.Balance.{balance}
 use Rattle.ilp_journal.specs.TrialBalance.{total_in, total_out}
 use Rattle.ilp_terms.specs.Expiry.{last_of_all}
@@ -24,19 +24,6 @@ use Rattle.ilp_terms.specs.Condition.{meets}
 use Rattle.ilp_book.specs.Book.{PlainBook, with_entries, pushed}
 use Rattle.ilp_book.specs.Configured.{IsKnown, peer_assets, scale_at, quote_between}
 use Rattle.ilp_book.specs.Open.{kept_at}
-
--- ---- answers
-
--- A preimage counts where it meets the condition before the deadline. A release is late exactly from the deadline on. So far
--- it is the same for what the book began with, the entries below the base.
-abbrev pub IsOutcome : ℕ → Entries → ℤ → What → Type 0
-IsOutcome base before moment (what.Fulfilled hold preimage) =
-    IfSome (hold_at before hold) (λ (h : Hold). IsTrue (meets h.condition preimage) × (moment <ℤ h.deadline))
-IsOutcome base before moment (what.Released hold cause) = IfSome (hold_at before hold) (λ (h : Hold). (cause ≡ Late) ↔ (h.deadline ≤ℤ moment))
-IsOutcome base before moment _ = ⊤
-
-abbrev pub HasOutcome : ℕ → Entries → Entry → Type 0
-HasOutcome base before e = IsOutcome base before e.moment e.what
 
 -- ---- holds
 
@@ -50,13 +37,6 @@ pub record HasTerms (C : Configuration) (moment : ℤ) (h : Hold) : Type 0 where
   pub begins : moment <ℤ h.deadline
   pub ends : h.deadline ≤ℤ (moment +ℤ pos C.settings.max_hold_ms)
 
-abbrev pub IsHold : Configuration → ℤ → What → Type 0
-IsHold C moment (what.Hold h) = HasTerms C moment h
-IsHold C moment _ = ⊤
-
-abbrev pub IsGoodHold : Configuration → Entries → Entry → Type 0
-IsGoodHold C before e = IsHold C e.moment e.what
-
 -- ---- settlements
 
 -- the quantity that a credit named
@@ -69,13 +49,6 @@ pub record IsFreshCredit (C : Configuration) (before : Entries) (c : Credited) :
   pub named : IsKey c.key
   pub rounded : c.credited ≡ credited_at (quantity_named c) (scale_at C c.peer)
   pub fresh : IsNone (kept_at before c.peer c.key)
-
-abbrev pub IsCredit : Configuration → Entries → What → Type 0
-IsCredit C before (what.Credited c) = IsFreshCredit C before c
-IsCredit C before _ = ⊤
-
-abbrev pub IsGoodCredit : Configuration → Entries → Entry → Type 0
-IsGoodCredit C before e = IsCredit C before e.what
 
 -- what a settlement asks for: what lies above a level, as far as one packet can carry it
 abbrev pub owed_above : ℤ → ℤ → ℤ
@@ -92,12 +65,24 @@ pub record IsDueAsk (C : Configuration) (before : Entries) (a : Ask) : Type 0 wh
   pub due : IsSomeAnd (peer_at C a.peer).levels (λ (l : Levels).
       (l.threshold ≤ℤ balance before a.peer) × (pos a.amount ≡ owed_above (balance before a.peer) l.settle_to))
 
-abbrev pub IsAsk : Configuration → Entries → What → Type 0
-IsAsk C before (what.Asked a) = IsDueAsk C before a
-IsAsk C before _ = ⊤
+-- ---- entries
 
-abbrev pub IsGoodAsk : Configuration → Entries → Entry → Type 0
-IsGoodAsk C before e = IsAsk C before e.what
+-- The rule of an entry, by what it books. A hold ends once, and so does a settlement. A preimage counts where it meets the
+-- condition before the deadline. A release is late exactly from the deadline on; for a restart it is among what the book began
+-- with, the entries below the base.
+abbrev pub KeepsRule : Configuration → ℕ → Entries → ℤ → What → Type 0
+KeepsRule C base before moment (what.Hold h) = HasTerms C moment h
+KeepsRule C base before moment (what.Fulfilled hold preimage) =
+    IsSomeAnd (open_hold_at before hold) (λ (h : Hold). IsTrue (meets h.condition preimage) × (moment <ℤ h.deadline))
+KeepsRule C base before moment (what.Released hold cause) =
+    IsSomeAnd (open_hold_at before hold) (λ (h : Hold). (cause ≡ Late) ↔ (h.deadline ≤ℤ moment)) × (cause ≡ Restart → length before < base)
+KeepsRule C base before moment (what.Credited c) = IsFreshCredit C before c
+KeepsRule C base before moment (what.Asked a) = IsDueAsk C before a
+KeepsRule C base before moment (what.Confirmed ask) = IsSome (open_ask_at before ask)
+KeepsRule C base before moment (what.Undone ask) = IsSome (open_ask_at before ask)
+
+abbrev pub KeepsRuleOf : PlainBook → Entries → Entry → Type 0
+KeepsRuleOf book before e = KeepsRule book.config book.base before e.moment e.what
 
 -- ---- moments and limits
 
@@ -117,15 +102,9 @@ pub record IsWithinLimits (book : PlainBook) : Type 0 where
 
 -- ---- journals
 
--- The journal of a book keeps each rule, entry by entry.
+-- Each entry of a book keeps its rule and is in time, and the limits are kept at first and after each entry.
 pub record IsLawful (book : PlainBook) : Type 0 where
-  pub answers : Each AnswersOnce book.entries
-  pub closings : Each ClosesOnce book.entries
-  pub outcomes : Each (HasOutcome book.base) book.entries
-  pub holds : Each (IsGoodHold book.config) book.entries
-  pub credits : Each (IsGoodCredit book.config) book.entries
-  pub asks : Each (IsGoodAsk book.config) book.entries
+  pub rules : Each (KeepsRuleOf book) book.entries
   pub moments : Each IsInTime book.entries
-  -- the limits are kept at first, and after each entry
   pub empty : IsWithinLimits (with_entries book [])
   pub limits : Each (λ before e. IsWithinLimits (pushed (with_entries book before) e)) book.entries

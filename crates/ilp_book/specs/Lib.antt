@@ -5,6 +5,10 @@ pub mod Sums
 pub mod Tables
 pub mod Lawful
 pub mod Parts
+pub mod Judging
+pub mod Carried
+pub mod Carry
+pub mod TakenUp
 pub mod HoldStep
 pub mod RejectCode
 pub mod AnswerStep

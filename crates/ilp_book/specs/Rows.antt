@@ -1,9 +1,10 @@
 -- Worked runs of calls, and what they are answered. Alice may owe 100 cents, and bob settles; both have dollars at scale 2.
-use Rattle.std.specs.Prelude.{◌≡◌, ℕ, ◌+◌, pos, negsuc, true, false, List, [], ◌∷◌, replicate, Option, Some, None, Ok, Err, codes, map}
+use Rattle.std.specs.Prelude.{◌≡◌, ℕ, ◌+◌, pos, negsuc, true, false, List, [], ◌∷◌, ◌++◌, replicate, Option, Some, None, Ok, Err, codes, map}
 use Rattle.ilp_packet.specs.Packet.{PlainPrepare}
 use Rattle.ilp_assets.specs.declared.quote.QuoteFault.TheVariants as quote_fault
 use Rattle.ilp_accounts.specs.Configuration.{Configuration, PlainPeer, nobody}
 use Rattle.ilp_journal.specs.declared.entry.Entry.{Entry}
+use Rattle.ilp_journal.specs.declared.entry.What.TheVariants as what
 use Rattle.ilp_journal.specs.declared.entry.Cause.{Cause}
 use Rattle.ilp_journal.specs.declared.entry.Cause.TheVariants as cause
 use Rattle.ilp_journal.specs.Journal.{Entries, open_holds}
@@ -17,6 +18,7 @@ use Rattle.ilp_book.specs.declared.fault.CreditFault.TheVariants as credit_fault
 use Rattle.ilp_book.specs.declared.fault.AskFault.TheVariants as ask_fault
 use Rattle.ilp_terms.specs.Condition.{meets}
 use Rattle.ilp_book.specs.Book.{by, granted, new_book}
+use Rattle.ilp_book.specs.Carried.{begun_with, carried}
 use Rattle.ilp_settlement.specs.declared.quantity.Quantity.{Quantity}
 use Rattle.ilp_book.specs.SettleStep.{accepted, rejected}
 use Rattle.ilp_book.specs.Run.{Call, hold, answer, expire, credit, ask, close, CallReply, of_hold, of_answer, of_expire, of_credit, of_ask, of_close, Step, replies_to, book_after}
@@ -177,3 +179,16 @@ SettledRow =
     answers_of (between alice bob) (at_ 0 (settles 1 (cents 1000)) ∷ at_ 0 (ask 1) ∷ at_ 0 (ask 1) ∷ at_ 0 (close 1 rejected) ∷ at_ 0 (close 1 accepted) ∷ at_ 0 (ask 0) ∷ [])
     ≡ of_credit (Ok (record { number = 0; amount = 1000; fresh = true })) ∷ of_ask (Ok (record { number = 1; amount = 800 })) ∷ of_ask (Err (ask_fault.StillOpen 1 800))
     ∷ of_close (Ok 2) ∷ of_close (Err (record { closer = Some 2 })) ∷ of_ask (Err (ask_fault.NotDue (pos 0))) ∷ []
+
+-- the hold 0 is released by the actor 0
+abbrev pub ended_at : ℕ → Cause → Entry
+ended_at n c = record { moment = pos (new_year + n); actor = 0; what = what.Released 0 c }
+
+-- what is carried over of a payment of 100 cents whose hold is open: before the deadline it ends since the connector starts again
+pub record CarriedRow (c : List ℕ) : Type 0 where
+  pub before : carried (between alice bob) (entries_of (between alice bob) (at_ 0 (pay c 100) ∷ [])) (pos (new_year + 500))
+      ≡ begun_with (between alice bob) (entries_of (between alice bob) (at_ 0 (pay c 100) ∷ []) ++ ended_at 500 cause.Restart ∷ [])
+  pub from_then_on : carried (between alice bob) (entries_of (between alice bob) (at_ 0 (pay c 100) ∷ [])) (pos (new_year + 29000))
+      ≡ begun_with (between alice bob) (entries_of (between alice bob) (at_ 0 (pay c 100) ∷ []) ++ ended_at 29000 cause.Late ∷ [])
+  pub base : (carried (between alice bob) (entries_of (between alice bob) (at_ 0 (pay c 100) ∷ [])) (pos (new_year + 500))).base ≡ 2
+  pub given_back : balance (carried (between alice bob) (entries_of (between alice bob) (at_ 0 (pay c 100) ∷ [])) (pos (new_year + 500))).entries 0 ≡ pos 0

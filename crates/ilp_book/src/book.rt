@@ -1,4 +1,5 @@
 //! The book: what was booked by a configuration, and the calls that book more.
+mod carrying_over;
 mod settling;
 
 ghost use Rattle.std.specs.Prelude.{◌≡◌, ℕ, ◌^◌, ◌<◌, ◌≤◌, pos, ◌≤ℤ◌, ◌+ℤ◌, ◌-ℤ◌, int_lt, length, Option, IfOk, OnOk, OnErr, slice_get};
@@ -44,6 +45,7 @@ pub struct Book<A: Allocator = Global> {
 }
 
 impl<A: Allocator> Model for Book<A> {
+    ghost use Rattle.ilp_journal.specs.Journal.{IsBase};
     ghost use Rattle.ilp_book.specs.Book.{PlainBook};
     ghost use Rattle.ilp_book.specs.Parts.{AreParts, book_of};
 
@@ -52,7 +54,8 @@ impl<A: Allocator> Model for Book<A> {
     ghost view = { λ b. book_of b.config b.base b.journal };
 
     ghost invariant = { λ b.
-        AreParts b.config b.base b.journal b.tables.tallies b.tables.holds b.tables.keys };
+        AreParts b.config b.base b.journal b.tables.tallies b.tables.holds b.tables.keys
+        × IsBase b.journal.entries b.base };
 }
 
 impl<A: Allocator + Clone> Book<A> {
@@ -400,8 +403,8 @@ impl<A: Allocator> Book<A> {
     }
 }
 
-// Whether a balance less an amount lies below the least.
-fn is_short(balance: i128, amount: u64, least: i64) -> bool
+/// Whether a balance less an amount lies below the least.
+pub(crate) fn is_short(balance: i128, amount: u64, least: i64) -> bool
     requires low { pos 0 ≤ℤ (balance +ℤ pos (most_sum)) }
     requires high { balance ≤ℤ pos (most_sum) }
     ensures { result ≡ int_lt (balance -ℤ pos amount) least }

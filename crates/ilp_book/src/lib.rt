@@ -6,13 +6,16 @@ mod answers;
 mod asks;
 mod book;
 mod calls;
+mod carrying;
 mod credits;
 mod fault;
 pub mod laws;
 mod moments;
+mod rule;
 mod tables;
 mod terms;
 
 pub use book::Book;
 pub use calls::{Asked, Held, Kept, Outcome, PeerReply, Sums};
-pub use fault::{AskFault, CreditFault, HoldFault, NotOpen};
+pub use fault::{AskFault, CarryFault, CreditFault, HoldFault, NotOpen};
+pub use rule::BrokenRule;

@@ -17,8 +17,8 @@ pub(crate) fn moment_at<A: Allocator>(journal: &Journal<A>, now: i64) -> i64
     now.min(LAST_OF_ALL).max(0).max(last_moment(journal))
 }
 
-// The moment of the last entry, or 0 before any.
-fn last_moment<A: Allocator>(journal: &Journal<A>) -> i64
+/// The moment of the last entry, or 0 before any.
+pub(crate) fn last_moment<A: Allocator>(journal: &Journal<A>) -> i64
     ensures { result ≡ last_moment journal.now.entries }
 {
     let len = journal.len();

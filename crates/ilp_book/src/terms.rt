@@ -12,8 +12,13 @@ use ilp_assets::{Quote, QuoteFault};
 use ilp_journal::Hold;
 use ilp_packet::Prepare;
 
-// What an amount becomes on its way from one peer to another.
-fn quote_between(config: &Config, from: u32, to: u32, amount: u64) -> Result<Quote, QuoteFault>
+/// What an amount becomes on its way from one peer to another.
+pub(crate) fn quote_between(
+    config: &Config,
+    from: u32,
+    to: u32,
+    amount: u64,
+) -> Result<Quote, QuoteFault>
     requires from { IsKnown config.now from }
     requires to { IsKnown config.now to }
     ensures { result ≡ quote_between config.now from to amount }

@@ -17,9 +17,11 @@ use Rattle.ilp_book.specs.declared.fault.CreditFault.{CreditFault}
 use Rattle.ilp_book.specs.declared.fault.CreditFault.TheVariants as credit_fault
 use Rattle.ilp_book.specs.declared.fault.AskFault.{AskFault}
 use Rattle.ilp_book.specs.declared.fault.AskFault.TheVariants as ask_fault
+use Rattle.ilp_book.specs.declared.fault.CarryFault.{CarryFault}
+use Rattle.ilp_book.specs.declared.fault.CarryFault.TheVariants as carry_fault
 use Rattle.ilp_connector.specs.declared.refusal.Refusal.{Refusal}
 use Rattle.ilp_connector.specs.declared.refusal.Refusal.TheVariants as refusals
-use Rattle.ilp_connector.specs.declared.refusal.Refusal.TheVariants.{Truncated, BadPrefix, TooLong, UnknownType, Trailing, BadExpiry, BadAddress, FieldTooLong, BadHex, NotPrepare, DoubleAsset, NoSuchAsset, ScaleGap, ZeroPrice, NoPrice, RoundsToNothing, OutTooLarge, DoublePrice, ConfigUnread, NotToml, Missing, BadValue, DoublePeer, DoubleToken, DoubleRoute, BadLevels, NotJson, BadAmount, BadScale, TooLarge, AmountTooLarge, NoRoute, BackToSender, Expired, TooShort, Full, TotalFull, BelowLeast, Memory, KeyTaken, NotDue, StillOpen, MissingEnd, DoubleEnd, Disagrees, ReadFault, WriteFault, ScriptTooLong, ListenFault, SpawnFault}
+use Rattle.ilp_connector.specs.declared.refusal.Refusal.TheVariants.{Truncated, BadPrefix, TooLong, UnknownType, Trailing, BadExpiry, BadAddress, FieldTooLong, BadHex, NotPrepare, DoubleAsset, NoSuchAsset, ScaleGap, ZeroPrice, NoPrice, RoundsToNothing, OutTooLarge, DoublePrice, ConfigUnread, NotToml, Missing, BadValue, DoublePeer, DoubleToken, DoubleRoute, BadLevels, NotJson, BadAmount, BadScale, TooLarge, AmountTooLarge, NoRoute, BackToSender, Expired, TooShort, Full, TotalFull, BelowLeast, Memory, KeyTaken, NotDue, StillOpen, MissingEnd, DoubleEnd, Disagrees, ReadFault, WriteFault, ScriptTooLong, ListenFault, SpawnFault, BadJournalText, Unlawful, JournalUnread}
 
 -- a number, and a name
 abbrev pub refusal_row : Refusal → ℕ × List ℕ
@@ -73,6 +75,9 @@ refusal_row WriteFault = (64, codes "WriteFault")
 refusal_row ScriptTooLong = (65, codes "ScriptTooLong")
 refusal_row ListenFault = (66, codes "ListenFault")
 refusal_row SpawnFault = (67, codes "SpawnFault")
+refusal_row (BadJournalText line) = (71, codes "BadJournalText")
+refusal_row (Unlawful entry) = (72, codes "Unlawful")
+refusal_row JournalUnread = (73, codes "JournalUnread")
 
 abbrev pub refusal_number : Refusal → ℕ
 refusal_number refusal = (refusal_row refusal).0
@@ -87,7 +92,7 @@ refusal_field (BadValue field) = Some field
 refusal_field _ = None
 
 -- what a refusal names, each after a space: a field of the configuration, the greatest amount, the balance, the entry of a key, a settlement with its
--- amount, or an actor
+-- amount, an actor, or a line or an entry of a journal
 abbrev pub detail_text : Refusal → List ℕ
 detail_text (Missing field) = codes " " ++ key field
 detail_text (BadValue field) = codes " " ++ key field
@@ -99,6 +104,8 @@ detail_text (StillOpen number amount) = codes " " ++ (decimal number ++ (codes "
 detail_text (MissingEnd actor) = codes " " ++ decimal actor
 detail_text (DoubleEnd actor) = codes " " ++ decimal actor
 detail_text (Disagrees actor) = codes " " ++ decimal actor
+detail_text (BadJournalText line) = codes " " ++ decimal line
+detail_text (Unlawful entry) = codes " " ++ decimal entry
 detail_text _ = []
 
 -- the name of a refusal, and what it names
@@ -175,3 +182,9 @@ ask_refusal (ask_fault.StillOpen number amount) = refusals.StillOpen number amou
 ask_refusal (ask_fault.NotDue balance) = refusals.NotDue balance
 ask_refusal ask_fault.Full = refusals.Full
 ask_refusal ask_fault.Memory = refusals.Memory
+
+-- the refusal of a journal that is not carried over
+abbrev pub carry_refusal : CarryFault → Refusal
+carry_refusal (carry_fault.BadJournalText line) = refusals.BadJournalText line
+carry_refusal (carry_fault.Unlawful entry rule) = refusals.Unlawful entry
+carry_refusal carry_fault.Memory = refusals.Memory

@@ -3,7 +3,7 @@ use Rattle.std.specs.Prelude.{ℕ, List, [], ◌++◌, if◌then◌else◌, Opti
 use Rattle.std.specs.Fmt.{decimal}
 use Rattle.hex.specs.Hex.{encode_lower}
 use Rattle.ilp_journal.specs.declared.entry.Cause.{Cause}
-use Rattle.ilp_journal.specs.declared.entry.Cause.TheVariants.{Late, WrongPreimage, NoReply, Peer}
+use Rattle.ilp_journal.specs.declared.entry.Cause.TheVariants.{Late, WrongPreimage, NoReply, Peer, Restart}
 use Rattle.ilp_accounts.specs.Configuration.{peer_at}
 use Rattle.ilp_book.specs.declared.fault.HoldFault.{HoldFault}
 use Rattle.ilp_book.specs.declared.calls.Kept.{Kept}
@@ -26,6 +26,7 @@ cause_text Late = codes "Late"
 cause_text WrongPreimage = codes "WrongPreimage"
 cause_text NoReply = codes "NoReply"
 cause_text (Peer code) = codes "Peer " ++ encode_lower code
+cause_text Restart = codes "Restart"
 
 -- how the hold n ended
 abbrev pub outcome_text : ℕ → Outcome → List ℕ

@@ -14,7 +14,7 @@ mod reply;
 mod runner;
 
 pub use built_in::BUILT_IN;
-pub use checking::check;
+pub use checking::{check, check_book};
 pub use config_file::{CONFIG_LIMIT, read_config};
 pub use describe::describe_packet;
 pub use refusal::Refusal;

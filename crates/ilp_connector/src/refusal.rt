@@ -4,7 +4,7 @@ ghost use Rattle.ilp_connector.specs.Refusals.{refusal_number, refusal_name};
 
 use ilp_accounts::{ConfigFault, Field};
 use ilp_assets::QuoteFault;
-use ilp_book::{AskFault, CreditFault, HoldFault};
+use ilp_book::{AskFault, CarryFault, CreditFault, HoldFault};
 use ilp_packet::PacketFault;
 use ilp_settlement::QuantityFault;
 use std::error::Error;
@@ -115,6 +115,13 @@ pub enum Refusal {
     ListenFault,
     /// A thread can't be started.
     SpawnFault,
+    /// This line of a journal's file, counted from 1, is none of a journal's text.
+    BadJournalText { line: u64 },
+    /// This entry of a journal breaks a rule of the configuration.
+    Unlawful { entry: u32 },
+    /// A journal can't be read or is too long, another connector has it, or one has stopped without
+    /// saving it.
+    JournalUnread,
 }
 
 impl Refusal {
@@ -173,6 +180,9 @@ impl Refusal {
             Refusal::ScriptTooLong => 65,
             Refusal::ListenFault => 66,
             Refusal::SpawnFault => 67,
+            Refusal::BadJournalText { .. } => 71,
+            Refusal::Unlawful { .. } => 72,
+            Refusal::JournalUnread => 73,
         }
     }
 
@@ -231,12 +241,16 @@ impl Refusal {
             Refusal::ScriptTooLong => "ScriptTooLong",
             Refusal::ListenFault => "ListenFault",
             Refusal::SpawnFault => "SpawnFault",
+            Refusal::BadJournalText { .. } => "BadJournalText",
+            Refusal::Unlawful { .. } => "Unlawful",
+            Refusal::JournalUnread => "JournalUnread",
         }
     }
 }
 
 /// `NUMBER NAME`, and each after a space what it names: the key of a field, the greatest amount, the
-/// balance, the entry of a key, the number and the amount of a settlement, or an actor.
+/// balance, the entry of a key, the number and the amount of a settlement, an actor, or the line or the
+/// entry of a journal.
 impl fmt::Display for Refusal {
     ghost use Rattle.std.specs.Prelude.{Some};
     ghost use Rattle.ilp_connector.specs.Refusals.{refusal_text};
@@ -277,6 +291,8 @@ impl fmt::Display for Named {
             Refusal::MissingEnd { actor }
             | Refusal::DoubleEnd { actor }
             | Refusal::Disagrees { actor } => write!(f, "{name} {actor}"),
+            Refusal::BadJournalText { line } => write!(f, "{name} {line}"),
+            Refusal::Unlawful { entry } => write!(f, "{name} {entry}"),
             _ => write!(f, "{name}"),
         }
     }
@@ -403,6 +419,22 @@ impl From<AskFault> for Refusal {
             AskFault::NotDue { balance } => Refusal::NotDue { balance },
             AskFault::Full => Refusal::Full,
             AskFault::Memory => Refusal::Memory,
+        }
+    }
+}
+
+/// A journal that is not carried over.
+impl From<&CarryFault> for Refusal {
+    ghost use Rattle.std.specs.Prelude.{◌≡◌};
+    ghost use Rattle.ilp_connector.specs.Refusals.{carry_refusal};
+
+    ghost from_gives = { λ fault result. result ≡ carry_refusal fault.now };
+
+    fn from(fault: &CarryFault) -> Refusal {
+        match fault {
+            CarryFault::BadJournalText { line, .. } => Refusal::BadJournalText { line: *line },
+            CarryFault::Unlawful { entry, .. } => Refusal::Unlawful { entry: *entry },
+            CarryFault::Memory => Refusal::Memory,
         }
     }
 }

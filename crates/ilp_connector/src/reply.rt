@@ -141,6 +141,7 @@ fn cause_text<A: Allocator + Copy>(alloc: A, cause: Cause) -> Result<String<A>, 
         Cause::Late => String::from_str(alloc, "Late"),
         Cause::WrongPreimage => String::from_str(alloc, "WrongPreimage"),
         Cause::NoReply => String::from_str(alloc, "NoReply"),
+        Cause::Restart => String::from_str(alloc, "Restart"),
         Cause::Peer(code) => {
             let code = hex::encode(alloc, code.as_slice())?;
             format!(in alloc; "Peer {code}")

@@ -16,6 +16,7 @@ use Rattle.ilp_journal.specs.TrialBalance.{amount_in, amount_out, of_named, has_
 use Rattle.ilp_journal.proofs.Naming.{hold_at-append}
 use Rattle.ilp_book.specs.Book.{PlainBook}
 use Rattle.ilp_book.specs.Configured.{peer_assets}
+use Rattle.ilp_book.proofs.Rules.{answers_once}
 use Rattle.ilp_desk.specs.declared.record.Record.{Record}
 use Rattle.ilp_desk.specs.declared.record.Recorded.{Recorded}
 use Rattle.ilp_desk.specs.declared.record.AnsweredHold.{AnsweredHold}
@@ -62,6 +63,7 @@ module _ (f : Hold → ℕ) (g : AnsweredHold → ℕ) (tells : (n : ℕ) (h : H
       of (what.Released hold cause.WrongPreimage) = released_as hold cause.WrongPreimage
       of (what.Released hold cause.NoReply) = released_as hold cause.NoReply
       of (what.Released hold (cause.Peer code)) = released_as hold (cause.Peer code)
+      of (what.Released hold cause.Restart) = released_as hold cause.Restart
       of (what.Credited c) = refl
       of (what.Asked a) = refl
       of (what.Confirmed ask) = kept n (closed ask true) (λ _. 0) (ask_at j ask) (λ a. refl) ∙ nothing (ask_at j ask)
@@ -163,7 +165,7 @@ module _ (desk : PlainDesk) (book : PlainBook) (ends : List Holding) (of_desk : 
   gathered added = record {
     whole = whole;
     entries_add = added;
-    packets_add = adds (λ _. 1) (λ _. 1) (λ n h. refl) ∙ count_since book.base book.entries of_desk.lawful.answers;
+    packets_add = adds (λ _. 1) (λ _. 1) (λ n h. refl) ∙ count_since book.base book.entries (answers_once book of_desk.lawful);
     in_adds = λ asset. adds (amount_in (peer_assets book.config) asset) (λ h. cond (has_asset (peer_assets book.config) asset h.from) h.amount 0) (λ n h. refl);
     out_adds = λ asset. adds (amount_out (peer_assets book.config) asset) (λ h. cond (has_asset (peer_assets book.config) asset h.to) h.out 0) (λ n h. refl);
   }

@@ -30,6 +30,7 @@ released j n cause.Late = None
 released j n cause.WrongPreimage = option_map (answered_hold n (Released cause.WrongPreimage)) (hold_at j n)
 released j n cause.NoReply = option_map (answered_hold n (Released cause.NoReply)) (hold_at j n)
 released j n (cause.Peer code) = option_map (answered_hold n (Released (cause.Peer code))) (hold_at j n)
+released j n cause.Restart = option_map (answered_hold n (Released cause.Restart)) (hold_at j n)
 
 -- what is kept of an entry of j
 abbrev pub recorded_of : Entries → What → Option Recorded

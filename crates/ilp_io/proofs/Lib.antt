@@ -1,3 +1,4 @@
 pub mod CountLemmas
 pub mod ReadingLemmas
 pub mod WritingLemmas
+pub mod WrittenLemmas

@@ -1,3 +1,12 @@
 mod LineLemmas
 mod RowProofs
-mod WrittenLemmas
+mod Ink
+mod Cuts
+mod Numbers
+mod Hexadecimal
+mod Peers
+mod Same
+mod Awaited
+mod Inverse
+pub mod OneText
+pub mod Read

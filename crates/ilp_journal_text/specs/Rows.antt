@@ -4,7 +4,7 @@ use Rattle.ilp_accounts.specs.Configuration.{Configuration, PlainPeer, nobody}
 use Rattle.ilp_journal.specs.declared.entry.Entry.{Entry}
 use Rattle.ilp_journal.specs.declared.entry.What.{What}
 use Rattle.ilp_journal.specs.declared.entry.What.TheVariants as what
-use Rattle.ilp_journal.specs.declared.entry.Cause.TheVariants.{Late, WrongPreimage, NoReply, Peer}
+use Rattle.ilp_journal.specs.declared.entry.Cause.TheVariants.{Late, WrongPreimage, NoReply, Peer, Restart}
 use Rattle.ilp_journal_text.specs.Text.{journal_text}
 
 abbrev pub named : List ℕ → PlainPeer
@@ -61,15 +61,17 @@ ReleasedRow = journal_text config (
     ∷ booked 2 (what.Released 1 WrongPreimage)
     ∷ booked 3 (what.Released 2 NoReply)
     ∷ booked 4 (what.Released 3 (Peer (codes "F99")))
-    ∷ booked 5 (what.Confirmed 10)
+    ∷ booked 5 (what.Released 4 Restart)
+    ∷ booked 6 (what.Confirmed 10)
     ∷ []) ≡
     codes "ilp-journal 1\n"
     ++ codes "1 0 released 0 Late\n"
     ++ codes "2 0 released 1 WrongPreimage\n"
     ++ codes "3 0 released 2 NoReply\n"
     ++ codes "4 0 released 3 Peer 463939\n"
-    ++ codes "5 0 confirmed 10\n"
-    ++ codes "end 5\n"
+    ++ codes "5 0 released 4 Restart\n"
+    ++ codes "6 0 confirmed 10\n"
+    ++ codes "end 6\n"
 
 -- no entry
 abbrev pub EmptyRow : Type 0

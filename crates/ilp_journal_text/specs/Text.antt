@@ -7,8 +7,10 @@ use Rattle.ilp_accounts.specs.Configuration.{Configuration, peer_at}
 use Rattle.ilp_journal.specs.declared.entry.Entry.{Entry}
 use Rattle.ilp_journal.specs.declared.entry.What.{What}
 use Rattle.ilp_journal.specs.declared.entry.What.TheVariants as what
+use Rattle.ilp_journal.specs.declared.entry.Hold.{Hold}
+use Rattle.ilp_journal.specs.declared.entry.Credited.{Credited}
 use Rattle.ilp_journal.specs.declared.entry.Cause.{Cause}
-use Rattle.ilp_journal.specs.declared.entry.Cause.TheVariants.{Late, WrongPreimage, NoReply, Peer}
+use Rattle.ilp_journal.specs.declared.entry.Cause.TheVariants.{Late, WrongPreimage, NoReply, Peer, Restart}
 use Rattle.ilp_journal.specs.Journal.{Entries}
 
 -- a field behind a space
@@ -29,15 +31,22 @@ cause_fields Late = codes "Late" ∷ []
 cause_fields WrongPreimage = codes "WrongPreimage" ∷ []
 cause_fields NoReply = codes "NoReply" ∷ []
 cause_fields (Peer code) = codes "Peer" ∷ encode_lower code ∷ []
+cause_fields Restart = codes "Restart" ∷ []
+
+-- the fields of a hold and of a credit
+abbrev pub hold_fields : Configuration → Hold → List (List ℕ)
+hold_fields C h =
+    name_at C h.from ∷ name_at C h.to ∷ decimal h.amount ∷ decimal h.fee ∷ decimal h.out ∷ signed_decimal h.deadline ∷ encode_lower h.condition ∷ []
+
+abbrev pub credited_fields : Configuration → Credited → List (List ℕ)
+credited_fields C c = name_at C c.peer ∷ encode_lower c.key ∷ decimal c.named ∷ decimal c.scale ∷ decimal c.credited ∷ []
 
 -- what happened: its word, then its fields in the order in which the entry lists them
 abbrev pub what_fields : Configuration → What → List (List ℕ)
-what_fields C (what.Hold h) =
-    codes "hold" ∷ name_at C h.from ∷ name_at C h.to ∷ decimal h.amount ∷ decimal h.fee ∷ decimal h.out ∷ signed_decimal h.deadline ∷ encode_lower h.condition ∷ []
+what_fields C (what.Hold h) = codes "hold" ∷ hold_fields C h
 what_fields C (what.Fulfilled hold preimage) = codes "fulfilled" ∷ decimal hold ∷ encode_lower preimage ∷ []
 what_fields C (what.Released hold cause) = codes "released" ∷ decimal hold ∷ cause_fields cause
-what_fields C (what.Credited c) =
-    codes "credited" ∷ name_at C c.peer ∷ encode_lower c.key ∷ decimal c.named ∷ decimal c.scale ∷ decimal c.credited ∷ []
+what_fields C (what.Credited c) = codes "credited" ∷ credited_fields C c
 what_fields C (what.Asked a) = codes "asked" ∷ name_at C a.peer ∷ decimal a.amount ∷ []
 what_fields C (what.Confirmed ask) = codes "confirmed" ∷ decimal ask ∷ []
 what_fields C (what.Undone ask) = codes "undone" ∷ decimal ask ∷ []
@@ -50,6 +59,10 @@ entry_line C e = line (signed_decimal e.moment) (decimal e.actor ∷ what_fields
 abbrev pub end_line : ℕ → List ℕ
 end_line count = line (codes "end") (decimal count ∷ [])
 
+-- the first line, which names the form of the text
+abbrev pub first_line : List ℕ
+first_line = codes "ilp-journal 1\n"
+
 -- the text of a journal
 abbrev pub journal_text : Configuration → Entries → List ℕ
-journal_text C j = codes "ilp-journal 1\n" ++ (flat_map (entry_line C) j ++ end_line (length j))
+journal_text C j = first_line ++ (flat_map (entry_line C) j ++ end_line (length j))

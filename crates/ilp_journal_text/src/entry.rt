@@ -98,6 +98,7 @@ fn put_cause(line: &mut Line, cause: Cause)
         Cause::Late => line.word("Late"),
         Cause::WrongPreimage => line.word("WrongPreimage"),
         Cause::NoReply => line.word("NoReply"),
+        Cause::Restart => line.word("Restart"),
         Cause::Peer(code) => {
             line.word("Peer");
             line.hexadecimal(&code);

@@ -6,8 +6,12 @@
 #![tactic(auto)]
 
 mod entry;
+mod fields;
 pub mod laws;
 mod line;
+mod parsing;
+mod reading;
 mod writing;
 
+pub use reading::{JournalText, TextFault};
 pub use writing::put_journal;

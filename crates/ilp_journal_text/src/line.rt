@@ -17,6 +17,9 @@ const LONGEST_NUMBER: usize = 41;
 // The most octets of a field that is written in hexadecimal digits.
 const LONGEST_KEY: usize = 128;
 
+/// The first line of a text.
+pub(crate) const FIRST_LINE: &[u8] = b"ilp-journal 1\n";
+
 /// A line, as far as its fields are written.
 #[derive(Drop)]
 pub(crate) struct Line {
@@ -45,14 +48,14 @@ impl Line {
     }
 
     /// The last line of a text of so many entries.
-    pub(crate) fn last(count: u32) -> Line
+    pub(crate) fn last(count: u64) -> Line
         ensures { result ≡ end_line count }
     {
         let mut line = Line {
             octets: ArrayVec::new(),
         };
         line.put(b"end");
-        line.number(u64::from(count));
+        line.number(count);
         line.end();
         line
     }

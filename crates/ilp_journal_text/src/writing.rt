@@ -7,7 +7,7 @@ ghost use Rattle.ilp_io.specs.Writing.{AppendsProperPrefix};
 ghost use Rattle.ilp_journal_text.specs.Text.{entry_line, end_line, journal_text};
 
 use crate::entry::entry_line;
-use crate::line::Line;
+use crate::line::{FIRST_LINE, Line};
 use ilp_accounts::Config;
 use ilp_io::{Sink, WriteFault, put_all};
 use ilp_journal::{Entry, Journal};
@@ -30,9 +30,9 @@ pub fn put_journal<A: Allocator, W: Sink>(
     ensures failed { CountsUp (W.failures sink.old) (W.failures sink.new)
         (if is_err result then 1 else 0) }
 {
-    put_all(sink, b"ilp-journal 1\n")?;
+    put_all(sink, FIRST_LINE)?;
     put_entries(config, journal, sink)?;
-    put_all(sink, Line::last(journal.len()).as_slice())
+    put_all(sink, Line::last(u64::from(journal.len())).as_slice())
 }
 
 // The lines of the entries.

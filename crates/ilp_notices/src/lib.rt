@@ -6,6 +6,7 @@
 #![tactic(auto)]
 
 mod journal;
+mod journal_file;
 mod line;
 mod notices;
 mod pace;
@@ -19,6 +20,11 @@ mod time_text;
 mod waiting;
 mod work;
 
+pub use journal_file::{
+    journal_absent, journal_carried, journal_in_use, journal_not_locked, journal_saved,
+    journal_too_long, journal_unread, left_unsaved, mark_left, no_journal, not_made, not_saved,
+    not_saved_yet, nothing_to_save, stopped_unsaved,
+};
 pub use notices::Notices;
 pub use starting::{
     closing, few_files, listening, no_thread, not_listening, one_worker, report_follows,

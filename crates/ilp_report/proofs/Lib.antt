@@ -1,6 +1,5 @@
 mod LineLemmas
 mod AmountLemmas
 mod NameLemmas
-mod WrittenLemmas
 mod BalanceLemmas
 mod RowProofs

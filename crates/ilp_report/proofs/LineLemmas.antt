@@ -1,9 +1,11 @@
 -- How a line is made of its columns.
-use Rattle.std.proofs.Common.{◌≡◌, ℕ, ℤ, ◌≤◌, List, [], ◌∷◌, ◌++◌, length, take, drop, ap, ◌∙◌, arith, append_assoc, length-append, length-drop}
+use Rattle.std.proofs.Common.{◌≡◌, ℕ, ℤ, FitsSigned, to_z, of_z, ◌≤◌, List, [], ◌∷◌, ◌++◌, length, take, drop, ap, ◌∙◌, arith, append_assoc, length-append, length-drop}
 use Rattle.std.proofs.lemmas.List.{length-take, length-replicate, drop-drop}
 use Rattle.std.proofs.lemmas.Slice.{take-put_mid, drop-put_mid, drop-append-drop}
 use Rattle.std.proofs.Math.Seq.{take-append_seam}
 use Rattle.std.specs.Fmt.{signed_decimal}
+use Rattle.std.specs.Int.{w128}
+use Rattle.std.proofs.lemmas.Int.{to_z-of_z}
 use Rattle.ilp_report.specs.Report.{left, right, line}
 use Rattle.ilp_report.specs.Columns.{IsShort, IsNarrow}
 use borrow.Rule.Slice.PartMut.{put_mid}
@@ -49,3 +51,7 @@ length-line label name number short_label short_name narrow =
     let c = length-right 30 digits narrow in
     let rest = right 30 digits ++ 10 ∷ [] in
     omega (arith, a, b, c, length-append (left 10 label) (left 20 name ++ rest), length-append (left 20 name) rest, length-append (right 30 digits) (10 ∷ []))
+
+-- a line, by the name and the number that it tells
+pub line_told : (label name name' : List ℕ) (number number' : ℤ) → FitsSigned w128 number → name ≡ name' → number ≡ number' → line label name (to_z w128 (of_z w128 number)) ≡ line label name' number'
+line_told label name name' number number' fits same_name same_number = ap (line label name) (to_z-of_z w128 number fits ∙ same_number) ∙ ap (λ (n : List ℕ). line label n number') same_name

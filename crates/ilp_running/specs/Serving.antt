@@ -1,8 +1,9 @@
 -- What a run of the connector comes to.
-use Rattle.std.specs.Prelude.{◌≡◌, ℕ, List, [], ⊤, Option, Result, Ok, Err}
+use Rattle.std.specs.Prelude.{◌≡◌, ℕ, List, ⊤, Option, Result, Ok, Err}
 use Rattle.std.specs.Io.KnownBytes.{Appends}
 use Rattle.ilp_io.specs.Writing.{AppendsProperPrefix}
 use Rattle.ilp_accounts.specs.Configuration.{Configuration}
+use Rattle.ilp_journal.specs.Journal.{Entries}
 use Rattle.ilp_book.specs.Book.{PlainBook}
 use Rattle.ilp_report.specs.Report.{report_text}
 use Rattle.ilp_desk.specs.Desk.{PlainDesk, IsBookOf}
@@ -30,11 +31,12 @@ fault_refusal (NotGathered (why.Disagrees actor)) = refusals.Disagrees actor
 
 -- ---- what is printed
 
--- the desk of a connector: of its configuration, opened with an empty journal
-abbrev pub desk_of : Configuration → PlainDesk
-desk_of config = record { config = config; workers = config.settings.workers; opening = [] }
+-- the desk of a connector: of its configuration, opened with the journal that it begins with
+abbrev pub desk_of : Configuration → Entries → PlainDesk
+desk_of config opening = record { config = config; workers = config.settings.workers; opening = opening }
 
--- A book of the desk in the end, which is lawful and began empty, and the ends of the desk's actors, which add up to all that it booked.
+-- A book of the desk in the end: it is lawful, and its journal begins with the desk's. There are ends of the desk's actors, which
+-- add up to all that was booked since.
 pub record IsClosed (desk : PlainDesk) (book : PlainBook) : Type 0 where
   pub ends : List Holding
   pub lawful : IsBookOf desk book
@@ -61,10 +63,9 @@ Prints book old new (Err Write) = AppendsProperPrefix old new (report_text book)
 Prints book old new (Err (NotGathered reason)) = ⊥
 Prints book old new (Err (Unprinted reason)) = new ≡ old
 
--- The connector ran to its end, and printed the report of its book; or a write of it failed; or nothing was printed, since the ends
--- were not gathered or for another reason.
-abbrev pub EndsWithReport : PlainDesk → Option (List ℕ) → Option (List ℕ) → Result (Unit {0}) ServeFault → Type 0
-EndsWithReport desk old new (Ok done) = (book : PlainBook) × IsClosed desk book × Prints book old new (Ok done)
-EndsWithReport desk old new (Err Write) = (book : PlainBook) × IsClosed desk book × Prints book old new (Err Write)
-EndsWithReport desk old new (Err (NotGathered reason)) = IsNotGathered desk reason × (new ≡ old)
-EndsWithReport desk old new (Err (Unprinted reason)) = new ≡ old
+-- Why a connector gives no book back: it ran to its end and a write of the report failed; or its ends were not gathered, or there
+-- is another reason, and nothing was printed.
+abbrev pub Refuses : PlainDesk → Option (List ℕ) → Option (List ℕ) → ServeFault → Type 0
+Refuses desk old new Write = (book : PlainBook) × IsClosed desk book × AppendsProperPrefix old new (report_text book)
+Refuses desk old new (NotGathered reason) = IsNotGathered desk reason × (new ≡ old)
+Refuses desk old new (Unprinted reason) = new ≡ old

@@ -1,8 +1,10 @@
 //! A connector from its beginning to its end.
-ghost use Rattle.std.specs.Prelude.{◌≡◌, ◌≤◌, vec_len};
+ghost use Rattle.std.specs.Prelude.{◌≡◌, ◌≤◌, length, IfOk, IfErr, vec_len};
+ghost use Rattle.std.specs.Io.KnownBytes.{Appends};
 ghost use Rattle.ilp_desk.specs.Desk as desk;
 ghost use Rattle.ilp_desk.specs.Desk.{base_of};
-ghost use Rattle.ilp_running.specs.Serving.{desk_of, ClosesDesk, EndsWithReport, Prints};
+ghost use Rattle.ilp_report.specs.Report.{report_text};
+ghost use Rattle.ilp_running.specs.Serving.{desk_of, ClosesDesk, IsClosed, Prints, Refuses};
 
 use crate::accepting::Acceptor;
 use crate::actors::actors_of;
@@ -32,10 +34,19 @@ use std::sync::ledger::Blank;
 use std::thread::Threads;
 use std::time::Clock;
 
-/// Runs a connector of this configuration until it is asked to close, and prints the report of its
-/// book then.
-#[tactic(auto, using(crate::proofs::Printed::ends_with_report, crate::proofs::Printed::ends_unprinted))]
-pub fn serve<R, L, W>(rt: &R, config: &Config, links: &L, writer: &mut W) -> Result<(), ServeFault>
+/// Runs a connector of this configuration from this book on, until it is asked to close. Then it prints
+/// the report of the book, and gives the book back.
+///
+/// The book is at its base, as a new one and one that is carried over are. A refusal does not give it
+/// back.
+#[tactic(auto, using(crate::proofs::Printed::refuses_printed, crate::proofs::Printed::refuses_unprinted))]
+pub fn serve<R, L, W>(
+    rt: &R,
+    config: &Config,
+    book: Book,
+    links: &L,
+    writer: &mut W,
+) -> Result<Book, ServeFault>
 where
     R: Net<Listener = TcpListener, Stream = TcpStream>
         + Threads
@@ -46,16 +57,21 @@ where
         + Sync,
     L: Links,
     W: Sink,
-    ensures { EndsWithReport (desk_of config.now) (W.contents writer.old) (W.contents writer.new) result }
+    requires config { book.config ≡ config.now }
+    requires opening { length book.entries ≡ book.base }
+    ensures closed { IfOk result (λ b. IsClosed (desk_of config.now book.entries) b) }
+    ensures printed { IfOk result (λ b.
+        Appends (W.contents writer.old) (W.contents writer.new) (report_text b)) }
+    ensures refused { IfErr result (λ fault. Refuses (desk_of config.now book.entries)
+        (W.contents writer.old) (W.contents writer.new) fault) }
 {
     let sides = open_sides(rt, config)?;
-    let book = match Book::new(config.allocator(), config) {
-        Ok(book) => book,
-        Err(_) => return Err(ServeFault::Unprinted(Unprinted::Memory)),
-    };
     let blanks = Blank::new(u64::from(config.workers()) + 2);
-    let book = serve_desk::<Brand, R, L>(rt, config, book, blanks, links, sides)?;
-    print_report(rt, &book, writer)
+    let closed = serve_desk::<Brand, R, L>(rt, config, book, blanks, links, sides)?;
+    match print_report(rt, &closed, writer) {
+        Ok(()) => Ok(closed),
+        Err(fault) => Err(fault),
+    }
 }
 
 // What takes connections in at both sides, and what reaches it.

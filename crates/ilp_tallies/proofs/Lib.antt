@@ -5,3 +5,4 @@ mod Places
 pub mod AskLemmas
 pub mod Growing
 mod Beginning
+pub mod Rebasing

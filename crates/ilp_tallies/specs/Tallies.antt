@@ -97,6 +97,10 @@ IsOfEach t f r = (assets : List ℕ) (base : ℕ) (j : Entries) → AreTallies a
 abbrev pub GrowsBy : Entries → Entry → PlainTallies → PlainTallies → Type 0
 GrowsBy j e t u = (assets : List ℕ) (base : ℕ) → AreTallies assets base j t → AreTallies assets base (j ++ e ∷ []) u
 
+-- u are the tallies by another base, if t are those of a journal no entry of which is at or behind either base
+abbrev pub MovesBase : PlainTallies → ℕ → PlainTallies → Type 0
+MovesBase t base u = (assets : List ℕ) (j : Entries) → length j ≤ t.base → length j ≤ base → AreTallies assets t.base j t → AreTallies assets base j u
+
 -- ---- what the code keeps and does
 
 -- no number is greater than what so many entries come to

@@ -9,7 +9,7 @@ ghost use Rattle.ilp_tallies.specs.Rows as rows;
 ghost use Rattle.ilp_tallies.specs.Rows.{FitsPeer, FitsAsset};
 ghost use Rattle.ilp_tallies.specs.OpenAsks.{AreOpenAsks, HasRoomToAsk, asks_after};
 ghost use Rattle.ilp_tallies.specs.Steps.{FitsStep};
-ghost use Rattle.ilp_tallies.specs.Tallies.{AreTallies, IsOfEach, KnowsPeers, GrowsBy, with_step};
+ghost use Rattle.ilp_tallies.specs.Tallies.{AreTallies, MovesBase, IsOfEach, KnowsPeers, GrowsBy, with_step};
 
 use crate::asks::{count_asks, first_ask, no_asks, update_asks};
 use crate::open_asks::OpenAsks;
@@ -238,6 +238,14 @@ impl<A: Allocator> Tallies<A> {
         let step = step_of(self.base, journal, &entry.what);
         self.add_step(&step);
         self.update_asks(journal, &entry.what);
+    }
+
+    /// Has the totals be of the holds whose number is `base` or greater. It is for a journal all of
+    /// whose entries lie below both bases, so that its totals are nothing by either.
+    pub fn set_base(&mut self, base: u32)
+        ensures { MovesBase self.old base self.new }
+    {
+        self.base = base;
     }
 
     // The row of a peer: zeros, where there is no such peer.

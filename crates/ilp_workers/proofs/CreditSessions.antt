@@ -23,9 +23,10 @@ use Rattle.ilp_book.specs.declared.fault.CreditFault.TheVariants as credit_fault
 use Rattle.ilp_book.specs.Configured.{scale_at}
 use Rattle.ilp_book.specs.Book.{PlainBook, By, by, Growth, granted, denied, Made, Does, has_room}
 use Rattle.ilp_book.specs.Open.{as_credit, credit_at, has_key, kept_at}
-use Rattle.ilp_book.specs.Lawful.{IsLawful, IsCredit, IsGoodCredit, quantity_named}
+use Rattle.ilp_book.specs.Lawful.{IsLawful, KeepsRuleOf, quantity_named}
 use Rattle.ilp_book.specs.SettleStep.{kept, credit_kept, Payment, amount_of, credit_of, credit_fresh, credit_checked, credit_growth, credit_booked, credit_step}
 use Rattle.ilp_book.proofs.OpenAsks.{first_found}
+use Rattle.ilp_book.proofs.Rules.{rule_credits}
 use Rattle.ilp_desk.specs.Desk.{PlainDesk}
 use Rattle.ilp_desk.specs.Portion.{Holding}
 use Rattle.ilp_workers.specs.Links.{Tells}
@@ -38,27 +39,18 @@ use Rattle.ilp_workers.proofs.Sessions.{raised_by, count_in, booked_more}
 abbrev IsRounded : Configuration → Credited → Type 0
 IsRounded C c = c.credited ≡ credited_at (quantity_named c) (scale_at C c.peer)
 
-rounded : (C : Configuration) (j : Entries) (w : What) (c : Credited) → as_credit w ≡ Some c → IsCredit C j w → IsRounded C c
-rounded C j (what.Hold h) c is good = absurd cc
-rounded C j (what.Fulfilled hold preimage) c is good = absurd cc
-rounded C j (what.Released hold cause) c is good = absurd cc
-rounded C j (what.Credited d) c is good = subst (IsRounded C) (some_same d c is) good.rounded
-rounded C j (what.Asked a) c is good = absurd cc
-rounded C j (what.Confirmed ask) c is good = absurd cc
-rounded C j (what.Undone ask) c is good = absurd cc
-
 -- whichever it is
-all_rounded : (C : Configuration) (j : Entries) → Each (IsGoodCredit C) j → (n : ℕ) (c : Credited) → credit_at j n ≡ Some c → IsRounded C c
-all_rounded C = by_push (λ j. Each (IsGoodCredit C) j → (n : ℕ) (c : Credited) → credit_at j n ≡ Some c → IsRounded C c) (λ _ n c at. absurd cc) more
+all_rounded : (book : PlainBook) (j : Entries) → Each (KeepsRuleOf book) j → (n : ℕ) (c : Credited) → credit_at j n ≡ Some c → IsRounded book.config c
+all_rounded book = by_push (λ j. Each (KeepsRuleOf book) j → (n : ℕ) (c : Credited) → credit_at j n ≡ Some c → IsRounded book.config c) (λ _ n c at. absurd cc) more
   where
-    more : (j : Entries) (e : Entry) → (Each (IsGoodCredit C) j → (n : ℕ) (c : Credited) → credit_at j n ≡ Some c → IsRounded C c)
-        → Each (IsGoodCredit C) (j ++ e ∷ []) → (n : ℕ) (c : Credited) → credit_at (j ++ e ∷ []) n ≡ Some c → IsRounded C c
+    more : (j : Entries) (e : Entry) → (Each (KeepsRuleOf book) j → (n : ℕ) (c : Credited) → credit_at j n ≡ Some c → IsRounded book.config c)
+        → Each (KeepsRuleOf book) (j ++ e ∷ []) → (n : ℕ) (c : Credited) → credit_at (j ++ e ∷ []) n ≡ Some c → IsRounded book.config c
     more j e before each n c at =
-        let parts : Each (IsGoodCredit C) j × IsGoodCredit C j e = Each-parts (IsGoodCredit C) j e each in
+        let parts : Each (KeepsRuleOf book) j × KeepsRuleOf book j e = Each-parts (KeepsRuleOf book) j e each in
         of (n == length j) (sym (stands_at-push as_credit j e n) ∙ at) parts
       where
-        of : (last : Bool) → cond last (as_credit e.what) (credit_at j n) ≡ Some c → Each (IsGoodCredit C) j × IsGoodCredit C j e → IsRounded C c
-        of true at parts = rounded C j e.what c at parts.1
+        of : (last : Bool) → cond last (as_credit e.what) (credit_at j n) ≡ Some c → Each (KeepsRuleOf book) j × KeepsRuleOf book j e → IsRounded book.config c
+        of true at parts = (rule_credits book.config book.base j e.moment e.what c at parts.1).rounded
         of false at parts = before parts.0 n c at
 
 -- the credit that is kept under a peer's key is the peer's
@@ -105,7 +97,7 @@ by_kept book caller p growth n c lawful is = of (c.named == p.quantity.amount) (
 
     amount : c.named ≡ p.quantity.amount → c.scale ≡ p.quantity.scale → c.credited ≡ amount_of book.config p
     amount named scale =
-        all_rounded book.config book.entries lawful.credits n c its.0
+        all_rounded book book.entries lawful.rules n c its.0
         ∙ (ap (λ a. credited_at (record { amount = a; scale = c.scale }) (scale_at book.config c.peer)) named
         ∙ (ap (λ s. credited_at (record { amount = p.quantity.amount; scale = s }) (scale_at book.config c.peer)) scale
         ∙ ap (λ x. credited_at p.quantity (scale_at book.config x)) its.1))

@@ -2,4 +2,10 @@
 #![tactic(auto)]
 
 #[cfg(test)]
+mod oracle;
+#[cfg(test)]
+mod printed;
+#[cfg(test)]
+mod reading;
+#[cfg(test)]
 mod tests;

@@ -119,6 +119,7 @@ fn kind_of_outcome(outcome: &Outcome) -> Kind {
         Cause::WrongPreimage => Kind::WrongPreimage,
         Cause::NoReply => Kind::NoReply,
         Cause::Peer(_) => Kind::Peer,
+        Cause::Restart => Kind::Other,
     }
 }
 

@@ -1,4 +1,4 @@
-//! What is printed of desks.
+//! What is printed of desks, and of responses.
 
 use crate::peers::{ALICE, BOB};
 use crate::row::digits_of;
@@ -6,7 +6,7 @@ use ilp_book::Book;
 use ilp_desk::{Naming, Record, Share};
 use ilp_journal::{Entry, What};
 use std::alloc::Global;
-use std::io;
+use std::{io, str};
 
 /// Prints octets as hexadecimal digits behind what they are, as `digits_of` writes them.
 pub(crate) fn print_octets(
@@ -53,4 +53,38 @@ fn print_what(rt: &impl Print, entry: &Entry) -> io::Result<()> {
         What::Confirmed { ask } => println!(rt; "confirmed {ask}"),
         What::Undone { ask } => println!(rt; "undone {ask}"),
     }
+}
+
+/// Prints the lines of a response's head with their ends, and then the body: a report as lines too.
+pub(crate) fn print_response(rt: &impl Print, alloc: Global, octets: &[u8]) -> io::Result<()> {
+    let (head, body) = octets
+        .split_at_checked(head_length(octets))
+        .unwrap_or((octets, b""));
+    print_lines(rt, head)?;
+    if body.starts_with(b"balance ") {
+        print_lines(rt, body)
+    } else if body.starts_with(b"{") {
+        println!(rt; "body: {}", str::from_utf8(body).unwrap_or("no text"))
+    } else {
+        print_octets(rt, alloc, "body", body)
+    }
+}
+
+// Prints lines with their ends.
+fn print_lines(rt: &impl Print, octets: &[u8]) -> io::Result<()> {
+    let text = str::from_utf8(octets).unwrap_or("no text");
+    for line in text.split_inclusive('\n') {
+        println!(rt; "{line:?}")?;
+    }
+    Ok(())
+}
+
+// How many octets there are up to the first empty line, and with it.
+fn head_length(octets: &[u8]) -> usize {
+    for length in 0..octets.len() {
+        if octets[..length].ends_with(b"\r\n\r\n") {
+            return length;
+        }
+    }
+    octets.len()
 }

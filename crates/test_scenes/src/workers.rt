@@ -11,6 +11,8 @@ mod memory;
 mod quiet;
 mod reporting;
 mod sweeping;
+mod totals;
+mod unlocked;
 
 use crate::row::{moments_of, octets_of, said};
 use at_once::forward_two;
@@ -28,6 +30,7 @@ use std::sync::ledger::Blank;
 use std::thread::Threads;
 use std::{fs, io};
 use sweeping::forward_slowly;
+use unlocked::report_beside;
 
 /// What is done with a desk.
 #[derive(Clone, Copy)]
@@ -38,8 +41,10 @@ enum Act {
     Sweep,
     /// Each growth of a worker is denied in turn.
     Deny,
-    /// Two workers forward the packet at once.
+    /// Two workers forward the packet at once, and the desk is closed.
     Two,
+    /// A worker is asked for the report, and another forwards the packet while that is written.
+    Report,
     /// Many workers forward many packets.
     Many,
     /// The packet is forwarded, and the desk is closed.
@@ -53,6 +58,7 @@ impl Act {
             "sweep" => Some(Act::Sweep),
             "deny" => Some(Act::Deny),
             "two" => Some(Act::Two),
+            "report" => Some(Act::Report),
             "many" => Some(Act::Many),
             "close" => Some(Act::Close(Missing::Nothing)),
             "close-without-sweeper" => Some(Act::Close(Missing::Sweeper)),
@@ -96,7 +102,8 @@ impl Scene<'_> {
             Act::Forward => forward_one(rt, &desk, shares, &self.given),
             Act::Sweep => forward_slowly(rt, &desk, shares, &self.given),
             Act::Deny => deny_each(rt, &desk, shares, &self.given),
-            Act::Two => forward_two(rt, &desk, shares, &self.given),
+            Act::Two => forward_two(rt, desk, shares, &self.given),
+            Act::Report => report_beside(rt, &desk, shares, &self.given),
             Act::Many => forward_all(rt, desk, shares, &self.given),
             Act::Close(missing) => close(rt, desk, shares, &self.given, missing),
         }

@@ -2,14 +2,13 @@
 
 use super::Given;
 use super::forwards::forward;
-use super::gathering::{book_of, end_without, settler_end, sweeper_end};
+use super::gathering::{end_without, settler_end, sweeper_end};
+use super::totals::print_totals;
 use crate::links::bob::put;
 use crate::links::clocks::Still;
 use crate::links::engine::NoEngine;
 use crate::peers::{ALICE, BOB, START};
-use ilp_book::Book;
-use ilp_desk::{AnsweredHold, Desk, End, Naming, Record, Recorded, Share, Verdict};
-use ilp_journal::What;
+use ilp_desk::{Desk, End, Naming, Share};
 use ilp_oer::Octets;
 use ilp_workers::{LinkFault, Uplink, Worker};
 use std::alloc::Allocator;
@@ -78,11 +77,7 @@ pub(crate) fn forward_all<J: Naming + Send + Sync, R: Print + Threads + Wait + S
     given: &Given<'_>,
 ) -> io::Result<()> {
     let ends = ends_at_once(rt, &desk, shares, given);
-    let _ = println!(rt; "ends: {:?}", totals_of_ends(&ends));
-    match book_of(desk, ends) {
-        Ok(book) => println!(rt; "book: {:?}", totals_of_book(&book)),
-        Err(why) => println!(rt; "not gathered: {why}"),
-    }
+    print_totals(rt, desk, ends)
 }
 
 // What the actors hand in, as far as there is memory for it.
@@ -197,77 +192,5 @@ fn is_fulfilled<J: Naming>(
 fn set_amount(packet: &mut [u8], amount: u64) {
     if packet.len() >= 10 {
         packet[2..10].copy_from_slice(&amount.to_be_bytes());
-    }
-}
-
-/// What was booked: how many entries, how many holds that were fulfilled, and their amounts in and
-/// out.
-#[derive(Clone, Copy, Debug)]
-struct Totals {
-    entries: u64,
-    fulfilled: u64,
-    paid: u64,
-    got: u64,
-}
-
-const NOTHING: Totals = Totals {
-    entries: 0,
-    fulfilled: 0,
-    paid: 0,
-    got: 0,
-};
-
-impl Totals {
-    fn add(&mut self, amount: u64, out: u64) {
-        self.fulfilled = self.fulfilled.wrapping_add(1);
-        self.paid = self.paid.wrapping_add(amount);
-        self.got = self.got.wrapping_add(out);
-    }
-}
-
-// What the ends say.
-fn totals_of_ends<J: Naming>(ends: &Vec<End<J>>) -> Totals {
-    let mut totals = NOTHING;
-    for end in ends {
-        totals.entries = totals.entries.wrapping_add(u64::from(end.entries()));
-        add_records(&mut totals, end.records());
-    }
-    totals
-}
-
-fn add_records(totals: &mut Totals, records: &[Record]) {
-    for record in records {
-        if let Recorded::Answered(
-            AnsweredHold {
-                amount,
-                out,
-                verdict: Verdict::Fulfilled,
-                ..
-            },
-        ) = record.what
-        {
-            totals.add(amount, out);
-        }
-    }
-}
-
-// What the book says.
-fn totals_of_book(book: &Book) -> Totals {
-    let mut totals = NOTHING;
-    totals.entries = u64::from(book.len());
-    for number in 0..book.len() {
-        if let Some((amount, out)) = fulfilled_by(book, number) {
-            totals.add(amount, out);
-        }
-    }
-    totals
-}
-
-// The amounts of the hold that an entry fulfills, if it does.
-fn fulfilled_by(book: &Book, number: u32) -> Option<(u64, u64)> {
-    let hold = book.entry(number)?.what.fulfilled()?;
-    match &book.entry(hold)?.what {
-        What::Hold(hold) => Some((hold.amount, hold.out)),
-        _ => None,
     }
 }

@@ -11,6 +11,7 @@ mod sweeping;
 use super::{START, Settable, Still};
 use conversation::{Others, converse};
 use ilp_accounts::Config;
+use ilp_book::Book;
 use ilp_connector::BUILT_IN;
 use ilp_links::{Hurry, TcpLinks};
 use ilp_notices::Notices;
@@ -46,8 +47,9 @@ where
     let hurry = Hurry::new();
     let links = TcpLinks::new(*rt, config, clock, notices, &hurry);
     let mut writer = Vec::new(config.allocator());
-    match serve(rt, config, &links, &mut writer) {
-        Ok(()) => Ok(writer),
+    let book = Book::new(config.allocator(), config)?;
+    match serve(rt, config, book, &links, &mut writer) {
+        Ok(_closed) => Ok(writer),
         Err(_) => Err(io::Error::from(ErrorKind::Other)),
     }
 }

@@ -3,7 +3,7 @@ use Rattle.std.specs.Prelude.{slice_get}
 use Rattle.std.specs.Option.{option_copied}
 use Rattle.ilp_io.proofs.CountLemmas.{CountsUp-after}
 use Rattle.ilp_journal_text.specs.Text.{entry_line}
-use Rattle.ilp_journal_text.proofs.WrittenLemmas.{at_err, wrote_next, stopped_at}
+use Rattle.ilp_io.proofs.WrittenLemmas.{at_err, wrote_next, stopped_at}
 use Rattle.ilp_journal_text.proofs.writing.put_entries.Goals as goal
 
 pub returns-in_err-put_entry-clause-err : goal.returns-in_err-put_entry-clause-err

@@ -5,7 +5,7 @@ use Rattle.std.specs.Io.KnownBytes.{Appends}
 use Rattle.ilp_io.specs.Writing.{AppendsProperPrefix}
 use Rattle.ilp_io.proofs.CountLemmas.{CountsUp-after}
 use Rattle.ilp_report.specs.Report.{line, balance_line, open_line, asset_lines}
-use Rattle.ilp_report.proofs.WrittenLemmas.{stopped, then_all, then_part}
+use Rattle.ilp_io.proofs.WrittenLemmas.{stopped, then_all, then_part}
 use Rattle.ilp_report.proofs.printing.print.Goals as goal
 
 pub returns-in_err-put_balances-clause-err : goal.returns-in_err-put_balances-clause-err

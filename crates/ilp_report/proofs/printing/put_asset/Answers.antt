@@ -3,7 +3,8 @@ use Rattle.std.specs.Prelude.{OnOk, OnErr}
 use Rattle.std.specs.Int.{w128}
 use Rattle.std.specs.Io.KnownBytes.{Appends}
 use Rattle.ilp_io.specs.Writing.{AppendsProperPrefix}
-use Rattle.ilp_report.proofs.WrittenLemmas.{stopped, then_all, then_part, line_told}
+use Rattle.ilp_io.proofs.WrittenLemmas.{stopped, then_all, then_part}
+use Rattle.ilp_report.proofs.LineLemmas.{line_told}
 use Rattle.ilp_report.proofs.printing.put_asset.Goals as goal
 
 pub returns-in_err-put_line-clause-err : goal.returns-in_err-put_line-clause-err

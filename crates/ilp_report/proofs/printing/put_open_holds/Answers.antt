@@ -3,7 +3,7 @@ use Rattle.std.specs.Prelude.{slice_get}
 use Rattle.std.proofs.lemmas.Option.{slice_get-get_or}
 use Rattle.ilp_io.proofs.CountLemmas.{CountsUp-after}
 use Rattle.ilp_report.specs.Report.{open_line}
-use Rattle.ilp_report.proofs.WrittenLemmas.{at_err, wrote_next, stopped_at}
+use Rattle.ilp_io.proofs.WrittenLemmas.{at_err, wrote_next, stopped_at}
 use Rattle.ilp_report.proofs.printing.put_open_holds.Goals as goal
 
 pub returns-in_err-put_open-clause-err : goal.returns-in_err-put_open-clause-err

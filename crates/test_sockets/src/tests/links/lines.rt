@@ -294,3 +294,55 @@ fn what_is_told_once(rt: HostRuntime) -> Result<(), Fail> {
     );
     Ok(())
 }
+
+// What is told of a journal's file.
+fn tell_of_a_journal<R: Clock + Eprint>(rt: &R) {
+    let error = io::Error::from(ErrorKind::PermissionDenied);
+    ilp_notices::no_journal(rt);
+    ilp_notices::journal_absent(rt, "j");
+    ilp_notices::journal_carried(rt, "j", 7);
+    ilp_notices::journal_saved(rt, "j", 9);
+    ilp_notices::not_saved_yet(rt, "j", &error);
+    ilp_notices::not_saved(rt, "j", "j.new", &error);
+    ilp_notices::nothing_to_save(rt, "j");
+    ilp_notices::mark_left(rt, "j.running", &error);
+    ilp_notices::journal_in_use(rt, "j");
+    ilp_notices::journal_not_locked(rt, "j.lock", &error);
+    ilp_notices::not_made(rt, "j.lock", &error);
+    ilp_notices::left_unsaved(rt, "j.new");
+    ilp_notices::journal_unread(rt, "a\nb", &error);
+    ilp_notices::journal_too_long(rt, "j");
+    ilp_notices::stopped_unsaved(rt, "j", "j.running", "run r1, begun with 7 entries");
+}
+
+#[test]
+fn what_is_told_of_a_journal(rt: HostRuntime) -> Result<(), Fail> {
+    let at = At {
+        rt,
+        milliseconds: 0,
+    };
+    let hearing = Hearing::new(at, rt.alloc(), 0);
+    tell_of_a_journal(&hearing);
+    assert!(rt;
+        hearing.wrote_only(
+            "1970-01-01T00:00:00.000Z warn no journal is kept: balances and keys are forgotten at the end, so each start needs a `run` that no earlier one had
+1970-01-01T00:00:00.000Z warn journal \"j\": not there yet, so all balances begin at 0: see that this is its path, and that no earlier start had this `run`
+1970-01-01T00:00:00.000Z info journal \"j\": begun with its 7 entries
+1970-01-01T00:00:00.000Z info journal \"j\": saved with 9 entries
+1970-01-01T00:00:00.000Z warn journal \"j\": can't be saved: permission denied: make room for it, it is tried again each second for a minute
+1970-01-01T00:00:00.000Z error journal \"j\": not saved: permission denied: it is as at the start, and \"j.new\" has what could be written: keep both and the report
+1970-01-01T00:00:00.000Z error journal \"j\": not saved, since the connector was refused: it is as at the start
+1970-01-01T00:00:00.000Z error can't remove \"j.running\": permission denied: remove it before the next start
+1970-01-01T00:00:00.000Z error journal \"j\": another connector has it: close that one, or give this one a journal of its own
+1970-01-01T00:00:00.000Z error can't lock \"j.lock\": permission denied: keep the journal where files can be locked
+1970-01-01T00:00:00.000Z error can't make \"j.lock\": permission denied: see that the journal's folder is there, may be written and has room
+1970-01-01T00:00:00.000Z warn \"j.new\" lies there, of a save that did not end: it is not read, and the next save writes over it: move it away to keep it
+1970-01-01T00:00:00.000Z error can't read \"a\\nb\": permission denied
+1970-01-01T00:00:00.000Z error can't read \"j\": more than 8589934592 octets
+1970-01-01T00:00:00.000Z error journal \"j\": a connector stopped without saving it (\"j.running\" says \"run r1, begun with 7 entries\"): what it booked is lost, while engines know its keys and a start would use its numbers again
+1970-01-01T00:00:00.000Z error compare with peers and engines what was booked since, move \"j\" and \"j.running\" away, and start with a `run` that no earlier start had
+"
+        )
+    );
+    Ok(())
+}

@@ -25,7 +25,7 @@ book_ask-requires g c =
     let due : due_amount (balance j peer) (peer_at C peer).levels ≡ Some amount
     = sym (c.in-Some-due_amount.ensures ∙ ap (λ (b : ℤ). due_amount b c.levels.result) owed ∙ ap (due_amount (balance j peer)) c.levels.ensures) in
     record {
-      due = subst Due c.self.view_is (due_ask C j peer amount c.self.invariant.valid (subst Known (sym c.self.view_is) c.requires.known) (sym c.in-None.ensures) due);
+      due = subst Due c.self.view_is (due_ask C j peer amount c.self.invariant.0.valid (subst Known (sym c.self.view_is) c.requires.known) (sym c.in-None.ensures) due);
     }
 
 -- the step is what the book has for it

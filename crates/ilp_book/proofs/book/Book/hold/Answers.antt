@@ -18,7 +18,7 @@ returns-clause-step g c =
     let destination = c.args.prepare.now.destination.now in
     let p = plain_prepare c.args.prepare.now in
     let inside = c.self.inside.config in
-    let same = one-route inside.routes c.self.invariant.valid.prefixes destination c.route-route.result (routed_peer inside.routes destination) c.route-route.ensures.route (IsRoute-routed_peer inside.routes destination) in
+    let same = one-route inside.routes c.self.invariant.0.valid.prefixes destination c.route-route.result (routed_peer inside.routes destination) c.route-route.ensures.route (IsRoute-routed_peer inside.routes destination) in
     let fits : FitsSigned w64 c.args.now = search rules in
     let Done : ℤ → Type 0 = λ t. Does book c.hold_routed.new.self c.hold_routed.result (hold_step book (by c.args.actor t) (given_route c.args.from p c.route-route.result) (growth_of c.hold_routed.result)) in
     hold_by_route book c.hold_routed.new.self (by c.args.actor c.args.now) c.args.from p (growth_of c.hold_routed.result) c.hold_routed.result c.route-route.result

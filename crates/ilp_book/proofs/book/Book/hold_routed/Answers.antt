@@ -16,7 +16,7 @@ use Rattle.ilp_book.proofs.book.Book.hold_routed.Goals as goal
 pub book_hold-requires : goal.book_hold-requires
 book_hold-requires g c =
     let Valid : PlainBook → Type 0 = λ b. IsValid b.config in
-    let valid = subst Valid c.self.view_is c.self.invariant.valid in
+    let valid = subst Valid c.self.view_is c.self.invariant.0.valid in
     let sent = given_route c.args.from (plain_prepare c.args.prepare.now) c.args.route in
     let m = to_z w64 (of_z w64 c.moment_at-moment.result) in
     let fits : FitsSigned w64 c.moment_at-moment.result = search rules in

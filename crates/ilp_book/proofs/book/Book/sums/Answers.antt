@@ -15,19 +15,19 @@ use Rattle.ilp_book.proofs.book.Book.sums.Goals as goal
 pub returns-clause-balanced : goal.returns-clause-balanced
 returns-clause-balanced g c =
     let Balanced : PlainBook → Type 0 = λ b. IsBalanced (peer_assets b.config) b.entries c.args.asset in
-    subst Balanced c.self.view_is (lawful_balanced (book_of c.self.inside.config c.self.inside.base c.self.inside.journal) c.args.asset c.self.invariant.lawful)
+    subst Balanced c.self.view_is (lawful_balanced (book_of c.self.inside.config c.self.inside.base c.self.inside.journal) c.args.asset c.self.invariant.0.lawful)
 
 -- each sum is its tally
 pub returns-clause-settled : goal.returns-clause-settled
 returns-clause-settled g c =
     let fits : FitsSigned w128 c.settled.result = search rules in
-    to_z-of_z w128 c.settled.result fits ∙ c.settled.ensures.value (peer_assets c.self.inside.config) c.self.inside.base c.self.inside.journal.entries c.self.invariant.tabled.tallied
+    to_z-of_z w128 c.settled.result fits ∙ c.settled.ensures.value (peer_assets c.self.inside.config) c.self.inside.base c.self.inside.journal.entries c.self.invariant.0.tabled.tallied
     ∙ ap (λ (b : PlainBook). settled (peer_assets b.config) b.entries c.args.asset) c.self.view_is
 
 pub returns-clause-held : goal.returns-clause-held
 returns-clause-held g c =
     let fits : FitsSigned w128 c.held.result = search rules in
-    to_z-of_z w128 c.held.result fits ∙ c.held.ensures.value (peer_assets c.self.inside.config) c.self.inside.base c.self.inside.journal.entries c.self.invariant.tabled.tallied
+    to_z-of_z w128 c.held.result fits ∙ c.held.ensures.value (peer_assets c.self.inside.config) c.self.inside.base c.self.inside.journal.entries c.self.invariant.0.tabled.tallied
     ∙ ap (λ (b : PlainBook). pos (held (peer_assets b.config) b.entries c.args.asset)) c.self.view_is
 
 -- no sum lies further from 0 than its tally

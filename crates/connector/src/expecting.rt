@@ -1,0 +1,57 @@
+//! What a journal's text was to have at a line that is bad.
+
+use std::alloc::{AllocError, Global};
+
+// What lines of entries have behind their moment and their actor.
+const FORMS: [(&str, &str); 7] = [
+    ("hold", "hold FROM TO AMOUNT FEE OUT DEADLINE CONDITION"),
+    ("fulfilled", "fulfilled HOLD PREIMAGE"),
+    ("released", "released HOLD CAUSE"),
+    ("credited", "credited PEER KEY AMOUNT SCALE CREDITED"),
+    ("asked", "asked PEER AMOUNT"),
+    ("confirmed", "confirmed ASK"),
+    ("undone", "undone ASK"),
+];
+
+/// What was expected at the line of this number, counted from 1, which is bad.
+pub(crate) fn expected_at(alloc: Global, text: &[u8], number: u64) -> Result<String, AllocError> {
+    let before = number.saturating_sub(1);
+    if before == 0 {
+        return format!(in alloc; "`ilp-journal 1`, ended by LF");
+    }
+    // The first line is none of an entry, and neither is the last.
+    let entries = before - 1;
+    let mut lines = text.split(|octet| *octet == b'\n').skip(entries as usize);
+    let behind_last = match lines.next() {
+        Some(line) => line.starts_with(b"end "),
+        None => false,
+    };
+    if behind_last {
+        return format!(in alloc;
+            "nothing behind the last line, `end {}`",
+            entries.saturating_sub(1)
+        );
+    }
+    match lines.next() {
+        None | Some([]) => format!(in alloc; "an entry, or `end {entries}` as the last line"),
+        Some(line) => match form_of(line) {
+            Some(form) => {
+                format!(in alloc;
+                    "`MOMENT ACTOR {form}` with peers of the configuration, ended by LF"
+                )
+            }
+            None => {
+                format!(in alloc; "an entry, or `end {entries}`, ended by LF, as the last line")
+            }
+        },
+    }
+}
+
+// The form of the entry that a line seems to be meant for.
+fn form_of(line: &[u8]) -> Option<&'static str> {
+    let word = line.split(|octet| *octet == b' ').nth(2)?;
+    FORMS
+        .iter()
+        .find(|(name, _)| name.as_bytes() == word)
+        .map(|(_, form)| *form)
+}

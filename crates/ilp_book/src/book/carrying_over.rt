@@ -1,0 +1,81 @@
+//! A book that is carried over from one run of the connector to the next.
+ghost use Rattle.std.specs.Prelude.{◌≡◌, ℕ, None, IfOk, IfErr, OnOk, OnErr, is_err, if◌then◌else◌};
+ghost use Rattle.std.specs.Io.KnownBytes.{Appends};
+ghost use Rattle.ilp_io.specs.Counts.{CountsUp};
+ghost use Rattle.ilp_io.specs.Writing.{AppendsProperPrefix};
+ghost use Rattle.ilp_journal.specs.Journal.{open_hold_at};
+ghost use Rattle.ilp_journal_text.specs.Text.{journal_text};
+ghost use Rattle.ilp_book.specs.Carried.{begun_with};
+ghost use Rattle.ilp_book.specs.Carry.{IsCarriedOver, IsWhyNotCarried};
+
+use crate::book::Book;
+use crate::carrying::Carrying;
+use crate::fault::CarryFault;
+use ilp_accounts::Config;
+use ilp_io::{Sink, WriteFault};
+use ilp_journal_text::put_journal;
+use std::alloc::Allocator;
+
+impl<A: Allocator> Book<A> {
+    // The book that begins with all that was carried over, where no hold is open any more.
+    fn begun_with(carrying: Carrying<A>) -> Book<A>
+        requires ended { (n : ℕ) → open_hold_at carrying.entries n ≡ None }
+        ensures { result ≡ begun_with carrying.config carrying.entries }
+    {
+        let Carrying {
+            config,
+            journal,
+            mut tables,
+        } = carrying;
+        let base = journal.len();
+        tables.tallies.set_base(base);
+        Book {
+            config,
+            base,
+            journal,
+            tables,
+        }
+    }
+}
+
+impl<A: Allocator + Clone> Book<A> {
+    /// The book that begins with the journal of which this is the text, as `save` wrote it. Each hold
+    /// that is open in it ends at the moment of `now`, in the order of their numbers: as Late where its
+    /// deadline has come, and else because the connector starts again. Settlements that are open stay
+    /// so.
+    ///
+    /// The refusals come in the order of `CarryFault`. A peer that isn't there, a number outside its
+    /// type, a last line without its end and a wrong count are bad at their line; a text that ends
+    /// before its last line, at the line behind its end.
+    pub fn carry_over(
+        alloc: A,
+        config: &Config,
+        text: &[u8],
+        now: i64,
+    ) -> Result<Book<A>, CarryFault>
+        ensures ok { IfOk result (IsCarriedOver config.now text.now now) }
+        ensures err { IfErr result (IsWhyNotCarried config.now text.now) }
+    {
+        let mut carrying = Carrying::new(alloc, config)?;
+        carrying.take_up_text(text)?;
+        carrying.end_holds(now)?;
+        Ok(Book::begun_with(carrying))
+    }
+}
+
+impl<A: Allocator> Book<A> {
+    /// Writes the text of the journal, which `carry_over` reads, with the peers' names in the
+    /// configuration, the book's own. No memory is taken. It is refused only where a write fails or
+    /// takes no octet. Then a front of the text was taken, and not all of it.
+    pub fn save<W: Sink>(&self, config: &Config, sink: &mut W) -> Result<(), WriteFault>
+        requires own { config.now ≡ self.now.config }
+        ensures ok { OnOk result (Appends (W.contents sink.old) (W.contents sink.new)
+            (journal_text config.now self.now.entries)) }
+        ensures err { OnErr result (AppendsProperPrefix (W.contents sink.old) (W.contents sink.new)
+            (journal_text config.now self.now.entries)) }
+        ensures failed { CountsUp (W.failures sink.old) (W.failures sink.new)
+            (if is_err result then 1 else 0) }
+    {
+        put_journal(config, &self.journal, sink)
+    }
+}

@@ -1,0 +1,24 @@
+//! The file of a journal: its lock, its marks, and how it is read and written.
+//!
+//! Beside the journal `J` stand `J.lock`, which a connector locks for as long as it runs; `J.running`,
+//! which says that it runs or has stopped without saving; and for a moment `J.new`, which is written
+//! and then takes the place of `J`. So `J` is at each moment a whole text, or not there.
+//!
+//! What a file system does, no clause can say: it stands in the comments, and the cases of
+//! `scripts/check.py` try it on the program.
+#![tactic(auto)]
+
+mod fault;
+mod looking;
+mod marking;
+mod names;
+mod noting;
+mod reading;
+mod saving;
+mod taking;
+
+pub use fault::FileFault;
+pub use looking::look_at;
+pub use noting::Noting;
+pub use saving::Content;
+pub use taking::JournalFile;

@@ -1,0 +1,70 @@
+//! The names of the files.
+ghost use Rattle.std.specs.Prelude.{◌≡◌, ◌++◌, codes, string_bytes, IfOk};
+
+use crate::fault::FileFault;
+use ilp_notices::not_made;
+use std::alloc::{AllocError, Global};
+use std::io::{Eprint, ErrorKind};
+use std::path::Path;
+use std::rt::Files;
+use std::time::Clock;
+use std::{fs, io};
+
+/// The names of a journal's file and of those that stand beside it.
+#[derive(Drop)]
+pub(crate) struct Names {
+    /// The journal.
+    pub(crate) journal: String,
+    /// What is written, and then takes the journal's place.
+    pub(crate) new: String,
+    /// What a connector locks for as long as it has the journal.
+    pub(crate) lock: String,
+    /// What stands there from a connector's start until it has saved the journal.
+    pub(crate) running: String,
+}
+
+impl Names {
+    /// The names for a journal at this path.
+    pub(crate) fn of(alloc: Global, path: &str) -> Result<Names, AllocError>
+        ensures journal { IfOk result (λ names. string_bytes names.journal ≡ path.now) }
+        ensures new { IfOk result (λ names. string_bytes names.new ≡ path.now ++ codes ".new") }
+        ensures lock { IfOk result (λ names. string_bytes names.lock ≡ path.now ++ codes ".lock") }
+        ensures running { IfOk result (λ names.
+            string_bytes names.running ≡ path.now ++ codes ".running") }
+    {
+        Ok(Names {
+            journal: format!(in alloc; "{path}")?,
+            new: format!(in alloc; "{path}.new")?,
+            lock: format!(in alloc; "{path}.lock")?,
+            running: format!(in alloc; "{path}.running")?,
+        })
+    }
+
+    /// Finds that the path names a file at all.
+    ///
+    /// It is refused as `Unwritten` where it is empty, as where a script has not set it.
+    pub(crate) fn expect_named<R: Clock + Eprint>(&self, rt: &R) -> Result<(), FileFault> {
+        if self.journal.is_empty() {
+            not_made(
+                rt,
+                self.journal.as_str(),
+                &io::Error::from(ErrorKind::NotFound),
+            );
+            return Err(FileFault::Unwritten);
+        }
+        Ok(())
+    }
+
+    /// The journal's folder.
+    pub(crate) fn folder(&self) -> &str {
+        match Path::new(self.journal.as_str()).parent() {
+            Some(folder) if !folder.as_str().is_empty() => folder.as_str(),
+            _ => ".",
+        }
+    }
+
+    /// Has the system keep the names in the folder as they are now, even where the machine stops.
+    pub(crate) fn sync_folder<R: Files<File = fs::File>>(&self, rt: &R) -> io::Result<()> {
+        fs::open(rt, self.folder())?.sync_all()
+    }
+}

@@ -1,0 +1,76 @@
+//! Reading a journal's file.
+
+use crate::fault::FileFault;
+use crate::names::Names;
+use crate::noting::Noting;
+use crate::taking::JournalFile;
+use ilp_io::{ReadFault, read_to_limit};
+use ilp_notices::{journal_too_long, journal_unread};
+use std::alloc::Global;
+use std::fs;
+use std::fs::File;
+use std::io::{Eprint, ErrorKind};
+use std::rt::Files;
+use std::time::Clock;
+
+// The most octets of a journal's text.
+const TEXT_LIMIT: usize = 8_589_934_592;
+
+impl JournalFile {
+    /// The text of the journal, or nothing where there is no file.
+    ///
+    /// Refusals: `Unread` where it can't be read or has more than 8,589,934,592 octets; `Memory`.
+    pub fn read<R>(&self, rt: &R, alloc: Global) -> Result<Option<Vec<u8>>, FileFault>
+    where
+        R: Files<File = File> + Clock + Eprint,
+    {
+        self.names.read(rt, alloc)
+    }
+}
+
+impl Names {
+    /// As `JournalFile::read`.
+    pub(crate) fn read<R>(&self, rt: &R, alloc: Global) -> Result<Option<Vec<u8>>, FileFault>
+    where
+        R: Files<File = File> + Clock + Eprint,
+    {
+        let path = self.journal.as_str();
+        let file = match fs::open(rt, path) {
+            Ok(file) => file,
+            Err(error) if error.kind() == ErrorKind::NotFound => return Ok(None),
+            Err(error) => {
+                journal_unread(rt, path, &error);
+                return Err(FileFault::Unread);
+            }
+        };
+        if is_too_long(&file) {
+            journal_too_long(rt, path);
+            return Err(FileFault::Unread);
+        }
+        let mut reader = Noting::new(file);
+        match read_to_limit(alloc, &mut reader, TEXT_LIMIT) {
+            Ok(text) => Ok(Some(text)),
+            Err(ReadFault::Memory) => Err(FileFault::Memory),
+            Err(_) => {
+                tell_unread(rt, path, &reader);
+                Err(FileFault::Unread)
+            }
+        }
+    }
+}
+
+// Whether the system says so, before any of it is in memory. A pipe has no length.
+fn is_too_long(file: &File) -> bool {
+    match file.metadata() {
+        Ok(metadata) => metadata.len() > TEXT_LIMIT as u64,
+        Err(_) => false,
+    }
+}
+
+// Why a file that was opened was not read to its end: the error of a read, or its length.
+fn tell_unread<R: Clock + Eprint>(rt: &R, path: &str, reader: &Noting<File>) {
+    match &reader.error {
+        Some(error) => journal_unread(rt, path, error),
+        None => journal_too_long(rt, path),
+    }
+}

@@ -1,0 +1,141 @@
+-- No field of an entry that can stand has a space or a line end.
+use Rattle.std.proofs.Common.{◌≡◌, ℕ, suc, ◌+◌, ◌/◌, ◌%◌, ◌^◌, ◌<◌, ◌≤◌, ℤ, pos, negsuc, true, List, [], ◌∷◌, ◌++◌, length, get_or, Some, slice_index, nat_le, refl, sym, subst, arith, All, codes}
+use Rattle.std.specs.List.{AllByRecursion, list_all}
+use Rattle.std.specs.Fmt.{decimal, signed_decimal}
+use Rattle.std.proofs.lemmas.Fmt.{decimal_by_steps_wide}
+use Rattle.std.proofs.lemmas.Bool.{and_parts}
+use Rattle.std.proofs.lemmas.Bool.Decides.{nat_tests}
+use Rattle.std.proofs.lemmas.List.Elements.{All-nil, All-cons, All-push, All-weaker, All-get_or, All-from_recursion}
+use Rattle.std.proofs.lemmas.List.Sums.{AllPass-from_list_all}
+use Rattle.std.proofs.lemmas.Int.{ints}
+use Rattle.std.proofs.lemmas.Option.{unwrap_or-slice_get}
+use Rattle.hex.specs.Hex.{IsBytes, encode_lower, encode_with, lower_digits, hex_digit_value}
+use Rattle.hex.proofs.HexLemmas.{IsDigits-lower_digits}
+use Rattle.ilp_fields.specs.declared.form.Form.TheVariants as form
+use Rattle.ilp_fields.specs.Forms.{is_name_octet}
+use Rattle.ilp_accounts.specs.Configuration.{Configuration, PlainPeer, nobody}
+use Rattle.ilp_accounts.specs.Valid.{IsValid, HasForm, IsPeer as IsGivenPeer}
+use Rattle.ilp_journal.specs.declared.entry.Entry.{Entry}
+use Rattle.ilp_journal.specs.declared.entry.What.{What}
+use Rattle.ilp_journal.specs.declared.entry.What.TheVariants as what
+use Rattle.ilp_journal.specs.declared.entry.Cause.{Cause}
+use Rattle.ilp_journal.specs.declared.entry.Cause.TheVariants.{Late, WrongPreimage, NoReply, Peer, Restart}
+use Rattle.ilp_journal_text.specs.Text.{name_at, cause_fields, what_fields}
+use Rattle.ilp_journal_text.specs.Reading.{IsPeer, IsMoment, CauseStands, WhatStands, CanStand}
+
+-- neither a space nor a line end
+abbrev pub IsInk : ℕ → Type 0
+IsInk octet = 33 ≤ octet
+
+abbrev pub AreInk : List (List ℕ) → Type 0
+AreInk fields = All (All IsInk) fields
+
+-- fields that are listed
+are_ink : (fields : List (List ℕ)) → AllByRecursion (All IsInk) fields → AreInk fields
+are_ink fields inks = All-from_recursion (All IsInk) fields inks
+
+-- a word that is written out
+word_ink : (word : List ℕ) → list_all (nat_le 33) word ≡ true → All IsInk word
+word_ink word ink = All-weaker (λ octet. nat_le 33 octet ≡ true) IsInk (λ octet is. grind (arith, nat_tests, is)) word (AllPass-from_list_all (nat_le 33) word ink)
+
+-- digits
+pub decimal_ink : (n : ℕ) → n < 10 ^ 64 → All IsInk (decimal n)
+decimal_ink n fits = decimal_by_steps_wide (λ _ (digits : List ℕ). All IsInk digits) one more n fits
+  where
+    one : (k : ℕ) → k < 10 → All IsInk ((48 + k) ∷ [])
+    one k digit = All-cons IsInk (48 + k) [] (omega arith) (All-nil IsInk)
+
+    more : (k : ℕ) (digits : List ℕ) → 10 ≤ k → All IsInk digits → All IsInk (digits ++ ((48 + k % 10) ∷ []))
+    more k digits many ink = All-push IsInk digits (48 + k % 10) ink (omega arith)
+
+pub moment_ink : (m : ℤ) → IsMoment m → All IsInk (signed_decimal m)
+moment_ink (pos n) within =
+    let below : n < 2 ^ 63 = omega (arith, ints, within.1) in
+    decimal_ink n (omega (arith, below))
+moment_ink (negsuc n) within = absurd (omega (arith, ints, within.0))
+
+ink_digit : (c d : ℕ) → hex_digit_value c ≡ Some d → IsInk c
+ink_digit c d reads = grind (arith, nat_tests, reads)
+
+pub hex_ink : (octets : List ℕ) → IsBytes octets → All IsInk (encode_lower octets)
+unfolding encode_with
+hex_ink [] bytes = All-nil IsInk
+hex_ink (b ∷ rest) bytes =
+    let byte : b < 256 = bytes 0 in
+    let high : b / 16 < 16 = omega arith in
+    let low : b % 16 < 16 = omega arith in
+    All-cons IsInk (slice_index lower_digits (b / 16)) (slice_index lower_digits (b % 16) ∷ encode_lower rest)
+    (ink_digit (slice_index lower_digits (b / 16)) (b / 16) (IsDigits-lower_digits (b / 16) high))
+    (All-cons IsInk (slice_index lower_digits (b % 16)) (encode_lower rest)
+    (ink_digit (slice_index lower_digits (b % 16)) (b % 16) (IsDigits-lower_digits (b % 16) low)) (hex_ink rest (λ k. bytes (suc k))))
+
+-- names
+name_ink : (name : List ℕ) → HasForm form.Name name → All IsInk name
+name_ink name formed =
+    let octets : list_all is_name_octet name ≡ true = (and_parts _ (list_all is_name_octet name) formed).1 in
+    All-weaker (λ octet. is_name_octet octet ≡ true) IsInk (λ octet is. grind (arith, nat_tests, is)) name (AllPass-from_list_all is_name_octet name octets)
+
+module _ (C : Configuration) (valid : IsValid C) where
+  pub peer_ink : (peer : ℕ) → IsPeer C peer → All IsInk (name_at C peer)
+  peer_ink peer known =
+      let kept = All-get_or (IsGivenPeer (length C.table.assets)) C.peers peer nobody known valid.peers in
+      subst (λ (p : PlainPeer). All IsInk p.name) (sym (unwrap_or-slice_get C.peers peer nobody)) (name_ink (get_or C.peers peer nobody).name kept.name)
+
+  cause_ink : (cause : Cause) → CauseStands cause → AreInk (cause_fields cause)
+  cause_ink Late stands = are_ink (cause_fields Late) (word_ink (codes "Late") refl, tt)
+  cause_ink WrongPreimage stands = are_ink (cause_fields WrongPreimage) (word_ink (codes "WrongPreimage") refl, tt)
+  cause_ink NoReply stands = are_ink (cause_fields NoReply) (word_ink (codes "NoReply") refl, tt)
+  cause_ink (Peer code) stands = are_ink (cause_fields (Peer code)) (word_ink (codes "Peer") refl, (hex_ink code stands.1, tt))
+  cause_ink Restart stands = are_ink (cause_fields Restart) (word_ink (codes "Restart") refl, tt)
+
+  number_ink : (n : ℕ) → n < 2 ^ 32 → All IsInk (decimal n)
+  number_ink n fits = decimal_ink n (omega (arith, fits))
+
+  amount_ink : (n : ℕ) → n < 2 ^ 64 → All IsInk (decimal n)
+  amount_ink n fits = decimal_ink n (omega (arith, fits))
+
+  pub what_ink : (w : What) → WhatStands C w → AreInk (what_fields C w)
+  what_ink (what.Hold h) stands =
+      are_ink (what_fields C (what.Hold h)) (
+        word_ink (codes "hold") refl,
+        (
+          peer_ink h.from stands.from,
+          (
+            peer_ink h.to stands.to,
+            (
+              amount_ink h.amount stands.amount,
+              (
+                amount_ink h.fee stands.fee,
+                (amount_ink h.out stands.out, (moment_ink h.deadline stands.deadline, (hex_ink h.condition stands.condition.1, tt))),
+              ),
+            ),
+          ),
+        ),
+      )
+  what_ink (what.Fulfilled hold preimage) stands =
+      are_ink (what_fields C (what.Fulfilled hold preimage)) (word_ink (codes "fulfilled") refl, (number_ink hold stands.0, (hex_ink preimage stands.1.1, tt)))
+  what_ink (what.Released hold cause) stands =
+      All-cons (All IsInk) (codes "released") (decimal hold ∷ cause_fields cause) (word_ink (codes "released") refl)
+      (All-cons (All IsInk) (decimal hold) (cause_fields cause) (number_ink hold stands.0) (cause_ink cause stands.1))
+  what_ink (what.Credited c) stands =
+      are_ink (what_fields C (what.Credited c)) (
+        word_ink (codes "credited") refl,
+        (
+          peer_ink c.peer stands.peer,
+          (
+            hex_ink c.key stands.key.1,
+            (
+              decimal_ink c.named (omega (arith, stands.named)),
+              (decimal_ink c.scale (omega (arith, stands.scale)), (amount_ink c.credited stands.credited, tt)),
+            ),
+          ),
+        ),
+      )
+  what_ink (what.Asked a) stands =
+      are_ink (what_fields C (what.Asked a)) (word_ink (codes "asked") refl, (peer_ink a.peer stands.0, (amount_ink a.amount stands.1, tt)))
+  what_ink (what.Confirmed ask) stands = are_ink (what_fields C (what.Confirmed ask)) (word_ink (codes "confirmed") refl, (number_ink ask stands, tt))
+  what_ink (what.Undone ask) stands = are_ink (what_fields C (what.Undone ask)) (word_ink (codes "undone") refl, (number_ink ask stands, tt))
+
+  -- what follows the moment
+  pub further_ink : (e : Entry) → CanStand C e → AreInk (decimal e.actor ∷ what_fields C e.what)
+  further_ink e stands = All-cons (All IsInk) (decimal e.actor) (what_fields C e.what) (number_ink e.actor stands.actor) (what_ink e.what stands.what)

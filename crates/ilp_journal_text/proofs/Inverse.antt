@@ -1,0 +1,119 @@
+-- The fields of an entry give the entry back.
+use Rattle.std.proofs.Common.{◌≡◌, ℕ, ◌^◌, ◌<◌, ℤ, pos, negsuc, List, [], Option, Some, None, unwrap_or, drop, slice_index_or, sym, ap, ◌∙◌, refl, arith}
+use Rattle.std.specs.Fmt.{decimal, signed_decimal}
+use Rattle.std.specs.Result.{result_unwrap_or}
+use Rattle.std.specs.Str.Parse.{digits_value}
+use Rattle.std.proofs.lemmas.Fmt.{decimal_is_IsNumeral_wide}
+use Rattle.std.proofs.lemmas.Int.{ints}
+use Rattle.hex.specs.Hex.{IsBytes, decode_of, encode_lower}
+use Rattle.hex.proofs.HexLemmas.{decode_of-encode_lower}
+use Rattle.ilp_accounts.specs.Configuration.{Configuration, peer_names, place_named}
+use Rattle.ilp_accounts.specs.Valid.{IsValid}
+use Rattle.ilp_journal.specs.declared.entry.Entry.{Entry}
+use Rattle.ilp_journal.specs.declared.entry.What.{What}
+use Rattle.ilp_journal.specs.declared.entry.What.TheVariants as what
+use Rattle.ilp_journal.specs.declared.entry.Cause.{Cause}
+use Rattle.ilp_journal.specs.declared.entry.Cause.TheVariants.{Late, WrongPreimage, NoReply, Peer, Restart}
+use Rattle.ilp_journal_text.specs.declared.parsing.Kind.{Kind}
+use Rattle.ilp_journal_text.specs.declared.parsing.Kind.TheVariants as kind
+use Rattle.ilp_journal_text.specs.Text.{name_at, cause_fields, what_fields}
+use Rattle.ilp_journal_text.specs.Reading.{IsPeer, IsMoment, CauseStands, WhatStands, CanStand}
+use Rattle.ilp_journal_text.specs.Fields.{kind_of, named_cause, entry_fields}
+use Rattle.ilp_journal_text.proofs.Peers.{peer_back}
+use Rattle.ilp_journal_text.proofs.Same.{made_hold, same_hold, made_credited, same_credited, made_ask, same_ask, made_entry, same_entry}
+
+-- ---- single fields
+
+number_back : (n : ℕ) → n < 10 ^ 64 → digits_value 10 (decimal n) ≡ n
+number_back n fits = (decimal_is_IsNumeral_wide n fits).1
+
+moment_of : List ℕ → ℤ
+moment_of field = pos (digits_value 10 field)
+
+moment_back : (m : ℤ) → IsMoment m → moment_of (signed_decimal m) ≡ m
+unfolding moment_of
+moment_back (pos n) within =
+    let below : n < 2 ^ 63 = omega (arith, ints, within.1) in
+    ap pos (number_back n (omega (arith, below)))
+moment_back (negsuc n) within = absurd (omega (arith, ints, within.0))
+
+octets_of : List ℕ → List ℕ
+octets_of field = result_unwrap_or (decode_of field) []
+
+octets_back : (octets : List ℕ) → IsBytes octets → octets_of (encode_lower octets) ≡ octets
+unfolding octets_of
+octets_back octets bytes = ap (λ decoded. result_unwrap_or decoded []) (decode_of-encode_lower octets bytes)
+
+field_at : List (List ℕ) → ℕ → List ℕ
+field_at fields place = slice_index_or fields place []
+
+-- ---- a peer, a cause and what happened
+
+module _ (C : Configuration) where
+  peer_of : List ℕ → ℕ
+  peer_of field = unwrap_or (place_named (peer_names C.peers) field) 0
+
+  cause_of : List (List ℕ) → Cause
+  cause_of fields = unwrap_or (named_cause (field_at fields 0)) (Peer (octets_of (field_at fields 1)))
+
+  -- what the fields behind the word tell
+  told : Option Kind → List (List ℕ) → What
+  told (Some kind.Hold) f =
+      what.Hold (made_hold (peer_of (field_at f 0)) (peer_of (field_at f 1)) (digits_value 10 (field_at f 2)) (digits_value 10 (field_at f 3)) (digits_value 10 (field_at f 4)) (moment_of (field_at f 5)) (octets_of (field_at f 6)))
+  told (Some kind.Fulfilled) f = what.Fulfilled (digits_value 10 (field_at f 0)) (octets_of (field_at f 1))
+  told (Some kind.Released) f = what.Released (digits_value 10 (field_at f 0)) (cause_of (drop 1 f))
+  told (Some kind.Credited) f =
+      what.Credited (made_credited (peer_of (field_at f 0)) (octets_of (field_at f 1)) (digits_value 10 (field_at f 2)) (digits_value 10 (field_at f 3)) (digits_value 10 (field_at f 4)))
+  told (Some kind.Asked) f = what.Asked (made_ask (peer_of (field_at f 0)) (digits_value 10 (field_at f 1)))
+  told (Some kind.Confirmed) f = what.Confirmed (digits_value 10 (field_at f 0))
+  told (Some kind.Undone) f = what.Undone (digits_value 10 (field_at f 0))
+  told None f = what.Undone 0
+
+  what_of : List (List ℕ) → What
+  what_of fields = told (kind_of (field_at fields 0)) (drop 1 fields)
+
+  entry_of : List (List ℕ) → Entry
+  entry_of fields = made_entry (moment_of (field_at fields 0)) (digits_value 10 (field_at fields 1)) (what_of (drop 2 fields))
+
+  cause_back : (cause : Cause) → CauseStands cause → cause_of (cause_fields cause) ≡ cause
+  unfolding cause_of field_at
+  cause_back Late stands = refl
+  cause_back WrongPreimage stands = refl
+  cause_back NoReply stands = refl
+  cause_back (Peer code) stands = ap Peer (octets_back code stands.1)
+  cause_back Restart stands = refl
+
+  small_back : (n : ℕ) → n < 2 ^ 32 → digits_value 10 (decimal n) ≡ n
+  small_back n fits = number_back n (omega (arith, fits))
+
+  amount_back : (n : ℕ) → n < 2 ^ 64 → digits_value 10 (decimal n) ≡ n
+  amount_back n fits = number_back n (omega (arith, fits))
+
+  module _ (valid : IsValid C) where
+    place_back : (peer : ℕ) → IsPeer C peer → peer_of (name_at C peer) ≡ peer
+    unfolding peer_of
+    place_back peer known = ap (λ (place : Option ℕ). unwrap_or place 0) (sym (peer_back C valid peer known))
+
+    what_back : (w : What) → WhatStands C w → what_of (what_fields C w) ≡ w
+    unfolding what_of told field_at
+    what_back (what.Hold h) stands =
+        ap what.Hold (same_hold h _ _ _ _ _ _ _ (place_back h.from stands.from) (place_back h.to stands.to) (amount_back h.amount stands.amount) (amount_back h.fee stands.fee) (amount_back h.out stands.out)
+        (moment_back h.deadline stands.deadline) (octets_back h.condition stands.condition.1))
+    what_back (what.Fulfilled hold preimage) stands =
+        ap (λ n. what.Fulfilled n (octets_of (encode_lower preimage))) (small_back hold stands.0) ∙ ap (what.Fulfilled hold) (octets_back preimage stands.1.1)
+    what_back (what.Released hold cause) stands =
+        ap (λ n. what.Released n (cause_of (cause_fields cause))) (small_back hold stands.0) ∙ ap (what.Released hold) (cause_back cause stands.1)
+    what_back (what.Credited c) stands =
+        ap what.Credited (same_credited c _ _ _ _ _ (place_back c.peer stands.peer) (octets_back c.key stands.key.1) (number_back c.named (omega (arith, stands.named))) (number_back c.scale (omega (arith, stands.scale)))
+        (amount_back c.credited stands.credited))
+    what_back (what.Asked a) stands = ap what.Asked (same_ask a _ _ (place_back a.peer stands.0) (amount_back a.amount stands.1))
+    what_back (what.Confirmed ask) stands = ap what.Confirmed (small_back ask stands)
+    what_back (what.Undone ask) stands = ap what.Undone (small_back ask stands)
+
+    entry_back : (e : Entry) → CanStand C e → entry_of (entry_fields C e) ≡ e
+    unfolding entry_of field_at
+    entry_back e stands = same_entry e _ _ _ (moment_back e.moment stands.moment) (small_back e.actor stands.actor) (what_back e.what stands.what)
+
+    -- entries with the same fields are the same
+    pub one_entry : (d e : Entry) → CanStand C d → CanStand C e → entry_fields C d ≡ entry_fields C e → d ≡ e
+    one_entry d e stands_d stands_e same = sym (entry_back d stands_d) ∙ ap entry_of same ∙ entry_back e stands_e

@@ -1,0 +1,121 @@
+-- A text stands for one journal, or has one first bad line.
+use Rattle.std.proofs.Common.{◌≡◌, ℕ, ◌+◌, ◌%◌, ◌^◌, ◌<◌, ◌≤◌, ℤ, pos, negsuc, List, [], ◌∷◌, ◌++◌, length, slice_index, slice_index_or, refl, sym, ap, subst, ◌∙◌, arith, append_assoc, inl, inr, All}
+use Rattle.std.specs.List.{slice_split, flat_map}
+use Rattle.std.specs.Fmt.{decimal, signed_decimal}
+use Rattle.std.proofs.lemmas.Fmt.{decimal_by_steps_wide}
+use Rattle.std.proofs.lemmas.Int.{ints}
+use Rattle.std.proofs.lemmas.List.{append-nil, append_cancel_left}
+use Rattle.std.proofs.lemmas.List.Elements.{All-head, All-tail}
+use Rattle.ilp_accounts.specs.Configuration.{Configuration}
+use Rattle.ilp_accounts.specs.Valid.{IsValid}
+use Rattle.ilp_journal.specs.declared.entry.Entry.{Entry}
+use Rattle.ilp_journal.specs.Journal.{Entries}
+use Rattle.ilp_journal_text.specs.Text.{first_line, entry_line, end_line}
+use Rattle.ilp_journal_text.specs.Reading.{IsMoment, CanStand, IsTextOf, Unread, LacksEntry, GoesOn, IsBadAt, IsFirstBadLine}
+use Rattle.ilp_journal_text.specs.Fields.{is_space, is_line_end}
+use Rattle.ilp_journal_text.proofs.Cuts.{cut_line}
+use Rattle.ilp_journal_text.proofs.Awaited.{entry_body, entry_parts, entry_clean, entry_cut}
+use Rattle.ilp_journal_text.proofs.Inverse.{one_entry}
+
+-- ---- the end line is no entry's
+
+-- begins with a digit
+BeginsWithDigit : List ℕ → Type 0
+BeginsWithDigit [] = ⊥
+BeginsWithDigit (octet ∷ octets) = octet ≤ 57
+
+decimal_begins : (n : ℕ) → n < 10 ^ 64 → BeginsWithDigit (decimal n)
+unfolding BeginsWithDigit
+decimal_begins n fits = decimal_by_steps_wide (λ _ (digits : List ℕ). BeginsWithDigit digits) one more n fits
+  where
+    one : (k : ℕ) → k < 10 → BeginsWithDigit ((48 + k) ∷ [])
+    one k digit = omega arith
+
+    more : (k : ℕ) (digits : List ℕ) → 10 ≤ k → BeginsWithDigit digits → BeginsWithDigit (digits ++ ((48 + k % 10) ∷ []))
+    more k [] many none = absurd none
+    more k (octet ∷ octets) many begins = begins
+
+moment_begins : (m : ℤ) → IsMoment m → BeginsWithDigit (signed_decimal m)
+moment_begins (pos n) within =
+    let below : n < 2 ^ 63 = omega (arith, ints, within.1) in
+    decimal_begins n (omega (arith, below))
+moment_begins (negsuc n) within = absurd (omega (arith, ints, within.0))
+
+no_digit : (first further after rest : List ℕ) → BeginsWithDigit first → 101 ∷ rest ≡ (first ++ further) ++ after → ⊥
+unfolding BeginsWithDigit
+no_digit [] further after rest begins same = absurd begins
+no_digit (octet ∷ octets) further after rest begins same = omega (arith, begins, ap (λ (text : List ℕ). slice_index text 0) same)
+
+module _ (C : Configuration) where
+  pub end_lacks : (count : ℕ) (after : List ℕ) → LacksEntry C (end_line count ++ after)
+  end_lacks count after e more stands same = no_digit (signed_decimal e.moment) _ more _ (moment_begins e.moment stands.moment) same
+
+  goes_lacks : (u : Unread) → GoesOn u → LacksEntry C u.rest
+  goes_lacks u goes = subst (LacksEntry C) (sym goes.whole) (end_lacks u.count goes.after)
+
+  -- where the next line is bad, that of no entry comes
+  bad_lacks : (u : Unread) (number : ℕ) → IsBadAt C u number → LacksEntry C u.rest
+  bad_lacks u number (inl lacks) = lacks.0.entry
+  bad_lacks u number (inr goes) = goes_lacks u goes.0
+
+  module _ (valid : IsValid C) where
+    -- ---- one entry after another
+
+    same_line : (d e : Entry) (x y : List ℕ) → CanStand C d → CanStand C e → entry_line C d ++ x ≡ entry_line C e ++ y → d ≡ e
+    same_line d e x y stands_d stands_e same =
+        let cut_d = ap (slice_split is_line_end) (entry_parts C d x _ refl) ∙ cut_line (entry_body C d) x (entry_clean C valid d stands_d) in
+        let cut_e = ap (slice_split is_line_end) (entry_parts C e y _ refl) ∙ cut_line (entry_body C e) y (entry_clean C valid e stands_e) in
+        let both = sym cut_d ∙ ap (slice_split is_line_end) same ∙ cut_e in
+        let bodies : entry_body C d ≡ entry_body C e = ap (λ (parts : List (List ℕ)). slice_index_or parts 0 []) both in
+        one_entry C valid d e stands_d stands_e (sym (entry_cut C valid d stands_d) ∙ ap (slice_split is_space) bodies ∙ entry_cut C valid e stands_e)
+
+    -- texts that begin with the lines of entries, and then lack one
+    pub same_entries : (j k : Entries) (x y : List ℕ) → All (CanStand C) j → All (CanStand C) k → LacksEntry C x → LacksEntry C y → flat_map (entry_line C) j ++ x ≡ flat_map (entry_line C) k ++ y → (j ≡ k) × (x ≡ y)
+    same_entries [] [] x y all_j all_k lacks_x lacks_y same = (refl, same)
+    same_entries [] (e ∷ k) x y all_j all_k lacks_x lacks_y same =
+        absurd (lacks_x e (flat_map (entry_line C) k ++ y) (All-head (CanStand C) e k all_k) (same ∙ append_assoc (entry_line C e) (flat_map (entry_line C) k) y))
+    same_entries (d ∷ j) [] x y all_j all_k lacks_x lacks_y same =
+        absurd (lacks_y d (flat_map (entry_line C) j ++ x) (All-head (CanStand C) d j all_j) (sym same ∙ append_assoc (entry_line C d) (flat_map (entry_line C) j) x))
+    same_entries (d ∷ j) (e ∷ k) x y all_j all_k lacks_x lacks_y same =
+        let whole = sym (append_assoc (entry_line C d) (flat_map (entry_line C) j) x) ∙ same ∙ append_assoc (entry_line C e) (flat_map (entry_line C) k) y in
+        let head = same_line d e _ _ (All-head (CanStand C) d j all_j) (All-head (CanStand C) e k all_k) whole in
+        let rest = append_cancel_left (entry_line C e) _ _ (ap (λ (f : Entry). entry_line C f ++ (flat_map (entry_line C) j ++ x)) (sym head) ∙ whole) in
+        let tail = same_entries j k x y (All-tail (CanStand C) d j all_j) (All-tail (CanStand C) e k all_k) lacks_x lacks_y rest in
+        (ap (λ (f : Entry). f ∷ j) head ∙ ap (λ (l : Entries). e ∷ l) tail.0, tail.1)
+
+    -- ---- the laws
+
+    at_end : (j : Entries) (text : List ℕ) → IsTextOf C j text → text ≡ first_line ++ (flat_map (entry_line C) j ++ end_line (length j))
+    at_end j text is = is.whole
+
+    end_alone : (count : ℕ) → LacksEntry C (end_line count)
+    end_alone count = subst (LacksEntry C) (append-nil (end_line count)) (end_lacks count [])
+
+    pub one_journal : (j k : Entries) (text : List ℕ) → IsTextOf C j text → IsTextOf C k text → j ≡ k
+    one_journal j k text is_j is_k =
+        (same_entries j k (end_line (length j)) (end_line (length k)) is_j.entries is_k.entries (end_alone (length j)) (end_alone (length k)) (append_cancel_left first_line _ _ (sym is_j.whole ∙ is_k.whole))).0
+
+    pub never_bad : (j : Entries) (text : List ℕ) (number : ℕ) → IsTextOf C j text → IsFirstBadLine C text number → ⊥
+    never_bad j text number is (inl bad) = bad.0 _ is.whole
+    never_bad j text number is (inr (k, u, read, bad)) =
+        let same = same_entries j k (end_line (length j)) u.rest is.entries read.entries (end_alone (length j)) (bad_lacks u number bad) (append_cancel_left first_line _ _ (sym is.whole ∙ read.whole)) in
+        let rest : u.rest ≡ end_line u.count = sym same.1 ∙ ap end_line (ap length same.0 ∙ sym read.count) in
+        by bad rest
+      where
+        by : IsBadAt C u number → u.rest ≡ end_line u.count → ⊥
+        by (inl lacks) rest = lacks.0.end [] (rest ∙ sym (append-nil (end_line u.count)))
+        by (inr goes) rest = goes.0.more (append_cancel_left (end_line u.count) _ _ (sym goes.0.whole ∙ rest ∙ sym (append-nil (end_line u.count))))
+
+    same_number : (u v : Unread) (m n : ℕ) → u.rest ≡ v.rest → u.count ≡ v.count → IsBadAt C u m → IsBadAt C v n → m ≡ n
+    same_number u v m n rest count (inl bad) (inl other) = bad.1 ∙ ap (λ k. k + 2) count ∙ sym other.1
+    same_number u v m n rest count (inl bad) (inr goes) = absurd (bad.0.end goes.0.after (rest ∙ goes.0.whole ∙ ap (λ k. end_line k ++ goes.0.after) (sym count)))
+    same_number u v m n rest count (inr goes) (inl bad) = absurd (bad.0.end goes.0.after (sym rest ∙ goes.0.whole ∙ ap (λ k. end_line k ++ goes.0.after) count))
+    same_number u v m n rest count (inr goes) (inr other) = goes.1 ∙ ap (λ k. k + 3) count ∙ sym other.1
+
+    pub one_bad_line : (text : List ℕ) (m n : ℕ) → IsFirstBadLine C text m → IsFirstBadLine C text n → m ≡ n
+    one_bad_line text m n (inl bad) (inl other) = bad.1 ∙ sym other.1
+    one_bad_line text m n (inl bad) (inr other) = absurd (bad.0 _ other.2.whole)
+    one_bad_line text m n (inr bad) (inl other) = absurd (other.0 _ bad.2.whole)
+    one_bad_line text m n (inr (j, u, read, bad)) (inr (k, v, other, worse)) =
+        let same = same_entries j k u.rest v.rest read.entries other.entries (bad_lacks u m bad) (bad_lacks v n worse) (append_cancel_left first_line _ _ (sym read.whole ∙ other.whole)) in
+        same_number u v m n same.1 (read.count ∙ ap length same.0 ∙ sym other.count) bad worse

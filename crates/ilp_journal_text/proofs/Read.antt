@@ -1,0 +1,41 @@
+-- What a reader knows of a text on its way.
+use Rattle.std.proofs.Common.{◌≡◌, ℕ, List, [], ◌∷◌, ◌++◌, sym, ap, ◌∙◌, arith, append_assoc, length-append, inr}
+use Rattle.std.specs.List.{flat_map}
+use Rattle.std.proofs.lemmas.Grind.{flat_map-append}
+use Rattle.std.proofs.lemmas.List.{append-nil}
+use Rattle.std.proofs.lemmas.List.Elements.{All-nil, All-push}
+use Rattle.ilp_accounts.specs.Configuration.{Configuration}
+use Rattle.ilp_journal.specs.declared.entry.Entry.{Entry}
+use Rattle.ilp_journal.specs.Journal.{Entries}
+use Rattle.ilp_journal_text.specs.Text.{first_line, entry_line, end_line}
+use Rattle.ilp_journal_text.specs.Reading.{CanStand, IsTextOf, Unread, Begins, Takes, IsAtEnd, HasRead, IsBadAt, IsFirstBadLine}
+
+module _ (C : Configuration) (text : List ℕ) where
+  -- after the first line no entry was read
+  pub has_begun : (u : Unread) → Begins text u → HasRead C text [] u
+  has_begun u begins = record { whole = begins.whole; entries = All-nil (CanStand C); count = begins.count }
+
+  -- the line of an entry adds it to those that were read
+  pub has_taken : (j : Entries) (e : Entry) (u v : Unread) → HasRead C text j u → Takes C e u v → HasRead C text (j ++ e ∷ []) v
+  has_taken j e u v read takes = record {
+    whole =
+        let lines : List ℕ = flat_map (entry_line C) j in
+        let grown : flat_map (entry_line C) (j ++ e ∷ []) ≡ lines ++ entry_line C e =
+        flat_map-append (entry_line C) j (e ∷ []) ∙ ap (λ (octets : List ℕ). lines ++ octets) (append-nil (entry_line C e)) in
+        read.whole
+        ∙ ap (λ (octets : List ℕ). first_line ++ octets)
+        (ap (λ (octets : List ℕ). lines ++ octets) takes.line ∙ sym (append_assoc lines (entry_line C e) v.rest) ∙ ap (λ (octets : List ℕ). octets ++ v.rest) (sym grown));
+    entries = All-push (CanStand C) j e read.entries takes.stands;
+    count = omega (arith, takes.count, read.count, length-append j (e ∷ []));
+  }
+
+  -- at the end line the text is that of all entries
+  pub has_ended : (j : Entries) (u : Unread) → HasRead C text j u → IsAtEnd u → IsTextOf C j text
+  has_ended j u read ended = record {
+    whole = read.whole ∙ ap (λ (octets : List ℕ). first_line ++ (flat_map (entry_line C) j ++ octets)) (ended ∙ ap end_line read.count);
+    entries = read.entries;
+  }
+
+  -- a bad line that is met is the first
+  pub first_bad : (j : Entries) (u : Unread) (number : ℕ) → HasRead C text j u → IsBadAt C u number → IsFirstBadLine C text number
+  first_bad j u number read bad = inr (j, u, read, bad)

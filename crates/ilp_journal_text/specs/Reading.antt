@@ -1,0 +1,133 @@
+-- The text of a journal, read: what it stands for, and where it is first bad. Lines count from 1.
+use Rattle.std.specs.Prelude.{◌≡◌, ◌≢◌, ◌⊎◌, ℕ, ◌+◌, ◌<◌, ◌^◌, ℤ, pos, ◌≤ℤ◌, ◌<ℤ◌, List, [], ◌++◌, length, All, ⊤}
+use Rattle.std.specs.List.{flat_map}
+use Rattle.hex.specs.Hex.{IsBytes}
+use Rattle.ilp_accounts.specs.Configuration.{Configuration}
+use Rattle.ilp_journal.specs.declared.entry.Entry.{Entry}
+use Rattle.ilp_journal.specs.declared.entry.What.{What}
+use Rattle.ilp_journal.specs.declared.entry.What.TheVariants as what
+use Rattle.ilp_journal.specs.declared.entry.Hold.{Hold}
+use Rattle.ilp_journal.specs.declared.entry.Credited.{Credited}
+use Rattle.ilp_journal.specs.declared.entry.Cause.{Cause}
+use Rattle.ilp_journal.specs.declared.entry.Cause.TheVariants.{Peer}
+use Rattle.ilp_journal.specs.Journal.{Entries}
+use Rattle.ilp_journal.specs.Keys.{IsKey}
+use Rattle.ilp_journal_text.specs.declared.reading.TextFault.{TextFault}
+use Rattle.ilp_journal_text.specs.declared.reading.TextFault.TheVariants.{BadLine, Memory}
+use Rattle.ilp_journal_text.specs.Text.{first_line, entry_line, end_line, journal_text}
+
+-- ---- which entries a text of a configuration can have
+
+-- a peer of the configuration
+abbrev pub IsPeer : Configuration → ℕ → Type 0
+IsPeer C peer = peer < length C.peers
+
+-- milliseconds since 1970
+abbrev pub IsMoment : ℤ → Type 0
+IsMoment moment = (pos 0 ≤ℤ moment) × (moment <ℤ pos (2 ^ 63))
+
+-- so many octets
+abbrev pub AreOctets : ℕ → List ℕ → Type 0
+AreOctets count octets = (length octets ≡ count) × IsBytes octets
+
+pub record HoldStands (C : Configuration) (h : Hold) : Type 0 where
+  pub from : IsPeer C h.from
+  pub to : IsPeer C h.to
+  pub amount : h.amount < 2 ^ 64
+  pub fee : h.fee < 2 ^ 64
+  pub out : h.out < 2 ^ 64
+  pub deadline : IsMoment h.deadline
+  pub condition : AreOctets 32 h.condition
+
+abbrev pub CauseStands : Cause → Type 0
+CauseStands (Peer code) = AreOctets 3 code
+CauseStands _ = ⊤
+
+pub record CreditStands (C : Configuration) (c : Credited) : Type 0 where
+  pub peer : IsPeer C c.peer
+  pub key : IsKey c.key × IsBytes c.key
+  pub named : c.named < 2 ^ 128
+  pub scale : c.scale < 2 ^ 8
+  pub credited : c.credited < 2 ^ 64
+
+abbrev pub WhatStands : Configuration → What → Type 0
+WhatStands C (what.Hold h) = HoldStands C h
+WhatStands C (what.Fulfilled hold preimage) = (hold < 2 ^ 32) × AreOctets 32 preimage
+WhatStands C (what.Released hold cause) = (hold < 2 ^ 32) × CauseStands cause
+WhatStands C (what.Credited c) = CreditStands C c
+WhatStands C (what.Asked a) = IsPeer C a.peer × (a.amount < 2 ^ 64)
+WhatStands C (what.Confirmed ask) = ask < 2 ^ 32
+WhatStands C (what.Undone ask) = ask < 2 ^ 32
+
+-- an entry of peers that the configuration knows, whose numbers are of their types
+pub record CanStand (C : Configuration) (e : Entry) : Type 0 where
+  pub moment : IsMoment e.moment
+  pub actor : e.actor < 2 ^ 32
+  pub what : WhatStands C e.what
+
+-- ---- what a text stands for
+
+-- the text of these entries, each of which can stand in it
+pub record IsTextOf (C : Configuration) (j : Entries) (text : List ℕ) : Type 0 where
+  pub whole : text ≡ journal_text C j
+  pub entries : All (CanStand C) j
+
+-- what is not read yet of a text: the octets behind the lines of so many entries
+pub record Unread : Type 0 where
+  pub rest : List ℕ
+  pub count : ℕ
+
+-- the first line was read
+pub record Begins (text : List ℕ) (new : Unread) : Type 0 where
+  pub whole : text ≡ first_line ++ new.rest
+  pub count : new.count ≡ 0
+
+-- the line of an entry was read
+pub record Takes (C : Configuration) (e : Entry) (old new : Unread) : Type 0 where
+  pub line : old.rest ≡ entry_line C e ++ new.rest
+  pub stands : CanStand C e
+  pub count : new.count ≡ old.count + 1
+
+-- the end line is all that is left
+abbrev pub IsAtEnd : Unread → Type 0
+IsAtEnd unread = unread.rest ≡ end_line unread.count
+
+-- the first line and those of the entries were read
+pub record HasRead (C : Configuration) (text : List ℕ) (j : Entries) (now : Unread) : Type 0 where
+  pub whole : text ≡ first_line ++ (flat_map (entry_line C) j ++ now.rest)
+  pub entries : All (CanStand C) j
+  pub count : now.count ≡ length j
+
+-- ---- the first bad line
+
+abbrev pub LacksFirstLine : List ℕ → Type 0
+LacksFirstLine text = (after : List ℕ) → text ≢ first_line ++ after
+
+-- no line of an entry that can stand comes first
+abbrev pub LacksEntry : Configuration → List ℕ → Type 0
+LacksEntry C octets = (e : Entry) (after : List ℕ) → CanStand C e → octets ≢ entry_line C e ++ after
+
+-- neither the line of an entry comes next nor the end line
+pub record LacksLine (C : Configuration) (u : Unread) : Type 0 where
+  pub entry : LacksEntry C u.rest
+  pub end : (after : List ℕ) → u.rest ≢ end_line u.count ++ after
+
+-- the end line comes next, and then more
+pub record GoesOn (u : Unread) : Type 0 where
+  pub after : List ℕ
+  pub whole : u.rest ≡ end_line u.count ++ after
+  pub more : after ≢ []
+
+-- the first bad line of what is left: the next one, or the one behind the end line
+abbrev pub IsBadAt : Configuration → Unread → ℕ → Type 0
+IsBadAt C u line = (LacksLine C u × (line ≡ u.count + 2)) ⊎ (GoesOn u × (line ≡ u.count + 3))
+
+-- the first bad line of a text
+abbrev pub IsFirstBadLine : Configuration → List ℕ → ℕ → Type 0
+IsFirstBadLine C text line = (LacksFirstLine text × (line ≡ 1))
+    ⊎ ((j : Entries) × (u : Unread) × HasRead C text j u × IsBadAt C u line)
+
+-- a fault names the first bad line of what is left, or is want of memory
+abbrev pub Explains : Configuration → Unread → TextFault → Type 0
+Explains C u (BadLine line) = IsBadAt C u line
+Explains C u Memory = ⊤

@@ -1,0 +1,126 @@
+//! Reading the text of a journal.
+ghost use Rattle.std.specs.Prelude.{◌≡◌, ◌++◌, ℕ, List, IfOk, IfErr, OnErr, IfSome, OnSome, IsNone, All, IsOkAnd, false, ◌∷◌};
+ghost use Rattle.std.specs.Borrow.{Bor};
+ghost use Rattle.ilp_journal.specs.declared.entry.Entry.{Entry as PlainEntry};
+ghost use Rattle.ilp_journal_text.specs.Text.{entry_line};
+ghost use Rattle.ilp_journal_text.specs.Reading.{CanStand, Begins, LacksFirstLine, LacksEntry, Takes, IsAtEnd, Explains};
+ghost use Rattle.ilp_journal_text.specs.Fields.{is_line_end, Gives};
+
+use crate::entry::entry_line;
+use crate::fields::{LineFault, fields_of};
+use crate::line::{FIRST_LINE, Line};
+use crate::parsing::entry_in;
+use ilp_accounts::Config;
+use ilp_journal::Entry;
+use std::marker::Model;
+use thiserror::Error;
+
+/// Why reading a text stopped before its end.
+#[derive(Clone, Copy, Debug, PartialEq, Eq, Error)]
+pub enum TextFault {
+    /// The first line, counted from 1, that a text of a journal does not have there.
+    #[error("the line {line} is no line of a journal")]
+    BadLine { line: u64 },
+    /// Memory for the key of a credit was denied.
+    #[error("memory is short")]
+    Memory,
+}
+
+/// The text of a journal, as far as it is not read yet. It is read entry by entry, once.
+#[derive(Drop)]
+pub struct JournalText<'a> {
+    rest: &'a [u8],
+    count: u64,
+}
+
+impl<'a> Model for JournalText<'a> {
+    ghost use Rattle.std.specs.Prelude.{◌+◌, ◌<◌, ◌^◌, length};
+    ghost use Rattle.ilp_journal_text.specs.Reading.{Unread};
+
+    ghost Value = { Unread };
+
+    ghost view = { λ t. record { rest = t.rest.now; count = t.count } };
+
+    // An entry has more than one octet.
+    ghost invariant = { λ t. t.count + length t.rest.now < 2 ^ 63 };
+}
+
+impl<'a> JournalText<'a> {
+    /// Begins to read a text, with its first line. Without that the fault is `BadLine` with 1.
+    pub fn begin(text: &'a [u8]) -> Result<JournalText<'a>, TextFault>
+        ensures ok { IfOk result (Begins text.now) }
+        ensures err { OnErr result (LacksFirstLine text.now) }
+        ensures fault { IfErr result (λ fault. fault ≡ TextFault.BadLine 1) }
+    {
+        match text.strip_prefix(FIRST_LINE) {
+            Some(rest) => Ok(JournalText { rest, count: 0 }),
+            None => Err(TextFault::BadLine { line: 1 }),
+        }
+    }
+
+    /// The next entry, by the names of peers in the configuration, and `None` where the text ends
+    /// with its end line. The key of a credit lies on the heap of the configuration.
+    ///
+    /// `BadLine` names the first bad line: the next one, or that behind the end line. `Memory` may come
+    /// in place of any answer, where memory for a key was denied. After `None` and after a refusal
+    /// what is left is as before.
+    pub fn next(&mut self, config: &Config) -> Result<Option<Entry>, TextFault>
+        ensures entry { IfOk result (λ next.
+            IfSome next (λ entry. Takes config.now entry self.old self.new)) }
+        ensures end { IfOk result (λ next. IsNone next → IsAtEnd self.old) }
+        ensures err { IfErr result (Explains config.now self.old) }
+        ensures ended { IfOk result (λ next. IsNone next → self.new ≡ self.old) }
+        ensures unchanged { OnErr result (self.new ≡ self.old) }
+    {
+        let end = Line::last(self.count);
+        if let Some(after) = self.rest.strip_prefix(end.as_slice()) {
+            if after.is_empty() {
+                return Ok(None);
+            }
+            return Err(TextFault::BadLine {
+                line: self.count + 3,
+            });
+        }
+        match take_entry(config, self.rest) {
+            Ok((entry, rest)) => {
+                self.rest = rest;
+                self.count += 1;
+                Ok(Some(entry))
+            }
+            Err(LineFault::Bad) => Err(TextFault::BadLine {
+                line: self.count + 2,
+            }),
+            Err(LineFault::Memory) => Err(TextFault::Memory),
+        }
+    }
+}
+
+// The entry whose line comes first, and what stands behind that line.
+fn take_entry<'a>(config: &Config, text: &'a [u8]) -> Result<(Entry, &'a [u8]), LineFault>
+    ensures ok { IfOk result (λ taken. (text.now ≡ entry_line config.now taken.0 ++ taken.1.now)
+        × CanStand config.now taken.0) }
+    ensures err { IfErr result (λ fault. fault ≡ LineFault.Bad → LacksEntry config.now text.now) }
+{
+    // Tells that the configuration is valid.
+    let _ = config.peers();
+    let line = line_of(text)?;
+    let fields = fields_of(line)?;
+    let entry = entry_in(config, fields.as_slice())?;
+
+    // A line that is spelt in another way than it would be written is bad.
+    match text.strip_prefix(entry_line(config, &entry).as_slice()) {
+        Some(rest) => Ok((entry, rest)),
+        None => Err(LineFault::Bad),
+    }
+}
+
+// What stands before the first line end.
+fn line_of(text: &[u8]) -> Result<&[u8], LineFault>
+    ensures { (line after : List ℕ) → All (λ octet. is_line_end octet ≡ false) line
+        → text.now ≡ line ++ 10 ∷ after → IsOkAnd result (λ found. found.now ≡ line) }
+{
+    match memchr::memchr(b'\n', text) {
+        Some(end) => Ok(&text[..end]),
+        None => Err(LineFault::Bad),
+    }
+}

@@ -1,0 +1,123 @@
+//! What is told of the file in which a journal is kept.
+
+use crate::line::{Level, tell};
+use std::io;
+use std::io::Eprint;
+use std::time::Clock;
+
+/// Tells that no journal is kept, and what that asks of each start.
+pub fn no_journal<R: Clock + Eprint>(rt: &R) {
+    tell(
+        rt,
+        Level::Warn,
+        "no journal is kept: balances and keys are forgotten at the end, so each start needs a `run` that no earlier one had",
+    );
+}
+
+/// Tells with how many entries of its journal a connector begins.
+pub fn journal_carried<R: Clock + Eprint>(rt: &R, path: &str, entries: u32) {
+    let text = format_args!("journal {path:?}: begun with its {entries} entries");
+    tell(rt, Level::Info, text);
+}
+
+/// Tells that the journal has no file yet, in case that its path is mistaken: what an earlier run of
+/// that name booked would be forgotten, while engines know its keys.
+pub fn journal_absent<R: Clock + Eprint>(rt: &R, path: &str) {
+    let text = format_args!(
+        "journal {path:?}: not there yet, so all balances begin at 0: see that this is its path, and that no earlier start had this `run`"
+    );
+    tell(rt, Level::Warn, text);
+}
+
+/// Tells that the journal is saved, with so many entries.
+pub fn journal_saved<R: Clock + Eprint>(rt: &R, path: &str, entries: u32) {
+    let text = format_args!("journal {path:?}: saved with {entries} entries");
+    tell(rt, Level::Info, text);
+}
+
+/// Tells that the journal could not be saved, and that it is tried again.
+pub fn not_saved_yet<R: Clock + Eprint>(rt: &R, path: &str, error: &io::Error) {
+    let text = format_args!(
+        "journal {path:?}: can't be saved: {error}: make room for it, it is tried again each second for a minute"
+    );
+    tell(rt, Level::Warn, text);
+}
+
+/// Tells that the journal was not saved, and where a part of it is.
+pub fn not_saved<R: Clock + Eprint>(rt: &R, path: &str, new: &str, error: &io::Error) {
+    let text = format_args!(
+        "journal {path:?}: not saved: {error}: it is as at the start, and {new:?} has what could be written: keep both and the report"
+    );
+    tell(rt, Level::Error, text);
+}
+
+/// Tells that a connector ended in a way that leaves no journal to be saved.
+pub fn nothing_to_save<R: Clock + Eprint>(rt: &R, path: &str) {
+    let text = format_args!(
+        "journal {path:?}: not saved, since the connector was refused: it is as at the start"
+    );
+    tell(rt, Level::Error, text);
+}
+
+/// Tells that the mark of a connector that runs could not be taken away.
+pub fn mark_left<R: Clock + Eprint>(rt: &R, running: &str, error: &io::Error) {
+    let text = format_args!("can't remove {running:?}: {error}: remove it before the next start");
+    tell(rt, Level::Error, text);
+}
+
+/// Tells that another connector has the journal.
+pub fn journal_in_use<R: Clock + Eprint>(rt: &R, path: &str) {
+    let text = format_args!(
+        "journal {path:?}: another connector has it: close that one, or give this one a journal of its own"
+    );
+    tell(rt, Level::Error, text);
+}
+
+/// Tells that a file can't be locked, and why.
+pub fn journal_not_locked<R: Clock + Eprint>(rt: &R, lock: &str, error: &io::Error) {
+    let text = format_args!(
+        "can't lock {lock:?}: {error}: keep the journal where files can be locked"
+    );
+    tell(rt, Level::Error, text);
+}
+
+/// Tells that a file beside the journal can't be made, and why.
+pub fn not_made<R: Clock + Eprint>(rt: &R, path: &str, error: &io::Error) {
+    let text = format_args!(
+        "can't make {path:?}: {error}: see that the journal's folder is there, may be written and has room"
+    );
+    tell(rt, Level::Error, text);
+}
+
+/// Tells that what a save began is still there.
+pub fn left_unsaved<R: Clock + Eprint>(rt: &R, new: &str) {
+    let text = format_args!(
+        "{new:?} lies there, of a save that did not end: it is not read, and the next save writes over it: move it away to keep it"
+    );
+    tell(rt, Level::Warn, text);
+}
+
+/// Tells that the file can't be read, and why.
+pub fn journal_unread<R: Clock + Eprint>(rt: &R, path: &str, error: &io::Error) {
+    let text = format_args!("can't read {path:?}: {error}");
+    tell(rt, Level::Error, text);
+}
+
+/// Tells that the journal has more octets than any can have.
+pub fn journal_too_long<R: Clock + Eprint>(rt: &R, path: &str) {
+    let text = format_args!("can't read {path:?}: more than 8589934592 octets");
+    tell(rt, Level::Error, text);
+}
+
+/// Tells in two lines that a connector has stopped without saving the journal, of which its mark says
+/// this: what that means, and what to do.
+pub fn stopped_unsaved<R: Clock + Eprint>(rt: &R, path: &str, running: &str, said: &str) {
+    let meant = format_args!(
+        "journal {path:?}: a connector stopped without saving it ({running:?} says {said:?}): what it booked is lost, while engines know its keys and a start would use its numbers again"
+    );
+    tell(rt, Level::Error, meant);
+    let to_do = format_args!(
+        "compare with peers and engines what was booked since, move {path:?} and {running:?} away, and start with a `run` that no earlier start had"
+    );
+    tell(rt, Level::Error, to_do);
+}
