@@ -9,26 +9,24 @@ use crate::expecting::expected_at;
 use ilp_accounts::Config;
 use ilp_book::{Book, CarryFault};
 use ilp_connector::Refusal;
-use ilp_links::SystemClock;
-use ilp_workers::Clock;
 use std::alloc::AllocError;
-use std::rt::Runtime;
 
-/// The book of a journal's text, or a new one where there is none. The path is that of the text.
-pub(crate) fn book_of<R: Runtime + AllocGlobal + Copy>(
+/// The book of a journal's text, carried over at this time, or a new one where there is none. The path
+/// is that of the text.
+pub(crate) fn book_of<R: AllocGlobal>(
     rt: &R,
     config: &Config,
     path: &str,
     text: Option<Vec<u8>>,
+    now: i64,
 ) -> Result<Book, Exit>
-    ensures begins { IfOk result (BeginsWith config.now (option_map (λ t. t.items) text)) }
+    ensures begins { IfOk result (BeginsWith config.now (option_map (λ t. t.items) text) now) }
     ensures config { IfOk result (λ b. b.config ≡ config.now) }
     ensures opening { IfOk result (λ b. length b.entries ≡ b.base) }
 {
     let Some(text) = text else {
         return new_book(rt, config);
     };
-    let now = SystemClock::new(*rt).now();
     match Book::carry_over(rt.alloc(), config, &text, now) {
         Ok(book) => Ok(book),
         Err(fault) => Err(not_carried(rt, path, &text, fault)),

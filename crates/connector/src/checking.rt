@@ -6,6 +6,8 @@ use crate::{Exit, print_line};
 use ilp_accounts::explain;
 use ilp_connector::{Refusal, check, check_book};
 use ilp_journal_file::look_at;
+use ilp_links::SystemClock;
+use ilp_workers::Clock;
 use std::alloc::AllocError;
 use std::fs::File;
 use std::rt::{Files, Runtime};
@@ -41,7 +43,8 @@ where
 {
     let config = configured(rt, path)?;
     let text = look_at(rt, rt.alloc(), journal)?;
-    let book = book_of(rt, &config, journal, text)?;
+    let now = SystemClock::new(*rt).now();
+    let book = book_of(rt, &config, journal, text, now)?;
     match check_book(rt.alloc(), &book) {
         Ok(line) => Ok(line),
         Err(AllocError) => Err(Exit::Refused(Refusal::Memory)),

@@ -17,6 +17,7 @@ use ilp_notices::{
     Notices, journal_absent, journal_carried, no_journal, nothing_to_save, report_follows,
 };
 use ilp_running::{ServeFault, Unprinted, serve};
+use ilp_workers::Clock;
 use std::alloc::AllocError;
 use std::fs::File;
 use std::net::{Net, TcpListener, TcpStream};
@@ -233,7 +234,8 @@ where
 {
     let text = file.read(rt, rt.alloc())?;
     let is_there = text.is_some();
-    let book = book_of(rt, config, path, text)?;
+    let now = SystemClock::new(*rt).now();
+    let book = book_of(rt, config, path, text, now)?;
     if is_there {
         journal_carried(rt, path, book.len());
     } else {
