@@ -161,8 +161,8 @@ def credit_record(number, amount, peer=ALICE):
     return f"Record {{ number: {number}, what: Credited {{ peer: {peer}, amount: {amount} }} }}"
 
 
-def close_record(number, ask, accepted):
-    return (f"Record {{ number: {number}, what: Closed {{ ask: {ask}, peer: 1, amount: 800, "
+def close_record(number, ask, accepted, amount=800):
+    return (f"Record {{ number: {number}, what: Closed {{ ask: {ask}, peer: 1, amount: {amount}, "
             f"accepted: {accepted} }} }}")
 
 
@@ -170,8 +170,8 @@ def closing(number, ask, what, at):
     return [f"entry {number} of 2 at {at}", f"{what} {ask}"]
 
 
-def asking(number, at):
-    return [f"entry {number} of 2 at {at}", "Ask { peer: 1, amount: 800 }"]
+def asking(number, at, amount=800):
+    return [f"entry {number} of 2 at {at}", f"Ask {{ peer: 1, amount: {amount} }}"]
 
 
 def balance(alice, bob):
@@ -181,11 +181,13 @@ def balance(alice, bob):
 NOTHING = actor(0, 0) + actor(2, 0) + balance(0, 0)
 
 
-def scene(name, steps, booked, act="both", over="two_peers.toml", **given):
+def scene(name, steps, booked, act="both", over="two_peers.toml", journal=(), **given):
+    """A scene whose book begins with these lines of a journal's text."""
     given = {"clock": f"{START} {START}", "turns": f"{START + 1} {START + 2}", **given}
     lines = [f"act {act}", f"over {over}"]
     lines += [f"{word} {value if isinstance(value, str) else digits(value)}"
               for word, value in given.items() if value is not None]
+    lines += [f"journal {line}" for line in journal]
     ins = lines + [line for ins, _ in steps for line in ins]
     return name, ins, [line for _, told in steps for line in told] + booked
 
@@ -388,6 +390,11 @@ DUE = settled([], quantity(1000, 2), name="bob", credited=1000)
 CREDIT = credited(0, 1000, BOB)
 DUE_RECORD = credit_record(0, 1000, BOB)
 OPEN = clock(START + 1) + [settling("Unknown"), "Kept { number: 1 }"]
+
+# What an earlier run saved: 20 dollars from bob, and the settlement of all above 2, which is open.
+EARLIER = START - 60_000
+CARRIED = [f"{EARLIER} 0 credited bob {b'k'.hex()} 2000 2 2000", f"{EARLIER + 1} 2 asked bob 1800"]
+
 SETTLER = [
     scene("a settlement that an engine refuses",
           [DUE, turn(1, account(1, "false"), "NoAccount"),
@@ -421,6 +428,13 @@ SETTLER = [
           [DUE, turn(1, account(1, "true"), *clock(START + 1), "Idle(Full)")],
           actor(0, 1, DUE_RECORD) + actor(2, 0) + CREDIT + balance(0, 1000),
           over="two_entries.toml", says="account accepted"),
+    scene("a carried settlement, which is asked for again under its old key",
+          [turn(1, account(1, "true"), *clock(START + 1), settling("Accepted", amount=1800),
+                *clock(START + 2), "Closed { number: 1, accepted: true }")],
+          actor(0, 0) + actor(2, 1, close_record(2, 1, "true", 1800))
+          + credited(0, 2000, BOB, at=EARLIER) + asking(1, EARLIER + 1, 1800)
+          + closing(2, 1, "confirmed", START + 2) + balance(0, 200),
+          says="account accepted", journal=CARRIED),
 ]
 
 # ---- growths of memory that are denied

@@ -1,9 +1,9 @@
-//! Desks that are opened over new books.
+//! Desks that are opened over new books, and over carried ones.
 
-ghost use Rattle.std.specs.Prelude.{◌≡◌};
+ghost use Rattle.std.specs.Prelude.{◌≡◌, length, IfOk};
 ghost use Rattle.ilp_desk.specs.Desk.{actors_of, base_of};
 
-use crate::row::said;
+use crate::row::{journal_text_of, moments_of, said};
 use ilp_accounts::Config;
 use ilp_book::Book;
 use ilp_desk::{Desk, Naming, Share};
@@ -33,21 +33,39 @@ pub(crate) fn open_desk<R: Files + Print + AllocGlobal, P: Play<R>>(
     let workers = said(lines, "workers").unwrap_or("1");
     let workers = workers.parse::<u32>().unwrap_or(1);
     match Config::read(rt.alloc(), &octets) {
-        Ok(config) => play_over(rt, &config, workers, scene),
+        Ok(config) => play_over(rt, &config, lines, workers, scene),
         Err(fault) => println!(rt; "no configuration: {fault}"),
     }
 }
 
-// Plays at a desk with so many workers, over a book of no entries.
+// Plays at a desk with so many workers, over the book of these lines.
 fn play_over<R: Print, P: Play<R>>(
     rt: &R,
     config: &Config,
+    lines: &str,
     workers: u32,
     scene: &P,
 ) -> io::Result<()> {
-    let book = Book::new(config.allocator(), config)?;
+    let book = book_of(config, lines)?;
     let blanks = Blank::new(u64::from(workers) + 2);
     play_on::<Brand, R, P>(rt, config, book, workers, blanks, scene)
+}
+
+// The book that these lines' journal is carried over as when the clock first tells. Without a journal it
+// has no entries.
+fn book_of(config: &Config, lines: &str) -> io::Result<Book>
+    ensures config { IfOk result (λ b. b.config ≡ config.now) }
+    ensures opening { IfOk result (λ b. length b.entries ≡ b.base) }
+{
+    let alloc = config.allocator();
+    let Some(text) = journal_text_of(alloc, lines)? else {
+        return Ok(Book::new(alloc, config)?);
+    };
+    let (now, _later) = moments_of(said(lines, "clock").unwrap_or("")).unwrap_or((0, 0));
+    match Book::carry_over(alloc, config, text.as_bytes(), now) {
+        Ok(book) => Ok(book),
+        Err(_) => Err(io::Error::from(io::ErrorKind::InvalidData)),
+    }
 }
 
 // Opens a desk over this book, and plays there.

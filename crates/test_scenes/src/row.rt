@@ -6,13 +6,37 @@ use std::io;
 /// What stands behind this word, which begins a line.
 pub(crate) fn said<'a>(lines: &'a str, word: &str) -> Option<&'a str> {
     for line in lines.lines() {
-        if let Some((first, rest)) = line.split_once(' ') {
-            if first == word {
-                return Some(rest);
-            }
+        if let Some(rest) = behind(line, word) {
+            return Some(rest);
         }
     }
     None
+}
+
+// What stands behind this word, if it begins the line.
+fn behind<'a>(line: &'a str, word: &str) -> Option<&'a str> {
+    let (first, rest) = line.split_once(' ')?;
+    if first == word { Some(rest) } else { None }
+}
+
+/// The text of the journal whose entries stand behind `journal`. `None` where there is no such line.
+pub(crate) fn journal_text_of(alloc: Global, lines: &str) -> Result<Option<String>, AllocError> {
+    let mut text = String::new(alloc);
+    let mut count = 0u32;
+    text.push_str("ilp-journal 1\n")?;
+    for line in lines.lines() {
+        if let Some(entry) = behind(line, "journal") {
+            text.push_str(entry)?;
+            text.push_str("\n")?;
+            count = count.saturating_add(1);
+        }
+    }
+    if count == 0 {
+        return Ok(None);
+    }
+    let end = format!(in alloc; "end {count}\n")?;
+    text.push_str(&end)?;
+    Ok(Some(text))
 }
 
 /// The octets of hexadecimal digits, in which `<N DIGITS>` stands for N times the digits.
