@@ -267,13 +267,22 @@ where
     ensures report { IfOk result (λ b. Appends (Some report.old.octets.items)
         (Some report.new.octets.items) (report_text b)) }
 {
-    if let Err(AllocError) = report.octets.reserve(LONGEST_REPORT) {
-        return Err(ServeFault::Unprinted(Unprinted::Memory));
-    }
-    match Notices::new(rt.alloc(), config) {
+    match notices_beside(rt, config, report) {
         Ok(notices) => serve_noticed(rt, config, book, report, &notices),
         Err(AllocError) => Err(ServeFault::Unprinted(Unprinted::Memory)),
     }
+}
+
+// The lines that a connector tells, once there is room for its report.
+fn notices_beside<R: AllocGlobal>(
+    rt: &R,
+    config: &Config,
+    report: &mut Recording,
+) -> Result<Notices, AllocError>
+    ensures { report.new.octets.items ≡ report.old.octets.items }
+{
+    report.octets.reserve(LONGEST_REPORT)?;
+    Notices::new(rt.alloc(), config)
 }
 
 // As `serve_book`, with these notices.
