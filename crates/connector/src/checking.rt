@@ -3,7 +3,8 @@
 use crate::carrying::book_of;
 use crate::configuring::{config_octets, configured, refused};
 use crate::{Exit, print_line};
-use ilp_accounts::explain;
+use ilp_accounts::{Config, explain};
+use ilp_book::Book;
 use ilp_connector::{Refusal, check, check_book};
 use ilp_journal_file::look_at;
 use ilp_links::SystemClock;
@@ -42,10 +43,33 @@ where
     R: Runtime + AllocGlobal + Files<File = File> + Copy,
 {
     let config = configured(rt, path)?;
+    line_by(rt, &config, journal)
+}
+
+// The same by a configuration that was read.
+fn line_by<R>(rt: &R, config: &Config, journal: &str) -> Result<String, Exit>
+where
+    R: Runtime + AllocGlobal + Files<File = File> + Copy,
+{
+    match book_at(rt, config, journal) {
+        Ok(book) => book_line(rt, &book),
+        Err(exit) => Err(exit),
+    }
+}
+
+// The book with which a connector would begin from a journal now.
+fn book_at<R>(rt: &R, config: &Config, journal: &str) -> Result<Book, Exit>
+where
+    R: Runtime + AllocGlobal + Files<File = File> + Copy,
+{
     let text = look_at(rt, rt.alloc(), journal)?;
     let now = SystemClock::new(*rt).now();
-    let book = book_of(rt, &config, journal, text, now)?;
-    match check_book(rt.alloc(), &book) {
+    book_of(rt, config, journal, text, now)
+}
+
+// The line of a book.
+fn book_line<R: AllocGlobal>(rt: &R, book: &Book) -> Result<String, Exit> {
+    match check_book(rt.alloc(), book) {
         Ok(line) => Ok(line),
         Err(AllocError) => Err(Exit::Refused(Refusal::Memory)),
     }
