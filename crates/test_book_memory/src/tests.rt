@@ -1,10 +1,11 @@
-//! Each growth denied in turn: books, settlements, replays, reports.
+//! Each growth denied in turn: books, settlements, books that are carried over, replays, reports.
 
 use ilp_accounts::Config;
 use std::alloc::Global;
 use std::test::Fail;
 
 mod books;
+mod carrying;
 mod configurations;
 mod describing;
 mod largest;

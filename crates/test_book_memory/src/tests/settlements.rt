@@ -12,9 +12,9 @@ use std::test::Fail;
 use test_allocator::DenyingAllocator;
 
 // The peers, both of which settle.
-const ALICE: u32 = 0;
+pub(super) const ALICE: u32 = 0;
 
-const BOB: u32 = 1;
+pub(super) const BOB: u32 = 1;
 
 // How often bob is credited and settled with, in three entries, which take more than a page of the
 // journal.
@@ -22,7 +22,7 @@ const ROUNDS: u8 = 90;
 
 // How many entries there are before those that matter: the one after eight of these is the first of
 // a page.
-const FILLED: u32 = 3_064;
+pub(super) const FILLED: u32 = 3_064;
 
 // 2,000 units of the peers' asset.
 const QUANTITY: Quantity = Quantity {
@@ -39,7 +39,7 @@ fn key(rt: &(impl Abort + AllocGlobal), round: u8) -> Key {
 }
 
 // A credit of a peer; where it is denied memory it changes nothing, and succeeds when asked again.
-fn credit<A: Allocator + Clone>(
+pub(super) fn credit<A: Allocator + Clone>(
     rt: &(impl Abort + AllocGlobal),
     book: &mut Book<A>,
     peer: u32,
@@ -63,7 +63,7 @@ fn credit<A: Allocator + Clone>(
 }
 
 // The same key and quantity once more.
-fn credit_again<A: Allocator + Clone>(
+pub(super) fn credit_again<A: Allocator + Clone>(
     rt: &(impl Abort + AllocGlobal),
     book: &mut Book<A>,
     round: u8,
@@ -80,7 +80,12 @@ fn credit_again<A: Allocator + Clone>(
 }
 
 // An ask to a peer; where it is denied memory it changes nothing, and succeeds when asked again.
-fn ask<A: Allocator + Clone>(rt: &impl Abort, book: &mut Book<A>, peer: u32, amount: u64) {
+pub(super) fn ask<A: Allocator + Clone>(
+    rt: &impl Abort,
+    book: &mut Book<A>,
+    peer: u32,
+    amount: u64,
+) {
     let number = book.len();
     let owed = book.balance(peer);
     assert!(rt; peer < book.config().peers());
@@ -259,7 +264,7 @@ fn end_by<A: Allocator>(rt: &impl Abort, book: &mut Book<A>, ending: Ending) {
 }
 
 // Books holds, each of which is released.
-fn fill<A: Allocator + Clone>(rt: &impl Abort, book: &mut Book<A>) {
+pub(super) fn fill<A: Allocator + Clone>(rt: &impl Abort, book: &mut Book<A>) {
     for _ in 0..FILLED / 2 {
         let number = book.len();
         hold(rt, book);

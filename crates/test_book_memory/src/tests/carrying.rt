@@ -1,0 +1,156 @@
+//! Books that are saved and carried over.
+
+use super::books::{CONDITION, DEADLINE, START, hold};
+use super::settlements::{ALICE, BOB, FILLED, ask, credit, credit_again, fill};
+use super::{FIRST_OF_A_BOOK, GROWTHS, lending};
+use ilp_accounts::Config;
+use ilp_book::{AskFault, Book, CarryFault};
+use ilp_io::{Narrow, Recording, WhenFull, WriteFault};
+use ilp_journal::{Cause, What};
+use ilp_packet::Prepare;
+use std::alloc::{AllocError, Allocator};
+use std::process::Abort;
+use std::test::Fail;
+use test_allocator::DenyingAllocator;
+
+// When books are carried over: one millisecond before the deadline of a hold, and at that of another.
+const CARRIED: i64 = DEADLINE - 1;
+
+// It expires a second after the moment at which books are carried over.
+const SHORT: Prepare<'static> = Prepare {
+    amount: 100,
+    expires: CARRIED + 1_000,
+    condition: &CONDITION,
+    destination: b"test.bob",
+    payload: b"",
+};
+
+// What is saved of a book in which just what is open, and the credit, was booked.
+const TEXT: &str = "\
+ilp-journal 1
+1735689600000 0 credited bob 6b00 2000 2 2000
+1735689600000 0 asked bob 1800
+1735689600000 0 hold alice bob 100 0 100 1735689628999 66687aadf862bd776c8fc18b8e9f8e20089714856ee233b3902a591d0d5f2925
+1735689600000 0 hold alice bob 100 0 100 1735689629000 66687aadf862bd776c8fc18b8e9f8e20089714856ee233b3902a591d0d5f2925
+end 4
+";
+
+// A credit of bob, a settlement to bob that stays open, and two holds that do.
+fn book_open<A: Allocator + Clone>(rt: &(impl Abort + AllocGlobal), book: &mut Book<A>) {
+    credit(rt, book, BOB, 0);
+    ask(rt, book, BOB, 1_800);
+    assert!(rt; book.config().peers() == 2);
+    assert!(rt; book.hold(0, ALICE, &SHORT, START).is_ok());
+    hold(rt, book);
+}
+
+#[test]
+fn each_growth_denied(rt: HostRuntime) -> Result<(), Fail> {
+    let config = lending(rt.alloc())?;
+    let text = saved_text(&rt, &config)?;
+    carry_over_each(&rt, &config, &text);
+    Ok(())
+}
+
+// The text of a book with a long journal, at the end of which something is open.
+fn saved_text(rt: &(impl Abort + AllocGlobal), config: &Config) -> Result<Vec<u8>, AllocError> {
+    let mut book = Book::new(rt.alloc(), config)?;
+    fill(rt, &mut book);
+    book_open(rt, &mut book);
+    let mut sink = Recording::new(rt.alloc());
+    assert_eq!(rt; book.save(book.config(), &mut sink), Ok(()));
+    Ok(sink.octets)
+}
+
+fn carry_over_each(rt: &(impl Abort + AllocGlobal), config: &Config, text: &[u8]) {
+    for granted in 0..GROWTHS {
+        let heap = DenyingAllocator::after(rt.alloc(), granted);
+        carry_over(rt, config, text, &heap, &heap);
+        if !heap.has_denied() {
+            assert!(rt;
+                granted > FIRST_OF_A_BOOK + 13 + 2,
+                "pages, the table of holds, and a key"
+            );
+            return;
+        }
+    }
+    assert!(rt; false, "some growth was always denied");
+}
+
+// The heap is that of the book, by which denials are seen.
+fn carry_over<A: Allocator + Clone, B: Allocator>(
+    rt: &(impl Abort + AllocGlobal),
+    config: &Config,
+    text: &[u8],
+    heap: A,
+    denying: &DenyingAllocator<B>,
+) {
+    match Book::carry_over(heap, config, text, CARRIED) {
+        Ok(mut book) => {
+            assert!(rt; !denying.has_denied());
+            look_at(rt, &mut book);
+        }
+        Err(fault) => {
+            assert!(rt; denying.has_denied());
+            assert_eq!(rt; fault, CarryFault::Memory);
+        }
+    }
+}
+
+// The holds are ended, and all else is as it was.
+fn look_at<A: Allocator + Clone>(rt: &(impl Abort + AllocGlobal), book: &mut Book<A>) {
+    assert_eq!(rt; (book.len(), book.base()), (FILLED + 6, FILLED + 6));
+    assert_eq!(rt; (book.balance(ALICE), book.balance(BOB)), (0, 200));
+    assert!(rt; is_ended(book, FILLED + 4, FILLED + 2, Cause::Late));
+    assert!(rt; is_ended(book, FILLED + 5, FILLED + 3, Cause::Restart));
+    credit_again(rt, book, 0, FILLED);
+    assert!(rt; BOB < book.config().peers());
+    let open = AskFault::StillOpen {
+        number: FILLED + 1,
+        amount: 1_800,
+    };
+    assert_eq!(rt; book.ask(0, BOB, CARRIED), Err(open));
+}
+
+// Whether an entry releases a hold for this cause, at the moment at which the book was carried over.
+fn is_ended<A: Allocator>(book: &Book<A>, number: u32, ended: u32, why: Cause) -> bool {
+    let Some(entry) = book.entry(number) else {
+        return false;
+    };
+    match &entry.what {
+        What::Released { hold, cause } => {
+            entry.moment == CARRIED && entry.actor == 0 && *hold == ended && *cause == why
+        }
+        _ => false,
+    }
+}
+
+#[test]
+fn a_writer_that_stops_at_each_octet(rt: HostRuntime) -> Result<(), Fail> {
+    let config = lending(rt.alloc())?;
+    let mut book = Book::new(rt.alloc(), &config)?;
+    book_open(&rt, &mut book);
+    for room in 0..TEXT.len() {
+        save_into(&rt, &book, room, WhenFull::TakesNone, Err(WriteFault));
+        save_into(&rt, &book, room, WhenFull::Fails, Err(WriteFault));
+    }
+    save_into(&rt, &book, TEXT.len(), WhenFull::Fails, Ok(()));
+    Ok(())
+}
+
+fn save_into(
+    rt: &(impl Abort + AllocGlobal),
+    book: &Book,
+    room: usize,
+    when_full: WhenFull,
+    wanted: Result<(), WriteFault>,
+) {
+    let mut sink = Narrow::new(rt.alloc(), 7, room, when_full);
+    let outcome = book.save(book.config(), &mut sink);
+    assert_eq!(rt; outcome, wanted, "with room for {room}");
+    assert_eq!(rt; sink.recording.failures, u64::from(wanted.is_err()));
+    assert_eq!(rt;
+        Some(sink.recording.octets.as_slice()),
+        TEXT.as_bytes().get(..room)
+    );
+}
