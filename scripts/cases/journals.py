@@ -273,7 +273,7 @@ def journal_that_can_be_saved_late(laboratory: Laboratory) -> None:
     program.await_told(r"warn journal .+: can't be saved: .+: make room for it, .+")
     program.limit_files(ENOUGH)
     expect_end(program, alice=-PACKETS, bob=PACKETS, within=2 * END)
-    expect("how often it is told", len(program.told(r"warn journal .+")), 1)
+    expect("how often it is told", len(program.told(r"warn journal .+: can't be saved: .+")), 1)
     saved = kept.said(f"saved with {2 * PACKETS} entries")
     expect("the last line", program.lines()[-1].said, f"info {saved}")
     expect("the files", kept.files(), ["journal", "journal.lock"])
