@@ -33,7 +33,7 @@ KEPT_OPEN = "kept open, since its engine said neither yes nor no"
 REACHED_AGAIN = r"reached again, after (1 failure|\d+ failures)"
 
 # A path, as it is quoted in a line.
-PATH = r'"[^"]+"'
+PATH = r'"[^"]*"'
 
 # What is told at the start where no journal is kept.
 NO_JOURNAL = ("warn no journal is kept: balances and keys are forgotten at the end, so each start needs a "
