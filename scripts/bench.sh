@@ -11,6 +11,7 @@
 #     scripts/bench.sh http
 #     scripts/bench.sh journal
 #     scripts/bench.sh book
+#     scripts/bench.sh carried
 #     scripts/bench.sh desk
 #     scripts/bench.sh answer
 #     scripts/bench.sh report
@@ -20,8 +21,10 @@
 # CONNECTOR names), under load beside nginx and plain Rust. It needs wrk and nginx too, and
 # bench/serve/serve.py says what it prints and takes.
 #
-# With LARGE=1 in the environment `book` has its rows behind 16,000,000 entries alone, which take 4 GB,
-# and counts no instructions.
+# A turn of `carried` is an entry that is saved or carried over.
+#
+# With LARGE=1 in the environment `book` and `carried` have their rows of 16,000,000 entries alone, which
+# take 4 and 6 GB, and count no instructions.
 #
 # It works on a copy of the repository in a temporary folder (TMPDIR says where). It needs rt, rustc
 # and python3, and valgrind for the instructions. The Rattle program is proved before it is built

@@ -14,11 +14,11 @@ use crate::sha256::sha256;
 use crate::tallies::{Sums, Tallies};
 
 pub struct Book {
-    config: Config,
-    journal: Journal,
-    tallies: Tallies,
-    holds: HoldTable,
-    keys: KeyTable,
+    pub config: Config,
+    pub journal: Journal,
+    pub tallies: Tallies,
+    pub holds: HoldTable,
+    pub keys: KeyTable,
 }
 
 // ---- what calls are told, and what they answer
@@ -112,12 +112,12 @@ impl Book {
     }
 
     // Of the years 1970 to 9999, and never before the last entry's.
-    fn moment_at(&self, now: i64) -> i64 {
+    pub fn moment_at(&self, now: i64) -> i64 {
         let last = self.journal.last().map_or(0, |entry| entry.moment);
         now.min(253_402_300_799_999).max(0).max(last)
     }
 
-    fn has_room(&self, more: u32) -> bool {
+    pub fn has_room(&self, more: u32) -> bool {
         u64::from(self.len()) + u64::from(self.tallies.open_count()) + u64::from(more)
             <= u64::from(self.config.journal)
     }
@@ -259,7 +259,7 @@ impl Book {
         Some(number)
     }
 
-    fn open_hold(&self, number: u32) -> Option<Hold> {
+    pub fn open_hold(&self, number: u32) -> Option<Hold> {
         let hold = self.journal.hold(number)?;
         if self.journal.answer_of(number).is_some() { None } else { Some(*hold) }
     }
@@ -359,7 +359,7 @@ impl Book {
 }
 
 // What is asked for, where the balance is at the peer's threshold or above it.
-fn due_amount(balance: i128, levels: Option<Levels>) -> Option<u64> {
+pub fn due_amount(balance: i128, levels: Option<Levels>) -> Option<u64> {
     let levels = levels?;
     if balance < i128::from(levels.threshold) {
         return None;

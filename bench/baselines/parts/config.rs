@@ -6,6 +6,7 @@
 use std::collections::HashMap;
 
 pub struct Peer {
+    pub name: String,
     pub asset: u32,
     pub least: i64,
     pub fee_ppm: u32,
@@ -21,6 +22,8 @@ pub struct Levels {
 
 pub struct Config {
     pub peers: Vec<Peer>,
+    // The places of the peers by their names.
+    pub names: HashMap<Vec<u8>, u32>,
     // The scale of each asset.
     pub scales: Vec<u8>,
     pub routes: HashMap<Vec<u8>, u32>,
@@ -32,17 +35,19 @@ pub struct Config {
 
 // Two peers in one asset, each of which may owe all that there is; the rest as by default.
 pub fn lending() -> Config {
-    let peer = || Peer {
+    let peer = |name: &str| Peer {
+        name: name.to_string(),
         asset: 0,
         least: i64::MIN,
         fee_ppm: 0,
-        max_packet: i64::MAX as u64,
+        max_packet: u64::MAX,
         levels: None,
     };
     let routes: HashMap<Vec<u8>, u32> =
         [(b"test.alice".to_vec(), 0), (b"test.bob".to_vec(), 1)].into();
     Config {
-        peers: vec![peer(), peer()],
+        peers: vec![peer("alice"), peer("bob")],
+        names: [(b"alice".to_vec(), 0), (b"bob".to_vec(), 1)].into(),
         scales: vec![2],
         longest: routes.keys().map(Vec::len).max().unwrap_or(0),
         routes,
@@ -55,6 +60,10 @@ pub fn lending() -> Config {
 impl Config {
     pub fn peer(&self, peer: u32) -> &Peer {
         &self.peers[peer as usize]
+    }
+
+    pub fn peer_by_name(&self, name: &[u8]) -> Option<u32> {
+        self.names.get(name).copied()
     }
 
     pub fn scale(&self, peer: u32) -> u8 {

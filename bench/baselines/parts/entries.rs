@@ -50,6 +50,7 @@ pub enum Cause {
     WrongPreimage,
     NoReply,
     Peer([u8; 3]),
+    Restart,
 }
 
 // The number of the hold that an entry answers, or of the settlement that it closes.

@@ -1,5 +1,8 @@
 //! The open holds by their deadlines.
 
+// Not each program uses all.
+#![allow(dead_code)]
+
 use std::collections::BTreeSet;
 
 #[derive(Default)]
@@ -14,6 +17,13 @@ impl HoldTable {
 
     pub fn take(&mut self, number: u32, deadline: i64) {
         self.holds.remove(&(deadline, number));
+    }
+
+    // Their numbers, from the least on.
+    pub fn numbers(&self) -> Vec<u32> {
+        let mut numbers: Vec<u32> = self.holds.iter().map(|(_, number)| *number).collect();
+        numbers.sort_unstable();
+        numbers
     }
 
     // The number of the one of least deadline, and of several the first.

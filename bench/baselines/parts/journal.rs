@@ -56,6 +56,10 @@ impl Journal {
         self.pages.get(number as usize / ROOM)?.get(number as usize % ROOM)
     }
 
+    pub fn get(&self, number: u32) -> Option<&Entry> {
+        Some(&self.slot(number)?.entry)
+    }
+
     pub fn last(&self) -> Option<&Entry> {
         Some(&self.slot(self.len.checked_sub(1)?)?.entry)
     }

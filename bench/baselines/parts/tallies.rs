@@ -53,6 +53,15 @@ impl Tallies {
         Tallies { base, assets, peers, sums, open_count: 0, fulfilled: 0 }
     }
 
+    pub fn base(&self) -> u32 {
+        self.base
+    }
+
+    // All entries lie below both bases.
+    pub fn set_base(&mut self, base: u32) {
+        self.base = base;
+    }
+
     pub fn balance(&self, peer: u32) -> i128 {
         self.peers.get(peer as usize).map_or(0, |row| row.balance)
     }
