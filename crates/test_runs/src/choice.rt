@@ -4,21 +4,44 @@ use crate::calls::{Call, Made, Payment, Sent};
 use crate::chance::Chance;
 use crate::configured::PEERS;
 use crate::locks::{condition, preimage};
-use crate::walks::{Ends, ask_at, first_open_ask, open_hold_at};
+use crate::walks::{Ends, ask_at, ended_by, first_open_ask, open_hold_at};
 use ilp_book::{Book, PeerReply};
 use ilp_settlement::Quantity;
 
 // How many keys each peer has.
 const KEYS: u32 = 30;
 
-/// The next call. Most moments rise by a few milliseconds, some by seconds, and some fall.
-pub(crate) fn next_call(chance: &mut Chance, book: &Book, ends: &Ends, clock: &mut i64) -> Made {
-    *clock = clock.wrapping_add(pass(chance));
-    let now = *clock;
-    Made {
-        call: choose(chance, book, ends, now),
-        actor: chance.below(6),
-        now: told(chance, now),
+/// Who calls: by chance, at what a clock tells.
+#[derive(Drop)]
+pub(crate) struct Caller {
+    chance: Chance,
+    clock: i64,
+}
+
+impl Caller {
+    /// The caller of this seed, with a clock that begins at this time.
+    pub(crate) fn new(seed: u64, clock: i64) -> Caller {
+        Caller {
+            chance: Chance::new(seed),
+            clock,
+        }
+    }
+
+    /// The next call. Most moments rise by a few milliseconds, some by seconds, and some fall.
+    pub(crate) fn next_call(&mut self, book: &Book, ends: &Ends) -> Made {
+        let passed = pass(&mut self.chance);
+        let now = self.wait(passed);
+        Made {
+            call: choose(&mut self.chance, book, ends, now),
+            actor: self.chance.below(6),
+            now: told(&mut self.chance, now),
+        }
+    }
+
+    /// What the clock tells so many milliseconds later; it may be set back.
+    pub(crate) fn wait(&mut self, milliseconds: i64) -> i64 {
+        self.clock = self.clock.wrapping_add(milliseconds);
+        self.clock
     }
 }
 
@@ -103,11 +126,11 @@ fn number(chance: &mut Chance, book: &Book) -> u32 {
     len.saturating_sub(back)
 }
 
-// An open hold that stands a little before some entry; where there is none, that entry.
+// An open hold that stands a little before some entry, or what that entry ended; else that entry.
 fn hold_number(chance: &mut Chance, book: &Book, ends: &Ends) -> u32 {
     let number = number(chance, book);
     if chance.is_one_in(3) {
-        return number;
+        return ended_by(book, number).unwrap_or(number);
     }
     for back in 0..30 {
         let before = number.saturating_sub(back);

@@ -1,11 +1,11 @@
-//! Which kinds of replies came up.
+//! Which kinds of replies came up, and of ends of holds at a start.
 
 use crate::calls::Reply;
 use ilp_assets::QuoteFault;
 use ilp_book::{AskFault, CreditFault, HoldFault, NotOpen, Outcome};
 use ilp_journal::Cause;
 
-/// A kind of a reply.
+/// A kind of a reply, or of what ends a hold as a book is carried over.
 #[derive(Clone, Copy)]
 enum Kind {
     Held,
@@ -40,6 +40,8 @@ enum Kind {
     Closed,
     ClosedBefore,
     NoAsk,
+    LateAtStart,
+    EndedByStart,
     /// None that is to come up.
     Other,
 }
@@ -62,7 +64,16 @@ impl Kinds {
 
     /// Notes the kind of a reply.
     pub(crate) fn note(&mut self, reply: &Reply) {
-        if let Some(came) = self.came.get_mut(kind_of(reply) as usize) {
+        self.note_kind(kind_of(reply));
+    }
+
+    /// Notes why a hold ended as a book was carried over.
+    pub(crate) fn note_end(&mut self, cause: Cause) {
+        self.note_kind(kind_of_end(cause));
+    }
+
+    fn note_kind(&mut self, kind: Kind) {
+        if let Some(came) = self.came.get_mut(kind as usize) {
             *came = true;
         }
     }
@@ -138,5 +149,14 @@ fn kind_of_ask(fault: &AskFault) -> Kind {
         AskFault::NotDue { .. } => Kind::NotDue,
         AskFault::Full => Kind::AskFull,
         AskFault::Memory => Kind::Other,
+    }
+}
+
+// No hold ends for another cause then.
+fn kind_of_end(cause: Cause) -> Kind {
+    match cause {
+        Cause::Late => Kind::LateAtStart,
+        Cause::Restart => Kind::EndedByStart,
+        Cause::WrongPreimage | Cause::NoReply | Cause::Peer(_) => Kind::Other,
     }
 }

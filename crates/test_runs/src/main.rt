@@ -1,10 +1,12 @@
 //! Random runs of the calls of a book. Before each call a plain walk over the entries says what its
 //! reply is to be, and after it each reader is compared with a walk. The walks are written from the
-//! rules, and not from the code. What is printed is fixed where both agree, and a difference is
-//! printed in place of the line of its run.
+//! rules, and not from the code. After its calls the book of a run is carried over, and more calls come
+//! over the book that begins then. What is printed is fixed where both agree, and a difference is printed
+//! in place of the line of its run.
 #![tactic(auto)]
 
 mod calls;
+mod carried;
 mod chance;
 mod choice;
 mod configured;
@@ -29,7 +31,7 @@ fn main(rt: HostRuntime) -> io::Result<()> {
         play(&rt, &run, &mut kinds)?;
     }
     if kinds.have_all() {
-        return println!(rt; "each kind of reply came up");
+        return println!(rt; "each kind of reply came up, and each end of a hold at a start");
     }
     Ok(())
 }

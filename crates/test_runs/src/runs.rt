@@ -1,8 +1,9 @@
-//! Runs: a new book, and calls that are compared step by step.
+//! Runs: a new book, and calls that are compared step by step; then the same over the book as which it
+//! is carried over.
 
 use crate::calls::{Call, Made};
-use crate::chance::Chance;
-use crate::choice::next_call;
+use crate::carried::Texts;
+use crate::choice::Caller;
 use crate::configured;
 use crate::entries::is_booked;
 use crate::expected::expected;
@@ -10,13 +11,18 @@ use crate::kinds::Kinds;
 use crate::made::make;
 use crate::moments::moment_of;
 use crate::readers::readers_agree;
-use crate::walks::Ends;
+use crate::walks::{Ends, what_at};
 use ilp_accounts::Config;
 use ilp_book::Book;
+use ilp_journal::What;
+use std::alloc::{AllocError, Global};
 use std::io;
 
 // 2025-01-01T00:00:00Z.
 const START: i64 = 1_735_689_600_000;
+
+// How many calls are made over a book that was carried over.
+const STEPS_CARRIED: u32 = 100;
 
 /// So many calls over a new book, and more that are compared.
 #[derive(Clone, Copy)]
@@ -28,9 +34,13 @@ pub(crate) struct Run {
     before: u32,
     steps: u32,
     journal: u32,
+    // How long after the last call the book is carried over, if it is; milliseconds.
+    pause: Option<i64>,
 }
 
-/// The runs. The fourth fills its journal, and the last begins with a long one.
+/// The runs. The second has a hold that fits only since totals count from where its book was carried over.
+/// The fourth fills its journal, the clock of the sixth is set back before its book is carried over, and
+/// the last begins with a long journal.
 pub(crate) const RUNS: [Run; 7] = [
     Run {
         name: 1,
@@ -38,13 +48,15 @@ pub(crate) const RUNS: [Run; 7] = [
         before: 0,
         steps: 500,
         journal: 4096,
+        pause: Some(0),
     },
     Run {
         name: 2,
-        seed: 2,
+        seed: 4,
         before: 0,
         steps: 500,
         journal: 4096,
+        pause: Some(2_000),
     },
     Run {
         name: 3,
@@ -52,13 +64,15 @@ pub(crate) const RUNS: [Run; 7] = [
         before: 0,
         steps: 500,
         journal: 4096,
+        pause: Some(8_000),
     },
     Run {
         name: 4,
-        seed: 4,
+        seed: 2,
         before: 0,
         steps: 500,
         journal: 200,
+        pause: Some(16_000),
     },
     Run {
         name: 5,
@@ -66,6 +80,7 @@ pub(crate) const RUNS: [Run; 7] = [
         before: 0,
         steps: 500,
         journal: 4096,
+        pause: Some(60_000),
     },
     Run {
         name: 6,
@@ -73,6 +88,7 @@ pub(crate) const RUNS: [Run; 7] = [
         before: 0,
         steps: 500,
         journal: 4096,
+        pause: Some(-20_000),
     },
     Run {
         name: 7,
@@ -80,6 +96,7 @@ pub(crate) const RUNS: [Run; 7] = [
         before: 40_000,
         steps: 200,
         journal: 65_536,
+        pause: None,
     },
 ];
 
@@ -99,30 +116,102 @@ fn play_over<R: Print + AllocGlobal>(
     kinds: &mut Kinds,
 ) -> io::Result<()> {
     let mut book = Book::new(rt.alloc(), config)?;
-    if steps_agree(rt, run, &mut book, kinds)? {
-        println!(rt; "run {}: {} steps agree with walks", run.name, run.steps)?;
+    let mut caller = Caller::new(run.seed, START);
+    play_with(rt, run, &mut book, &mut caller, kinds)
+}
+
+fn play_with<R: Print + AllocGlobal>(
+    rt: &R,
+    run: &Run,
+    book: &mut Book,
+    caller: &mut Caller,
+    kinds: &mut Kinds,
+) -> io::Result<()> {
+    make_first(rt.alloc(), run, book, caller)?;
+    if !steps_agree(rt, run, run.steps, book, caller, kinds)? {
+        return Ok(());
+    }
+    println!(rt; "run {}: {} steps agree with walks", run.name, run.steps)?;
+    match run.pause {
+        Some(pause) => go_on(rt, run, book, caller.wait(pause), caller, kinds),
+        None => Ok(()),
+    }
+}
+
+// Makes the calls whose replies nobody looks at.
+fn make_first(
+    alloc: Global,
+    run: &Run,
+    book: &mut Book,
+    caller: &mut Caller,
+) -> Result<(), AllocError> {
+    let mut ends = Ends::of(alloc, book)?;
+    for _ in 0..run.before {
+        let made = caller.next_call(book, &ends);
+        if !matches!(made.call, Call::Credit(_)) {
+            let _ = make(alloc, book, &made)?;
+            ends.walk_on(book)?;
+        }
     }
     Ok(())
 }
 
-fn steps_agree<R: Print + AllocGlobal>(
+// Goes on over the book as which one is carried over at this time.
+fn go_on<R: Print + AllocGlobal>(
+    rt: &R,
+    run: &Run,
+    book: &Book,
+    now: i64,
+    caller: &mut Caller,
+    kinds: &mut Kinds,
+) -> io::Result<()> {
+    let texts = Texts::of(rt.alloc(), book, moment_of(book, now))?;
+    match texts.carry_over(rt, book.config(), now)? {
+        Some(mut carried) => {
+            note_ends(kinds, &carried, book.len());
+            go_on_over(rt, run, &mut carried, caller, kinds)
+        }
+        None => println!(rt; "run {} is not carried over", run.name),
+    }
+}
+
+// Notes why holds ended, from an entry on.
+fn note_ends(kinds: &mut Kinds, book: &Book, first: u32) {
+    for number in first..book.len() {
+        if let Some(What::Released { cause, .. }) = what_at(book, number) {
+            kinds.note_end(*cause);
+        }
+    }
+}
+
+fn go_on_over<R: Print + AllocGlobal>(
     rt: &R,
     run: &Run,
     book: &mut Book,
+    caller: &mut Caller,
+    kinds: &mut Kinds,
+) -> io::Result<()> {
+    if !steps_agree(rt, run, STEPS_CARRIED, book, caller, kinds)? {
+        return Ok(());
+    }
+    println!(rt;
+        "run {}: carried over, and {STEPS_CARRIED} steps agree with walks",
+        run.name
+    )
+}
+
+// Makes calls, as long as each agrees with the walks; the first that does not is printed.
+fn steps_agree<R: Print + AllocGlobal>(
+    rt: &R,
+    run: &Run,
+    steps: u32,
+    book: &mut Book,
+    caller: &mut Caller,
     kinds: &mut Kinds,
 ) -> io::Result<bool> {
-    let mut chance = Chance::new(run.seed);
-    let mut clock = START;
-    let mut ends = Ends::new(rt.alloc());
-    for _ in 0..run.before {
-        let made = next_call(&mut chance, book, &ends, &mut clock);
-        if !matches!(made.call, Call::Credit(_)) {
-            let _ = make(rt.alloc(), book, &made)?;
-            ends.walk_on(book)?;
-        }
-    }
-    for step in 0..run.steps {
-        let made = next_call(&mut chance, book, &ends, &mut clock);
+    let mut ends = Ends::of(rt.alloc(), book)?;
+    for step in 0..steps {
+        let made = caller.next_call(book, &ends);
         let agrees = call_agrees(rt, book, &ends, &made, kinds)?;
         ends.walk_on(book)?;
         if !agrees || !readers_agree(rt, book, &ends)? {

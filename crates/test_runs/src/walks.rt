@@ -7,7 +7,7 @@ mod peers;
 mod settlements;
 
 pub(crate) use assets::{sums, total_in, total_out};
-pub(crate) use ends::Ends;
+pub(crate) use ends::{Ends, ended_by};
 pub(crate) use holds::{answer_of, earliest, fulfilled, hold_at, open_hold_at, open_holds};
 use ilp_book::Book;
 use ilp_journal::What;

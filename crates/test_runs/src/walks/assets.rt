@@ -69,10 +69,10 @@ fn add_fulfilled(sums: &mut Sums, book: &Book, asset: u32, number: u32) {
     }
 }
 
-/// The amounts of the open and the fulfilled holds whose senders pay in the asset.
+/// The amounts of the open and the fulfilled holds since the base whose senders pay in the asset.
 pub(crate) fn total_in(book: &Book, ends: &Ends, asset: u32) -> u128 {
     let mut total = 0u128;
-    for number in 0..book.len() {
+    for number in book.base()..book.len() {
         if let Some(hold) = unreleased(book, ends, number) {
             if asset_of(hold.from) == asset {
                 total = total.wrapping_add(u128::from(hold.amount));
@@ -82,10 +82,11 @@ pub(crate) fn total_in(book: &Book, ends: &Ends, asset: u32) -> u128 {
     total
 }
 
-/// The amounts out of the open and the fulfilled holds whose receivers are paid in the asset.
+/// The amounts out of the open and the fulfilled holds since the base whose receivers are paid in the
+/// asset.
 pub(crate) fn total_out(book: &Book, ends: &Ends, asset: u32) -> u128 {
     let mut total = 0u128;
-    for number in 0..book.len() {
+    for number in book.base()..book.len() {
         if let Some(hold) = unreleased(book, ends, number) {
             if asset_of(hold.to) == asset {
                 total = total.wrapping_add(u128::from(hold.out));

@@ -12,11 +12,13 @@ pub(crate) struct Ends {
 }
 
 impl Ends {
-    /// A walk that has not begun.
-    pub(crate) fn new(alloc: Global) -> Ends {
-        Ends {
+    /// A walk to the last entry of the book. `AllocError` tells that memory is short.
+    pub(crate) fn of(alloc: Global, book: &Book) -> Result<Ends, AllocError> {
+        let mut ends = Ends {
             closers: Vec::new(alloc),
-        }
+        };
+        ends.walk_on(book)?;
+        Ok(ends)
     }
 
     /// Goes on to the last entry of the book. `AllocError` tells that memory is short.
@@ -48,8 +50,8 @@ impl Ends {
     }
 }
 
-// The hold that an entry fulfills or releases, or the settlement that it confirms or undoes.
-fn ended_by(book: &Book, number: u32) -> Option<u32> {
+/// The hold that an entry fulfills or releases, or the settlement that it confirms or undoes.
+pub(crate) fn ended_by(book: &Book, number: u32) -> Option<u32> {
     match what_at(book, number) {
         Some(What::Fulfilled { hold, .. }) => Some(*hold),
         Some(What::Released { hold, .. }) => Some(*hold),
