@@ -1,6 +1,7 @@
-use Rattle.std.proofs.Common.{◌≡◌, Some, sym, ap, ◌∙◌, subst, rules, arith}
+use Rattle.std.proofs.Common.{◌≡◌, ◌<◌, Some, sym, ap, ◌∙◌, subst, rules, arith}
 use Rattle.std.specs.Prelude.{FitsSigned, ◌≢◌}
 use Rattle.std.specs.Int.{w128}
+use Rattle.std.proofs.lemmas.Bool.{ltb-true}
 use Rattle.std.proofs.lemmas.Int.{to_z-of_z}
 use Rattle.ilp_accounts.specs.Configuration.{peer_at}
 use Rattle.ilp_journal.specs.Journal.{open_asks}
@@ -9,7 +10,7 @@ use Rattle.ilp_order.proofs.RefusalLemmas.{some_same}
 use Rattle.ilp_book.specs.Book.{PlainBook}
 use Rattle.ilp_book.specs.Configured.{IsKnown, peer_assets}
 use Rattle.ilp_book.specs.Judging.{behind_all}
-use Rattle.ilp_book.specs.Lawful.{IsDueAsk}
+use Rattle.ilp_book.specs.Lawful.{IsDueAsk, most_open_asks}
 use Rattle.ilp_book.specs.SettleStep.{due_amount}
 use Rattle.ilp_book.proofs.Judging.{is_due, not_due}
 use Rattle.ilp_book.proofs.carrying.Carrying.judge_asked.Goals as goal
@@ -49,6 +50,7 @@ returns-clause-ok g c =
     let told : due_amount (balance j peer) (peer_at C peer).levels ≡ c.due_amount.result =
     sym (c.due_amount.ensures ∙ (ap (λ z. due_amount z c.levels.result) owed ∙ ap (due_amount (balance j peer)) c.levels.ensures)) in
     let known : IsKnown C peer = omega (arith, c.if-peers-ask.false, c.peers.ensures.count) in
-    let none : open_asks j peer ≡ 0 = omega (arith, c.open_asks.ensures (peer_assets C) behind_all j c.self.invariant.tabled.tallied, c.if-open_asks-gt0.false) in
+    let few : open_asks j peer < most_open_asks =
+    ltb-true _ _ (sym (c.are_few_open.ensures (peer_assets C) behind_all j c.self.invariant.tabled.tallied) ∙ c.if-are_few_open.true) in
     subst (λ (b : PlainBook). IsDueAsk b.config b.entries c.args.ask.now) c.self.view_is
-    (is_due C j c.args.ask.now c.self.invariant.valid known none (told ∙ (c.in-Some.is ∙ ap Some c.if-amount-ask.false)))
+    (is_due C j c.args.ask.now c.self.invariant.valid known few (told ∙ (c.in-Some.is ∙ ap Some c.if-amount-ask.false)))
