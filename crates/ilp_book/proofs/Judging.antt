@@ -1,12 +1,12 @@
 -- What may come next in a journal whose base lies behind all of it, and what may not.
 use Rattle.std.proofs.Common.{◌≡◌, ℕ, ◌+◌, ◌<◌, ◌≤◌, ℤ, pos, ◌+ℤ◌, ◌-ℤ◌, Bool, true, false, cond, [], ◌∷◌, ◌++◌, length, Option, Some, None, refl, sym, ap, ◌∙◌, arith, length-append}
-use Rattle.std.specs.Prelude.{◌≢◌, ◌≤ℤ◌, ◌<ℤ◌, int_le, int_lt, nat_le, nat_abs, IsSomeAnd}
+use Rattle.std.specs.Prelude.{◌≢◌, ◌≤ℤ◌, ◌<ℤ◌, int_le, int_lt, nat_le, nat_abs, IfSome, IsSomeAnd}
 use Rattle.std.proofs.lemmas.Bool.{leb-true, le-leb, eq-eqb}
 use Rattle.std.proofs.lemmas.Int.{ints}
 use Rattle.ilp_assets.specs.Quote.{most}
 use Rattle.ilp_accounts.specs.declared.peer.Levels.{Levels}
-use Rattle.ilp_accounts.specs.Configuration.{Configuration, peer_at}
-use Rattle.ilp_accounts.specs.Valid.{IsValid}
+use Rattle.ilp_accounts.specs.Configuration.{Configuration, PlainPeer, peer_at}
+use Rattle.ilp_accounts.specs.Valid.{IsValid, AreOrdered}
 use Rattle.ilp_journal.specs.declared.entry.Entry.{Entry}
 use Rattle.ilp_journal.specs.declared.entry.What.{What}
 use Rattle.ilp_journal.specs.declared.entry.What.TheVariants as what
@@ -137,6 +137,11 @@ is_due C j a valid known few due = record {
   few_open = few;
   due = due_from (peer_at C a.peer).levels (peer_at C a.peer) (balance j a.peer) a.amount (peer_valid C a.peer valid known).levels due;
 }
+
+-- the levels of a valid peer stand in order
+pub levels_ordered : (o : Option Levels) (peer : PlainPeer) → IfSome o (AreOrdered peer) → IfSome o (λ (v : Levels). v.settle_to <ℤ v.threshold)
+levels_ordered None peer h = h
+levels_ordered (Some v) peer h = h.settle_to
 
 -- ---- numbers that are compared
 

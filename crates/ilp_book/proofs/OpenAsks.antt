@@ -1,12 +1,12 @@
 -- Which settlements to a peer are open: their count, and the first of them.
-use Rattle.std.proofs.Common.{◌≡◌, ℕ, suc, ◌+◌, ◌≤◌, ◌<◌, Bool, true, false, cond, ◌&&◌, List, [], ◌∷◌, Option, Some, None, refl, ap, ◌∙◌, subst, arith}
+use Rattle.std.proofs.Common.{◌≡◌, ℕ, suc, ◌+◌, ◌<◌, Bool, true, false, cond, ◌&&◌, List, [], ◌∷◌, Option, Some, None, refl, ap, ◌∙◌, subst, arith}
 use Rattle.std.specs.Prelude.{nat_lt, ◌==◌, slice_get, unwrap_or, option_map, option_and_then, IsSome}
 use Rattle.std.proofs.lemmas.Bool.{ltb-true}
 use Rattle.ilp_journal.specs.declared.entry.Entry.{Entry}
 use Rattle.ilp_journal.specs.declared.entry.What.{What}
 use Rattle.ilp_journal.specs.declared.entry.Ask.{Ask}
 use Rattle.ilp_journal.specs.Places.{sum_from, first_from}
-use Rattle.ilp_journal.specs.Journal.{Entries, ask_at, as_ask, is_unclosed, open_asks, paid_to, is_ask_of, first_open_number, first_open_ask}
+use Rattle.ilp_journal.specs.Journal.{Entries, ask_at, as_ask, is_unclosed, open_asks, paid_to, is_ask_of, first_open_ask}
 use Rattle.ilp_book.specs.declared.fault.AskFault.{AskFault}
 use Rattle.ilp_book.specs.declared.fault.AskFault.TheVariants as ask_fault
 use Rattle.ilp_book.specs.Lawful.{most_open_asks}

@@ -40,7 +40,7 @@ closes_with_account desk peer a (Some accepted) moments moments' before after to
     of (Ok entry) is e = cc
     of (Err fault) is e = cc
 
--- a turn that goes on is one that has a book asked
+-- a turn that told something else than that there is no account has had a book asked
 told_turn : {E : Type 0} (desk : PlainDesk) (peer : ℕ) (before after : PlainSettler) (told : Turn)
     → told ≢ NoAccount → IsTurn {E = E} desk peer before after (Ok told) → Turns {E = E} desk peer before after (Ok told)
 told_turn desk peer before after NoAccount other turn = absurd (other refl)
@@ -48,7 +48,7 @@ told_turn desk peer before after (Idle fault) other turn = turn
 told_turn desk peer before after (Kept n) other turn = turn
 told_turn desk peer before after (Closed n accepted) other turn = turn
 
--- a turn that was idle is one that has a book asked
+-- nor does one that takes up what is open tell that there is no account
 taken_with_account : (desk : PlainDesk) (peer : ℕ) (before after : PlainSettler) (engine : Option (List ToEngine)) (fault : AskFault) (share : Portion) (moments : Option (List ℤ)) (told : Turn) (found : Option (ℕ × ℕ))
     → TakesUp desk peer before after engine fault share moments told found → told ≢ NoAccount
 taken_with_account desk peer before after engine fault share moments told None t e = let is : told ≡ Idle fault = t.1 in cc

@@ -59,10 +59,7 @@ impl OpenAsks {
     pub(crate) fn next(&self, after: Option<u32>) -> Option<u32>
         ensures { result ≡ find (is_behind after) self.now }
     {
-        let open = &self.numbers[..self.count];
-        open.iter()
-            .find(|number| lies_behind(after, **number))
-            .copied()
+        first_behind(&self.numbers[..self.count], after)
     }
 
     /// Adds the number of a settlement that is asked for.
@@ -87,6 +84,16 @@ impl OpenAsks {
         }
         left
     }
+}
+
+// The first of these numbers that lies behind this one, or of all.
+fn first_behind(numbers: &[u32], after: Option<u32>) -> Option<u32>
+    ensures { result ≡ find (is_behind after) numbers.now }
+{
+    numbers
+        .iter()
+        .find(|number| lies_behind(after, **number))
+        .copied()
 }
 
 // Whether a number lies behind another, where there is one.
