@@ -1,5 +1,5 @@
 -- What a turn of the settler comes to once the engine has the account.
-use Rattle.std.proofs.Common.{◌≡◌, ◌≢◌, ℕ, ℤ, Bool, List, Option, Some, None, refl, ap, ◌∙◌, subst, inr, rules}
+use Rattle.std.proofs.Common.{◌≡◌, ◌≢◌, ℕ, ℤ, Bool, List, Option, Some, None, refl, ap, ◌∙◌, subst}
 use Rattle.std.specs.Prelude.{Result, Ok, Err}
 use Rattle.ilp_book.specs.declared.calls.Asked.{Asked}
 use Rattle.ilp_book.specs.declared.fault.AskFault.{AskFault}
@@ -137,17 +137,3 @@ taken_turn E desk peer before known between after fault told other found asking 
     goes (ask_fault.NotDue balance) other same = (told, same, refl)
     goes ask_fault.Full other same = (told, same, refl)
     goes ask_fault.Memory other same = absurd (other refl)
-
--- a turn by which a book had no memory
-pub denied_turn : {E : Type 0} (desk : PlainDesk) (peer : ℕ) (before known after : PlainSettler) (e : E)
-    → IsFound peer before known → IsAsking desk peer known.moments after.moments known.share after.share (Err ask_fault.Memory)
-    → after.records ≡ known.records → after.engine ≡ known.engine → after.tried ≡ known.tried → after.accounts ≡ known.accounts → Turns {E = E} desk peer before after (Err e)
-denied_turn {E} desk peer before known after e found asking kept engine tried accounts =
-    inr (asked_turn E desk peer before known after after (Err ask_fault.Memory) (Err e) found asking accounts (
-      record {
-        same = ap (λ r. settler after.share r after.moments after.engine after.accounts after.tried) (kept ∙ found.records)
-            ∙ (ap (λ x. settler after.share before.records after.moments x after.accounts after.tried) engine
-            ∙ ap (λ x. settler after.share before.records after.moments known.engine after.accounts x) (tried ∙ found.tried));
-      },
-      search rules,
-    ))

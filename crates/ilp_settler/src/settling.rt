@@ -1,5 +1,6 @@
 //! Of what a settler consists, and how it has a peer's engine settle.
 ghost use Rattle.std.specs.Prelude.{◌≡◌, ◌<◌, ◌≤◌, Ok, true, false, vec_len, vec_capacity, string_bytes, string_capacity};
+ghost use Rattle.ilp_accounts.specs.Limits.{most_peers};
 ghost use Rattle.ilp_book.specs.Configured.{IsKnown};
 ghost use Rattle.ilp_desk.specs.Portion.{holding};
 ghost use Rattle.ilp_workers.specs.declared.links.EngineReply.{EngineReply};
@@ -91,9 +92,7 @@ impl<J: Naming, C: Clock + Drop, E: EngineLink + Drop, A: Allocator> SettlerPart
         requires known { IsKnown J.desk.config peer }
         ensures { IsChoosing J.desk peer (last_tried self.now.tried peer) result }
     {
-        // Called for what its contract tells: there are at most as many peers as places.
-        let _ = desk.config().peers();
-        if let Some(last) = self.tried[peer as usize] {
+        if let Some(last) = self.tried[place_of(desk.config(), peer)] {
             if let Some(open) = desk.open_settlement(rt, peer, Some(last)) {
                 return Some(open);
             }
@@ -114,9 +113,7 @@ impl<J: Naming, C: Clock + Drop, E: EngineLink + Drop, A: Allocator> SettlerPart
         ensures books { (self.new.share ≡ self.old.share) × (self.new.records ≡ self.old.records)
             × (self.new.clock ≡ self.old.clock) × (self.new.tried ≡ self.old.tried) }
     {
-        // Called for what its contract tells: there are at most as many peers as flags.
-        let _ = config.peers();
-        let place = peer as usize;
+        let place = place_of(config, peer);
         if !self.accounts[place] {
             if !self.engine.account(peer) {
                 return false;
@@ -151,7 +148,7 @@ impl<J: Naming, C: Clock + Drop, E: EngineLink + Drop, A: Allocator> SettlerPart
     {
         put_key(&mut self.key, config, asked.number);
         let scale = config.scale(peer);
-        self.tried[peer as usize] = Some(asked.number);
+        self.tried[place_of(config, peer)] = Some(asked.number);
         self.engine
             .settle(peer, self.key.as_str(), asked.amount, scale)
     }
@@ -214,6 +211,17 @@ impl<J: Naming, C: Clock + Drop, E: EngineLink + Drop> SettlerParts<J, C, E, Glo
         let SettlerParts { share, records, .. } = self;
         End::new(share, records)
     }
+}
+
+// Where what is known of a peer stands.
+fn place_of(config: &Config, peer: u32) -> usize
+    requires known { IsKnown config.now peer }
+    ensures place { result ≡ peer }
+    ensures within { result < most_peers }
+{
+    // Called for what its contract tells: there are at most as many peers as places.
+    let _ = config.peers();
+    peer as usize
 }
 
 // Writes the key of the settlement of this number in place of what stands there, into the room that
