@@ -1,0 +1,6 @@
+"""A network of two connectors that is started, used, closed and started again, and whose books are reckoned
+beside it; scripts/demonstrate.py runs it. Packets are made by examples/ilp_packets.py."""
+import sys
+from pathlib import Path
+
+sys.path.append(str(Path(__file__).resolve().parent.parent.parent / "examples"))
