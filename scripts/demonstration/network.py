@@ -84,12 +84,15 @@ class Network:
         self.children[name] = child
         return child
 
-    def start_example(self, name: str, script: str, *words: str) -> Child:
-        """Starts one of the examples at its port, and waits until it listens."""
+    def start_example(self, name: str, script: str, *words: str) -> None:
+        """Starts one of the examples at its port."""
         place = f"{HERE}:{self.ports[name]}"
-        child = self.start(name, [sys.executable, str(EXAMPLES / script), "--listen", place, *words])
-        child.await_printed("listening at .+")
-        return child
+        self.start(name, [sys.executable, str(EXAMPLES / script), "--listen", place, *words])
+
+    def await_examples(self) -> None:
+        """Waits until all of them listen."""
+        for name in ("receiver", "north_engine", "south_engine"):
+            self.children[name].await_printed("listening at .+")
 
     def start_receiver(self, preimages: list[bytes]) -> None:
         """Starts bob, who has these preimages."""

@@ -62,6 +62,7 @@ class Demonstration:
         self.network.start_receiver(preimages_of(self.first + self.second + self.third))
         self.network.start_engines()
         self.start_connectors()
+        self.network.await_examples()
         ports = self.network.ports.values()
         self.say(f"Starts the connectors north (USD, EUR) and south (EUR), the receiver bob, and two engines, at "
                  f"ports {min(ports)} to {max(ports)}.")

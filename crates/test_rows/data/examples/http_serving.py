@@ -47,6 +47,11 @@ class Server(ThreadingHTTPServer):
         super().__init__(place, Handler)
         self.answer = answer
 
+    def handle_error(self, request: object, client_address: object) -> None:
+        """A client that went away is no fault; all else is told."""
+        if not isinstance(sys.exc_info()[1], OSError):
+            super().handle_error(request, client_address)  # type: ignore[arg-type]
+
 
 class Handler(BaseHTTPRequestHandler):
     """A connection, which carries one request."""
