@@ -28,4 +28,4 @@ if ! command -v curl >/dev/null; then
 fi
 
 scripts=$(CDPATH='' cd -- "$(dirname -- "$0")" && pwd)
-PYTHONDONTWRITEBYTECODE=1 exec python3 "$scripts/demonstrate.py" "$@"
+exec python3 "$scripts/demonstrate.py" "$@"

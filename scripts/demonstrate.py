@@ -42,7 +42,7 @@ def port_of(text: str) -> int:
 
 def arguments_of(words: list[str]) -> argparse.Namespace:
     """What was asked for."""
-    parser = Parser(prog="scripts/demo.sh", usage=USAGE.removeprefix("usage: "), description=__doc__.splitlines()[0])
+    parser = Parser(prog="scripts/demo.sh", usage=USAGE.removeprefix("usage: "), description="A network of two connectors.")
     parser.add_argument("--quick", action="store_true", help="build the program without a proof, by rt try")
     parser.add_argument("--ports", type=port_of, default=FIRST_PORT, metavar="FIRST",
                         help=f"the first of {len(PLACES)} ports ({FIRST_PORT})")

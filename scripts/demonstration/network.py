@@ -15,7 +15,7 @@ from pathlib import Path
 from string import Template
 
 from demonstration.amounts import Configuration
-from demonstration.children import Child
+from demonstration.children import WITHIN, Child
 from demonstration.failing import TOP, BadInput, expect
 
 HERE = "127.0.0.1"
@@ -120,7 +120,11 @@ class Network:
     def checked(self, name: str, *journal: str) -> str:
         """What `check` says of a connector's configuration, and of its journal."""
         words = [str(self.program), "check", str(self.path(name, "toml")), *journal]
-        return subprocess.run(words, capture_output=True, text=True, errors="replace").stdout.strip()
+        try:
+            done = subprocess.run(words, capture_output=True, text=True, errors="replace", timeout=WITHIN)
+        except (OSError, subprocess.TimeoutExpired) as fault:
+            return str(fault)
+        return done.stdout.strip()
 
     def expect_connector(self) -> None:
         """Refuses a program that does not say what a connector says of these configurations."""

@@ -1,20 +1,13 @@
-"""The packets that alice sends, what must become of each, and how they are sent."""
+"""The packets that alice sends, and what must become of each."""
 import secrets
-from concurrent.futures import ThreadPoolExecutor
 from dataclasses import dataclass
-from http.client import HTTPConnection
 from itertools import cycle
 from time import time_ns
 
-from demonstration.failing import Differs, expect
-from ilp_packets import BadPacket, Fulfill, Packet, Prepare, Reject, digest, read_packet
-from demonstration.network import HERE
+from ilp_packets import Prepare, digest
 
-# How many are sent at a time: more than a connector with four workers takes of one sender, so that some wait.
-AT_ONCE = 4
-
-# In seconds: when a packet expires, and how long its reply may take.
-EXPIRES, WITHIN = 60.0, 30.0
+# In seconds: when a packet expires.
+EXPIRES = 60.0
 
 SHOP = "test.south.bob.shop"
 
@@ -63,7 +56,7 @@ def paid(amount: int) -> Payment:
     return Payment(amount, preimage=secrets.token_bytes(32))
 
 
-# Above north's `max_packet`, and all of it a fee.
+# One above north's `max_packet`, and one of which the fee leaves nothing.
 LARGE, SMALL = 10_001, 1
 
 
@@ -78,7 +71,7 @@ def rejected() -> list[Payment]:
 
 
 def mixed(amounts: list[int]) -> list[Payment]:
-    """Packets of these amounts, with one to be rejected behind each fourth, but the last one last."""
+    """Packets of these amounts, which come in fours, with one among each four that must be rejected."""
     payments: list[Payment] = []
     faulty = cycle(rejected())
     for place, amount in enumerate(amounts, start=1):
@@ -98,50 +91,6 @@ THIRD = [*(1900 + 10 * place for place in range(15)), 10_000]
 def preimages_of(payments: list[Payment]) -> list[bytes]:
     """What bob has the preimages of."""
     return [one.preimage for one in payments if one.outcome == PAID]
-
-
-# ---- sending
-
-def post(port: int, token: str, octets: bytes) -> bytes:
-    """The body with which a connector answers a packet (RFC 0035)."""
-    link = HTTPConnection(HERE, port, timeout=WITHIN)
-    try:
-        fields = {"Authorization": f"Bearer {token}", "Content-Type": "application/octet-stream"}
-        link.request("POST", "/ilp", octets, fields)
-        response = link.getresponse()
-        body = response.read()
-    except OSError as fault:
-        raise Differs(f"a packet got no answer: {fault}") from None
-    finally:
-        link.close()
-    expect("the status of a packet's answer", response.status, 200)
-    return body
-
-
-def outcome_of(payment: Payment, reply: Packet) -> Outcome:
-    """What became of a packet by its reply; the books that held it are not in there."""
-    if isinstance(reply, Reject):
-        return Outcome(reply.code, reply.triggered_by, reply.message, payment.outcome.held_by)
-    if not isinstance(reply, Fulfill) or reply.preimage != payment.preimage:
-        raise Differs("a packet came back as no Reject, and without its preimage")
-    return PAID
-
-
-def send(port: int, token: str, payment: Payment) -> None:
-    """Sends a packet, which must end as it is to."""
-    try:
-        reply = read_packet(post(port, token, payment.prepare().octets()))
-    except BadPacket as fault:
-        raise Differs(f"a packet's answer is none: {fault}") from None
-    expect(f"a packet of {payment.amount} to {payment.destination}", str(outcome_of(payment, reply)),
-           str(payment.outcome))
-
-
-def send_all(port: int, token: str, payments: list[Payment]) -> None:
-    """Sends packets, so many at a time, and the last one when all others are answered."""
-    with ThreadPoolExecutor(AT_ONCE) as pool:
-        list(pool.map(lambda payment: send(port, token, payment), payments[:-1]))
-    send(port, token, payments[-1])
 
 
 def counted(payments: list[Payment]) -> str:

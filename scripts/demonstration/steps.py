@@ -3,9 +3,10 @@ from demonstration.amounts import shown
 from demonstration.calls import close, credit, send_packet, switch
 from demonstration.failing import expect
 from demonstration.network import CONNECTORS, Network
-from demonstration.payments import (AT_ONCE, FIRST, NO_MONEY, SECOND, SHOP, THIRD, Payment, counted, mixed, paid,
-                                    preimages_of, send_all)
+from demonstration.payments import (FIRST, NO_MONEY, SECOND, SHOP, THIRD, Payment, counted, mixed, paid,
+                                    preimages_of)
 from demonstration.reckoning import Reckoning
+from demonstration.sending import AT_ONCE, send_all
 
 
 class Demonstration:
