@@ -47,7 +47,7 @@ fn config() -> Config {
     config.journal = 16_777_216;
     config.max_hold_ms = HOUR_MS as u32;
     for peer in &mut config.peers {
-        peer.levels = Some(Levels { threshold: 1, settle_to: 0 });
+        peer.levels = Some(Levels { threshold: 1, settle_to: 0, settle_max: u64::MAX });
     }
     config
 }

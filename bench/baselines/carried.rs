@@ -55,7 +55,7 @@ fn config() -> Config {
     config.journal = 16_777_216;
     for peer in &mut config.peers {
         peer.fee_ppm = 100;
-        peer.levels = Some(Levels { threshold: 1, settle_to: 0 });
+        peer.levels = Some(Levels { threshold: 1, settle_to: 0, settle_max: u64::MAX });
     }
     config
 }

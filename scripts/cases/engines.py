@@ -21,10 +21,10 @@ def owe(laboratory: Laboratory, settles: Behaviour, account: Behaviour = ACCEPTS
     return program
 
 
-def expect_asked(laboratory: Laboratory, *numbers: int) -> None:
+def expect_asked(laboratory: Laboratory, *numbers: int, amount: int = 800) -> None:
     """The engine was handed the settlement under these numbers, each time for the same amount."""
     got = laboratory.engine.await_count(SETTLEMENTS, len(numbers))
-    wanted = [sent(SETTLEMENTS, laboratory.engine.port, JSON, quantity(800, 2),
+    wanted = [sent(SETTLEMENTS, laboratory.engine.port, JSON, quantity(amount, 2),
                    f"Idempotency-Key: r1-{number}") for number in numbers]
     expect("what the engine was handed", [one.octets for one in got], wanted)
 
@@ -37,6 +37,18 @@ def settlement_tried_again(laboratory: Laboratory) -> None:
     laboratory.engine.await_count(SETTLEMENTS, 7, 15.0)
     close(program, bob=200)
     expect_asked(laboratory, *[1] * 7)
+
+
+@case
+def settlements_in_parts(laboratory: Laboratory) -> None:
+    """Several are open at once, each of `settle_max` at most. Those that an engine says neither yes nor no
+    to are tried in turn."""
+    settles = in_turn(*[status(503), status(503), status(503), ACCEPTS] * 4)
+    program = laboratory.serve(FULFILLS, engine_of(settles), settle_max=300, settle_ms=50)
+    expect("a credit", credit(program, 2000), created(quantity(2000, 2)))
+    program.await_told(r"info settlement \d+ with bob of 300: confirmed", count=4, within=15.0)
+    close(program, bob=800)
+    expect_asked(laboratory, 1, 2, 3, 4, 1, 2, 3, 1, 2, 3, 2, 3, 2, 2, 2, 2, amount=300)
 
 
 @case

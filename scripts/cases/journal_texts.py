@@ -51,6 +51,7 @@ def journal_changed_by_hand(laboratory: Laboratory) -> None:
 # What is changed in the configuration, in the place of what, how a check of the journal ends, and which
 # rule it says that the entry breaks.
 KEEPS = "ok 2 peers 1 assets 2 routes 5 entries"
+LEVELS = ".+threshold, settle_to and settle_max.+"
 CHANGES = (
     ("workers = 4", "workers = 9", KEEPS, ""),
     ("max_hold_ms = 30000", "max_hold_ms = 60000", KEEPS, ""),
@@ -66,8 +67,10 @@ CHANGES = (
     ("least = -1000000", "max_packet = 29\nleast = -1000000", "refused 72 Unlawful 0", ".+max_packet"),
     ("least = -1000000", "least = -29", "refused 72 Unlawful 0", ".+balance would fall below its least"),
     ("scale = 2", "scale = 3", "refused 72 Unlawful 2", ".+credited amount.+scale.+"),
-    ("settle_to = 200", "settle_to = 100", "refused 72 Unlawful 3", ".+threshold and settle_to.+"),
-    ("threshold = 1000", "threshold = 1031", "refused 72 Unlawful 3", ".+threshold and settle_to.+"),
+    ("settle_to = 200", "settle_to = 200\nsettle_max = 830", KEEPS, ""),
+    ("settle_to = 200", "settle_to = 200\nsettle_max = 829", "refused 72 Unlawful 3", LEVELS),
+    ("settle_to = 200", "settle_to = 100", "refused 72 Unlawful 3", LEVELS),
+    ("threshold = 1000", "threshold = 1031", "refused 72 Unlawful 3", LEVELS),
     ("journal = 100", "journal = 4", "refused 72 Unlawful 3", ".+journal has no room.+"),
 )
 

@@ -75,9 +75,10 @@ class Laboratory:
         return program
 
     def serve(self, bob: Behaviour | int | None = None, engine: Behaviour | None = None,
-              descriptors: int = DESCRIPTORS, levels: bool = True, **top: int | str) -> Program:
+              descriptors: int = DESCRIPTORS, levels: bool = True, settle_max: int | None = None,
+              **top: int | str) -> Program:
         """A program that listens, beside bob's server and his engine, which behave so."""
-        setup = Setup(top=top, levels=levels)
+        setup = Setup(top=top, levels=levels, settle_max=settle_max)
         if isinstance(bob, int):
             setup.bob = bob
         elif bob is not None:

@@ -44,6 +44,7 @@ class Setup:
     engine: int | None = None
     engine_of_alice: int | None = None
     levels: bool = True
+    settle_max: int | None = None
     top: dict[str, int | str] = field(default_factory=dict)
     listen: str = field(default_factory=lambda: f"{HERE}:{free_port()}")
     engine_listen: str = field(default_factory=lambda: f"{HERE}:{free_port()}")
@@ -83,6 +84,7 @@ class Setup:
         if engine is not None:
             lines.append(f'engine = "{HERE}:{engine}"')
             lines += ["threshold = 1000", "settle_to = 200"] if self.levels else []
+            lines += [] if self.settle_max is None else [f"settle_max = {self.settle_max}"]
         return lines
 
     def text(self) -> str:

@@ -9,6 +9,9 @@ from long_runs.configurations import Configuration
 from long_runs.packets import LAST_MOMENT, MOST, Fulfill, Packet, Prepare, Reject
 from long_runs.quantities import BadQuantity, Quantity, credited
 
+# How many settlements to a peer may be open at once.
+MOST_OPEN_ASKS = 4
+
 
 # ---- entries
 
@@ -334,9 +337,10 @@ class Book:
 
     def ask(self, peer: int, now: int) -> tuple[int, int]:
         """Takes what is due to a peer's engine: the entry and the amount."""
-        for number, asked in self.open_asks():
-            if asked.peer == peer:
-                raise Refused("StillOpen", number, asked.amount)
+        open_asks = [(number, asked) for number, asked in self.open_asks() if asked.peer == peer]
+        if len(open_asks) >= MOST_OPEN_ASKS:
+            number, asked = open_asks[0]
+            raise Refused("StillOpen", number, asked.amount)
         one, balance = self.configuration.peers[peer], self.balance(peer)
         if one.threshold is None or one.settle_to is None or balance < one.threshold:
             self.notes["an ask one below the threshold"] += one.threshold == balance + 1
@@ -344,10 +348,11 @@ class Book:
         room = self.room()
         if room < 2:
             raise Refused("Full")
-        amount = min(balance - one.settle_to, MOST)
+        amount = min(balance - one.settle_to, one.most_settled)
         self.notes["the last room, of an ask"] += room == 2
         self.notes["an ask at the threshold"] += balance == one.threshold
-        self.notes["an ask for the most"] += balance - one.settle_to > MOST
+        self.notes["an ask for the most"] += balance - one.settle_to > one.most_settled
+        self.notes["an ask beside open ones"] += bool(open_asks)
         return self.add(Asked(self.moment(now), peer, amount)), amount
 
     def close(self, number: int, accepted: bool, now: int) -> int:

@@ -42,11 +42,17 @@ class Peer:
     engine: str | None = None
     threshold: int | None = None
     settle_to: int | None = None
+    settle_max: int | None = None
 
     @property
     def greatest(self) -> int:
         """The greatest amount of a packet that it may send."""
         return MOST if self.max_packet is None else self.max_packet
+
+    @property
+    def most_settled(self) -> int:
+        """The greatest amount of a settlement with it."""
+        return MOST if self.settle_max is None else self.settle_max
 
 
 @dataclass(frozen=True)
@@ -95,7 +101,8 @@ def peer_fields(one: Configuration, peer: Peer) -> dict[str, int | str | None]:
     return {"name": peer.name, "asset": one.assets[peer.asset].name, "token": peer.token,
             "out_token": peer.out_token, "host": peer.host, "out_path": peer.out_path,
             "least": peer.least, "fee_ppm": peer.fee_ppm, "max_packet": peer.max_packet,
-            "engine": peer.engine, "threshold": peer.threshold, "settle_to": peer.settle_to}
+            "engine": peer.engine, "threshold": peer.threshold, "settle_to": peer.settle_to,
+            "settle_max": peer.settle_max}
 
 
 def integer(number: int, chance: random.Random) -> str:
@@ -191,14 +198,17 @@ def drawn_peer(chance: random.Random, name: str, assets: int, large: bool) -> Pe
     least = drawn_least(chance, large)
     greatest = chance.choice([0, 10, 100, 1_000, MOST_INTEGER, chance.randint(1, 10**9)])
     engine = "127.0.0.1:1" if chance.random() < 0.7 else None
-    settle_to = threshold = None
+    settle_to = threshold = settle_max = None
     if engine is not None and chance.random() < 0.9:
         settle_to, threshold = drawn_levels(chance, least, large)
+        if chance.random() < 0.5:
+            settle_max = chance.choice([1, threshold - settle_to, MOST_INTEGER, chance.randint(1, 10**4)])
     return Peer(
         name, chance.randrange(assets), token=f"{name}-{chance.getrandbits(64):x}", least=least,
         fee_ppm=chance.choice([0] * 4 + [1, 1, 10_000, 10_000, 500_000, 10**6, chance.randint(0, 10**6)]),
         max_packet=greatest if chance.random() < 0.15 else None,
-        engine=engine, threshold=threshold, settle_to=settle_to)
+        engine=engine, threshold=threshold, settle_to=settle_to,
+        settle_max=settle_max)
 
 
 def drawn_routes(chance: random.Random, peers: int, further_ones: int) -> dict[str, int]:

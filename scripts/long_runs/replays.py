@@ -46,7 +46,7 @@ KINDS = [
     "a Fulfill just before the deadline", "a sweep just before a deadline", "a sweep at a deadline",
     "a sweep of equal deadlines", "a known key with an equal worth", "a credit of nothing",
     "a key that another peer has", "an ask one below the threshold", "an ask at the threshold",
-    "an ask for the most", "a script of 256 peers"]
+    "an ask for the most", "an ask beside open ones", "a script of 256 peers"]
 
 
 @dataclass(frozen=True)

@@ -64,7 +64,7 @@ SCRIPTS: list[tuple[list[str], list[str]]] = [
      ["entry 0 credited 199", "kept 0 credited 199", "refused 46 KeyTaken 0"]),
     ([f'credit {T} bob k {{"amount":"1000","scale":2}}', f"ask {T} bob", f"ask {T} bob",
       f"close {T} 1 no", f"close {T} 1 yes", f"ask {T} alice", "report"],
-     ["entry 0 credited 1000", "entry 1 asked 800", "refused 48 StillOpen 1 800", "entry 2 undone 1",
+     ["entry 0 credited 1000", "entry 1 asked 800", "refused 47 NotDue 200", "entry 2 undone 1",
       "not open 1 by 2", "refused 47 NotDue 0", report(0, 1_000, 0, 0, 0, 0, 0, 0, 1_000, 3, 0)]),
     ([f"credit {T} alice k {GREATEST}", f"hold {T} alice {p(MOST)}", f"hold {T} alice {p(1)}"],
      [f"entry 0 credited {MOST}", f"held 1 to bob out {MOST}", "reject T04 TotalFull"]),
@@ -121,6 +121,12 @@ def check_scripts() -> None:
     check_script(dear, [f"hold {T} alice {p(1)}"], ["reject R01 RoundsToNothing"])
     small = replace(BUILT_IN, peers=(replace(ALICE, max_packet=10), BOB))
     check_script(small, [f"hold {T} alice {P1}"], ["reject F08 AmountTooLarge 10"])
+    parted = replace(BUILT_IN, peers=(ALICE, replace(BOB, settle_max=300)))
+    check_script(parted, [f'credit {T} bob k {{"amount":"2000","scale":2}}', *[f"ask {T} bob"] * 5,
+                          f"close {T} 2 yes", f"ask {T} bob", f"close {T} 3 no", f"ask {T} bob"],
+                 ["entry 0 credited 2000", "entry 1 asked 300", "entry 2 asked 300", "entry 3 asked 300",
+                  "entry 4 asked 300", "refused 48 StillOpen 1 300", "entry 5 confirmed 2",
+                  "refused 47 NotDue 800", "entry 6 undone 3", "entry 7 asked 300"])
     half = 2**63 - 1
     deep = replace(BUILT_IN, peers=(replace(ALICE, least=-2**63), replace(BOB, least=-2**63)))
     check_script(deep, [f"hold {T} alice {p(half)}", f"hold {T} bob {p(half, 'alice')}",

@@ -97,7 +97,7 @@ def arranged(chance: random.Random, one: Configuration) -> tuple[str, Arranged]:
 def narrow(chance: random.Random, messages: int) -> World:
     """A configuration as scripts have it, without levels, so that no entry comes by itself."""
     drawn = drawn_configuration(chance, messages)
-    peers = tuple(replace(peer, threshold=None, settle_to=None) for peer in drawn.peers)
+    peers = tuple(replace(peer, threshold=None, settle_to=None, settle_max=None) for peer in drawn.peers)
     journal = chance.randint(2, 200) if chance.random() < 0.5 else drawn.journal
     drawn = replace(drawn, peers=peers, journal=journal, window=WINDOW, max_hold=MAX_HOLD)
     away = chance.choice(peers).name if chance.random() < 0.3 else None

@@ -14,7 +14,7 @@ from itertools import groupby
 from packets import CONDITION, string
 from scenes import (ALICE, BOB, F99, FULFILL, HANDED, ONES, R00, START, T00, T01, actor, answered,
                     asked, balances, clock, closed, fulfill, held, own_reject, report_lines,
-                    shown)
+                    shown, totals)
 
 F02 = own_reject(b"F02", b"unreachable")
 F03 = own_reject(b"F03", b"invalid amount")
@@ -436,6 +436,54 @@ SETTLER = [
           + closing(2, 1, "confirmed", START + 2) + balance(0, 200),
           says="account accepted", journal=CARRIED),
 ]
+
+# ---- settlements in parts, of which several are open at once
+
+# The settlements that the engine is asked for, of which the last in each row is the only one that it
+# gives an answer for: it refuses one, and accepts the others. Those that stand here for the first time
+# are asked for anew, as long as bob is owed 1000 or more and fewer than four are open. Else it is the
+# turn of the one behind that which was tried last, or of the first.
+TRIED = [(1, 2, 3, 4), (6, 1, 2, 3), (8, 1, 2, 6), (10, 1, 2, 8), (10, 1, 2, 10), (1, 2, 1, 2),
+         (1, 1, 1, 1)]
+REFUSED, PART = 3, 300
+
+
+def closed_by(number, entry):
+    """What becomes of the settlement that an engine answers for: what it says, the turn, the record
+    and the entry."""
+    said, accepted, what = (("Refused", "false", "undone") if number == REFUSED
+                            else ("Accepted", "true", "confirmed"))
+    told = turn(1, settling(said, number, PART), f"Closed {{ number: {number}, accepted: {accepted} }}")
+    return said, told, close_record(entry, number, accepted, PART), closing(entry, number, what, START)
+
+
+def in_parts(name):
+    """2600 from bob are settled down to 800, in parts of 300."""
+    turns, said, records, booked = [], [], [], credited(0, 2600, BOB)
+    entry = 1
+    for *silent, last in TRIED:
+        for number in silent + [last]:
+            if number == entry:
+                booked += asking(number, START, PART)
+                entry += 1
+        turns += [turn(1, settling("Unknown", number, PART), f"Kept {{ number: {number} }}")
+                  for number in silent]
+        answer, told, record, closed_at = closed_by(last, entry)
+        turns.append(told)
+        said += ["account unknown"] * len(silent) + [f"account {answer.lower()}"]
+        records.append(record)
+        booked += closed_at
+        entry += 1
+    request, told = settled([], quantity(2600, 2), name="bob", credited=2600, moment=None)
+    told += actor(0, 1, credit_record(0, 2600, BOB)) + [account(1, "true")]
+    steps = [(request, told), *turns, turn(1, "Idle(NotDue { balance: 800 })")]
+    end = (actor(2, entry - 1, *records) + booked + balance(0, 800)
+           + totals(entry, credited=2600, confirmed=1800, undone=300))
+    return scene(name, steps, end, act="close", over="in_parts.toml", turns=None, clock=None,
+                 says=", ".join(said))
+
+
+SETTLER.append(in_parts("an engine that answers each fourth request, beside settlements in parts"))
 
 # ---- growths of memory that are denied
 

@@ -24,7 +24,7 @@ CONNECTOR = CRATES / "connector"
 # In the order in which crates/test_rows prints them.
 SCRIPTS = ("two_peers", "dear_peer", "short_journal", "deep_credit", "deep_credit_short_journal",
            "small_packets", "three_assets", "settlements", "settlements_short_journal",
-           "settlements_scales")
+           "settlements_scales", "settlements_in_parts")
 EXAMPLES = ("two_peers", "three_assets", "settlement")
 
 OF_PEERS = ("balance", "open")

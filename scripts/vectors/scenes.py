@@ -106,9 +106,10 @@ def shown(text):
     return ['"' + line.replace("\r", r"\r").replace("\n", r"\n") + '"' for line in lines if line]
 
 
-def totals(entries, fulfilled, amount):
+def totals(entries, fulfilled=0, amount=0, credited=0, confirmed=0, undone=0):
     """What the ends add up to and the book has, where no fee is taken."""
-    numbers = f"entries: {entries}, fulfilled: {fulfilled}, paid: {amount}, got: {amount}"
+    numbers = (f"entries: {entries}, fulfilled: {fulfilled}, paid: {amount}, got: {amount}, "
+               f"credited: {credited}, confirmed: {confirmed}, undone: {undone}")
     return [f"{whose}: Totals {{ {numbers} }}" for whose in ("ends", "book")]
 
 

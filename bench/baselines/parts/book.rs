@@ -11,7 +11,7 @@ use crate::holds::HoldTable;
 use crate::journal::Journal;
 use crate::packets::Prepare;
 use crate::sha256::sha256;
-use crate::tallies::{Sums, Tallies};
+use crate::tallies::{MOST_OPEN, Sums, Tallies};
 
 pub struct Book {
     pub config: Config,
@@ -334,8 +334,13 @@ impl Book {
         Ok(Asked { number, amount })
     }
 
+    // Where as many settlements to the peer are open as may be, the first of them.
     fn still_open(&self, peer: u32) -> Option<AskFault> {
-        let number = self.tallies.open_ask(peer)?;
+        let open = self.tallies.open_asks(peer);
+        if open.len() < MOST_OPEN {
+            return None;
+        }
+        let number = *open.first()?;
         let amount = self.journal.ask(number)?.amount;
         Some(AskFault::StillOpen { number, amount })
     }
@@ -364,5 +369,6 @@ pub fn due_amount(balance: i128, levels: Option<Levels>) -> Option<u64> {
     if balance < i128::from(levels.threshold) {
         return None;
     }
-    Some(u64::try_from(balance - i128::from(levels.settle_to)).unwrap_or(u64::MAX))
+    let above = u64::try_from(balance - i128::from(levels.settle_to)).unwrap_or(u64::MAX);
+    Some(above.min(levels.settle_max))
 }

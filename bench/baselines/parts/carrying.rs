@@ -10,6 +10,7 @@ use crate::credits::{Quantity, credited};
 use crate::entries::{Ask, Cause, Credited, Entry, Hold, What};
 use crate::journal_text::{BadLine, JournalText, put_journal};
 use crate::sha256::sha256;
+use crate::tallies::MOST_OPEN;
 use std::io::{self, Write};
 
 // 9999-12-31T23:59:59.999Z.
@@ -196,7 +197,7 @@ impl Book {
     }
 
     fn judge_asked(&self, ask: &Ask) -> Result<(), BrokenRule> {
-        if self.tallies.open_ask(ask.peer).is_some() {
+        if self.tallies.open_asks(ask.peer).len() >= MOST_OPEN {
             return Err(BrokenRule::StillOpen);
         }
         let levels = self.config.peer(ask.peer).levels;

@@ -18,6 +18,7 @@ pub struct Peer {
 pub struct Levels {
     pub threshold: i64,
     pub settle_to: i64,
+    pub settle_max: u64,
 }
 
 pub struct Config {

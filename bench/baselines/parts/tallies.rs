@@ -7,11 +7,20 @@
 use crate::entries::{Ask, Hold, What};
 use crate::journal::Journal;
 
+// How many settlements to one peer may be open at once.
+pub const MOST_OPEN: usize = 4;
+
 #[derive(Clone, Copy, Default)]
 struct PeerRow {
     balance: i128,
     open_holds: u32,
-    open_ask: Option<u32>,
+}
+
+// The numbers of the open settlements to a peer, in the order in which they were asked for.
+#[derive(Clone, Copy, Default)]
+struct OpenAsks {
+    numbers: [u32; MOST_OPEN],
+    count: usize,
 }
 
 // The totals are of the open and the fulfilled holds since the base.
@@ -41,16 +50,43 @@ pub struct Tallies {
     // Each peer's asset.
     assets: Vec<u32>,
     peers: Vec<PeerRow>,
+    asks: Vec<OpenAsks>,
     sums: Vec<AssetRow>,
     open_count: u32,
     fulfilled: u32,
 }
 
+impl OpenAsks {
+    fn numbers(&self) -> &[u32] {
+        &self.numbers[..self.count]
+    }
+
+    // There is room for it.
+    fn push(&mut self, number: u32) {
+        self.numbers[self.count] = number;
+        self.count += 1;
+    }
+
+    // The others move up, in their order.
+    fn remove(&mut self, closed: u32) {
+        let mut kept = 0;
+        for place in 0..self.count {
+            let number = self.numbers[place];
+            if number != closed {
+                self.numbers[kept] = number;
+                kept += 1;
+            }
+        }
+        self.count = kept;
+    }
+}
+
 impl Tallies {
     pub fn new(assets: Vec<u32>, asset_count: usize, base: u32) -> Tallies {
         let peers = vec![PeerRow::default(); assets.len()];
+        let asks = vec![OpenAsks::default(); assets.len()];
         let sums = vec![AssetRow::default(); asset_count];
-        Tallies { base, assets, peers, sums, open_count: 0, fulfilled: 0 }
+        Tallies { base, assets, peers, asks, sums, open_count: 0, fulfilled: 0 }
     }
 
     pub fn base(&self) -> u32 {
@@ -70,9 +106,9 @@ impl Tallies {
         self.peers.get(peer as usize).map_or(0, |row| row.open_holds)
     }
 
-    // The open settlement to the peer, of which there is one at most.
-    pub fn open_ask(&self, peer: u32) -> Option<u32> {
-        self.peers.get(peer as usize)?.open_ask
+    // The numbers of the open settlements to the peer.
+    pub fn open_asks(&self, peer: u32) -> &[u32] {
+        self.asks.get(peer as usize).map_or(&[], OpenAsks::numbers)
     }
 
     pub fn total_in(&self, asset: u32) -> u128 {
@@ -118,15 +154,15 @@ impl Tallies {
             }
             What::Credited(credited) => self.pay_in(credited.peer, credited.credited),
             What::Asked(ask) => self.add_ask(journal.len(), ask),
-            What::Confirmed { ask } => {
-                if let Some(ask) = journal.ask(*ask) {
-                    self.close_ask(ask);
+            What::Confirmed { ask: number } => {
+                if let Some(ask) = journal.ask(*number) {
+                    self.close_ask(*number, ask);
                 }
             }
-            What::Undone { ask } => {
-                if let Some(ask) = journal.ask(*ask) {
+            What::Undone { ask: number } => {
+                if let Some(ask) = journal.ask(*number) {
                     self.pay_in(ask.peer, ask.amount);
-                    self.close_ask(ask);
+                    self.close_ask(*number, ask);
                 }
             }
         }
@@ -173,15 +209,14 @@ impl Tallies {
     }
 
     fn add_ask(&mut self, number: u32, ask: &Ask) {
-        let peer = &mut self.peers[ask.peer as usize];
-        peer.balance -= i128::from(ask.amount);
-        peer.open_ask = Some(number);
+        self.peers[ask.peer as usize].balance -= i128::from(ask.amount);
+        self.asks[ask.peer as usize].push(number);
         self.asset_of(ask.peer).settled -= i128::from(ask.amount);
         self.open_count += 1;
     }
 
-    fn close_ask(&mut self, ask: &Ask) {
-        self.peers[ask.peer as usize].open_ask = None;
+    fn close_ask(&mut self, number: u32, ask: &Ask) {
+        self.asks[ask.peer as usize].remove(number);
         self.open_count -= 1;
     }
 

@@ -13,7 +13,7 @@ use Rattle.ilp_fields.specs.Forms.{is_within}
 use Rattle.ilp_fields.specs.Checks.{required, required_in, optional, optional_in}
 use Rattle.ilp_fields.specs.Fields.{at, is_text, is_natural, is_natural_within, natural, text_of, text_in, natural_of, natural_in, elements_in, elements_of, are_tables, are_tables_in, list_of, is_table, tables}
 use Rattle.ilp_accounts.specs.Limits.{most_written}
-use Rattle.ilp_accounts.specs.Valid.{HasForm, IsWithin, IsMaxPacket}
+use Rattle.ilp_accounts.specs.Valid.{HasForm, IsWithin, IsMaxPacket, IsMaxSettlement}
 use Rattle.ilp_accounts.proofs.Passing.{unless-None}
 
 -- ---- a field whose value is read by `read`, where each value that fits is read as one of which P holds
@@ -94,6 +94,14 @@ written (Some n) fits = inl (within_parts 0 most_written n fits).1
 -- the greatest amount that a peer may send
 pub max_packet_of : (which : Field) (t : Members) → optional (is_natural 0 most_written) which t ≡ None → IsMaxPacket (unwrap_or (natural_in which t) most)
 max_packet_of which t none = defaulted_holds (is_natural 0 most_written) natural IsMaxPacket (λ value. written (natural value)) which t most (inr refl) none
+
+asked : (n : Option ℕ) → is_natural_within 1 most_written n ≡ true → IsSomeAnd n IsMaxSettlement
+asked None fits = cc
+asked (Some n) fits = inl (within_parts 1 most_written n fits)
+
+-- the greatest amount of a settlement
+pub max_settlement_of : (which : Field) (t : Members) → optional (is_natural 1 most_written) which t ≡ None → IsMaxSettlement (unwrap_or (natural_in which t) most)
+max_settlement_of which t none = defaulted_holds (is_natural 1 most_written) natural IsMaxSettlement (λ value. asked (natural value)) which t most (inr refl) none
 
 -- ---- arrays of tables
 

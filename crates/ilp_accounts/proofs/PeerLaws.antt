@@ -1,5 +1,5 @@
 -- What a peer and a route have whose table has no fault.
-use Rattle.ilp_assets.specs.Quote.{million}
+use Rattle.ilp_assets.specs.Quote.{million, most}
 use Rattle.std.proofs.Common.{◌≡◌, ℕ, suc, ◌+◌, ◌<◌, pos, ℤ, ◌≤ℤ◌, Bool, true, false, not, ◌&&◌, int_lt, int_le, cond, List, [], ◌∷◌, length, Option, Some, None, is_some, is_none, IsSome, IfSome, unwrap_or, refl, sym, arith, codes}
 use Rattle.std.proofs.lemmas.Bool.{and_parts, false≢true}
 use Rattle.std.proofs.lemmas.Float.{T_from_true}
@@ -20,8 +20,8 @@ use Rattle.ilp_fields.specs.Fields.{text_of}
 use Rattle.ilp_lookup.specs.Route.{Route, prefixes}
 use Rattle.ilp_accounts.specs.Configuration.{PlainPeer, fields_of, peer_from, peer_of, peer_names, peer_tokens, levels_from, route_of}
 use Rattle.ilp_accounts.specs.Faults.{is_among, fields_checks, fields_fault, levels_checks, levels_fault, are_ordered, peer_rules_checks, peer_rules_fault, peer_checks, peer_fault, route_checks, route_fault}
-use Rattle.ilp_accounts.specs.Valid.{AreOrdered, IsPeer, IsRouteTo}
-use Rattle.ilp_accounts.proofs.FieldLaws.{text_formed, text_formed_if, text_formed_or, number_ranged_or, max_packet_of}
+use Rattle.ilp_accounts.specs.Valid.{AreOrdered, IsMaxSettlement, IsPeer, IsRouteTo}
+use Rattle.ilp_accounts.proofs.FieldLaws.{text_formed, text_formed_if, text_formed_or, number_ranged_or, max_packet_of, max_settlement_of}
 
 -- a place that is found lies in the list
 bound_either : (b : Bool) (start n : ℕ) (r : Option ℕ) → (is_none r ≡ false → unwrap_or r 0 < start + 1 + n) → is_none (cond b (Some start) r) ≡ false → unwrap_or (cond b (Some start) r) 0 < start + suc n
@@ -46,19 +46,26 @@ is_there : {X : Type 0} (o : Option X) → is_none o ≡ false → IsSome o
 is_there None h = cc
 is_there (Some x) h = refl
 
-levels_ordered : (p : PlainPeer) (threshold settle_to : Option ℤ)
+levels_ordered : (p : PlainPeer) (threshold settle_to : Option ℤ) (settle_max : Option ℕ)
     → (is_some threshold && is_none p.engine) ≡ false → not (are_ordered p.least threshold settle_to) ≡ false
-    → IfSome (levels_from threshold settle_to) (AreOrdered p)
-levels_ordered p None None engine ordered = tt
-levels_ordered p None (Some s) engine ordered = tt
-levels_ordered p (Some t) None engine ordered = tt
-levels_ordered p (Some t) (Some s) engine ordered =
+    → IfSome (levels_from threshold settle_to settle_max) (AreOrdered p)
+levels_ordered p None None most_amount engine ordered = tt
+levels_ordered p None (Some s) most_amount engine ordered = tt
+levels_ordered p (Some t) None most_amount engine ordered = tt
+levels_ordered p (Some t) (Some s) most_amount engine ordered =
     let both = and_parts (int_le p.least s) (int_lt s t) (not_true _ ordered) in
     record {
       engine = is_there p.engine engine;
       least = le_z_yes (T_from_true _ both.0);
       settle_to = lt_z_yes (T_from_true _ both.1);
     }
+
+levels_limited : (threshold settle_to : Option ℤ) (settle_max : Option ℕ) → IsMaxSettlement (unwrap_or settle_max most)
+    → IfSome (levels_from threshold settle_to settle_max) (λ levels. IsMaxSettlement levels.settle_max)
+levels_limited None None settle_max is = tt
+levels_limited None (Some s) settle_max is = tt
+levels_limited (Some t) None settle_max is = tt
+levels_limited (Some t) (Some s) settle_max is = is
 
 module _ (assets : List PlainAsset) (before : List PlainPeer) (t : Members) (none : peer_fault assets before t ≡ None) where
   fields_pass : first_of (fields_checks t) ≡ None
@@ -96,7 +103,8 @@ module _ (assets : List PlainAsset) (before : List PlainPeer) (t : Members) (non
         fee_ppm = (number_ranged_or 0 million field.FeePpm t 0 (omega arith, omega arith) (passed checks fields_pass 7)).1;
         max_packet = max_packet_of field.MaxPacket t (passed checks fields_pass 8);
         engine = text_formed_if form.Place field.Engine t (passed checks fields_pass 9);
-        levels = levels_ordered (peer_of assets t) (fields_of t).threshold (fields_of t).settle_to with_engine ordered;
+        levels = levels_ordered (peer_of assets t) (fields_of t).threshold (fields_of t).settle_to (fields_of t).settle_max with_engine ordered;
+        settle_max = levels_limited (fields_of t).threshold (fields_of t).settle_to (fields_of t).settle_max (max_settlement_of field.SettleMax t (passed checks fields_pass 12));
       }
 
   -- no peer before it has its name, and none its token

@@ -124,6 +124,7 @@ pub record PlainFields : Type 0 where
   pub engine : Option (List ℕ)
   pub threshold : Option ℤ
   pub settle_to : Option ℤ
+  pub settle_max : Option ℕ
 
 unfoldable pub fields_of : Members → PlainFields
 fields_of t = record {
@@ -139,12 +140,13 @@ fields_of t = record {
   engine = text_in field.Engine t;
   threshold = integer_in field.Threshold t;
   settle_to = integer_in field.SettleTo t;
+  settle_max = natural_in field.SettleMax t;
 }
 
--- settling has levels where both are given
-abbrev pub levels_from : Option ℤ → Option ℤ → Option Levels
-levels_from (Some threshold) (Some settle_to) = Some (record { threshold = threshold; settle_to = settle_to })
-levels_from _ _ = None
+-- settling has levels where both are given, and a most amount if there is one
+abbrev pub levels_from : Option ℤ → Option ℤ → Option ℕ → Option Levels
+levels_from (Some threshold) (Some settle_to) settle_max = Some (record { threshold = threshold; settle_to = settle_to; settle_max = unwrap_or settle_max most })
+levels_from _ _ settle_max = None
 
 -- the peer of these fields, whose asset has this place
 abbrev pub peer_with : ℕ → PlainFields → PlainPeer
@@ -159,7 +161,7 @@ peer_with place f = record {
   fee_ppm = f.fee_ppm;
   max_packet = f.max_packet;
   engine = f.engine;
-  levels = levels_from f.threshold f.settle_to;
+  levels = levels_from f.threshold f.settle_to f.settle_max;
 }
 
 unfoldable pub peer_from : List PlainAsset → PlainFields → PlainPeer

@@ -96,6 +96,7 @@ fields_checks t =
     ∷ optional (is_text form.Place) field.Engine t
     ∷ optional is_integer field.Threshold t
     ∷ optional is_integer field.SettleTo t
+    ∷ optional (is_natural 1 most_written) field.SettleMax t
     ∷ []
 
 unfoldable pub fields_fault : Members → Option ConfigFault
@@ -108,13 +109,14 @@ are_ordered least None (Some settle_to) = false
 are_ordered least (Some threshold) None = true
 are_ordered least (Some threshold) (Some settle_to) = int_le least settle_to && int_lt settle_to threshold
 
--- a threshold goes with a level to settle to and with an engine
+-- a threshold goes with a level to settle to and with an engine, and a most amount with a threshold
 abbrev pub levels_checks : PlainFields → List (Option ConfigFault)
 levels_checks f =
     when (is_some f.threshold && is_none f.settle_to) (Missing field.SettleTo)
     ∷ when (is_some f.threshold && is_none f.engine) (Missing field.Engine)
     ∷ when (int_lt (pos 0) f.least) BadLevels
     ∷ when (not (are_ordered f.least f.threshold f.settle_to)) BadLevels
+    ∷ when (is_some f.settle_max && is_none f.threshold) BadLevels
     ∷ []
 
 unfoldable pub levels_fault : PlainFields → Option ConfigFault

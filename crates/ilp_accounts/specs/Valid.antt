@@ -60,6 +60,10 @@ pub record AreOrdered (p : PlainPeer) (levels : Levels) : Type 0 where
 abbrev pub IsMaxPacket : ℕ → Type 0
 IsMaxPacket amount = (amount ≤ most_written) ⊎ (amount ≡ most)
 
+-- the greatest amount of a settlement: one that was written, or, where none was, as much as a packet can carry
+abbrev pub IsMaxSettlement : ℕ → Type 0
+IsMaxSettlement amount = IsWithin 1 most_written amount ⊎ (amount ≡ most)
+
 -- a peer whose asset is one of so many
 pub record IsPeer (assets : ℕ) (p : PlainPeer) : Type 0 where
   pub name : HasForm form.Name p.name
@@ -73,6 +77,7 @@ pub record IsPeer (assets : ℕ) (p : PlainPeer) : Type 0 where
   pub max_packet : IsMaxPacket p.max_packet
   pub engine : IfSome p.engine (HasForm form.Place)
   pub levels : IfSome p.levels (AreOrdered p)
+  pub settle_max : IfSome p.levels (λ levels. IsMaxSettlement levels.settle_max)
 
 -- a route to one of so many peers
 pub record IsRouteTo (peers : ℕ) (r : Route) : Type 0 where

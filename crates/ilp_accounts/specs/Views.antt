@@ -61,6 +61,7 @@ plain_fields f = record {
   engine = option_map (λ text. text.now) f.engine;
   threshold = f.threshold;
   settle_to = f.settle_to;
+  settle_max = f.settle_max;
 }
 
 -- the names and tokens that were kept beside peers are theirs

@@ -81,6 +81,7 @@ fn expected_number(field: Field) -> &'static str {
         Field::P | Field::Q => "a whole number from 1 to 4294967295",
         Field::FeePpm => "a whole number from 0 to 1000000",
         Field::MaxPacket => "a whole number from 0 to 9223372036854775807",
+        Field::SettleMax => "a whole number from 1 to 9223372036854775807",
         _ => "a whole number",
     }
 }
@@ -102,7 +103,7 @@ fn rule(array: Option<Array>, fault: ConfigFault) -> &'static str {
         ConfigFault::DoubleToken => "the same token is given before",
         ConfigFault::DoubleRoute => "the same prefix is given before",
         ConfigFault::BadLevels => {
-            "it is to have least <= 0 and least <= settle_to < threshold, and settle_to needs a threshold"
+            "it is to have least <= 0 and least <= settle_to < threshold, and settle_to and settle_max need a threshold"
         }
         ConfigFault::Memory => "memory was refused",
         _ => "it is not TOML",

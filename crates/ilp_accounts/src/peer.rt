@@ -8,8 +8,8 @@ ghost use Rattle.ilp_accounts.specs.Faults.{fields_fault};
 
 use ilp_assets::Asset;
 use ilp_fields::{
-    ConfigFault, Field, Form, defaulted_amount, defaulted_number, defaulted_text, optional_integer,
-    optional_text, required_asset, required_integer, required_text,
+    ConfigFault, Field, Form, defaulted_amount, defaulted_number, defaulted_text, optional_amount,
+    optional_integer, optional_text, required_asset, required_integer, required_text,
 };
 use std::alloc::{AllocError, Global};
 use toml::Table;
@@ -24,6 +24,9 @@ pub struct Levels {
     pub threshold: i64,
     /// A settlement brings the balance down to this, which is below the threshold.
     pub settle_to: i64,
+    /// No settlement is of more: at least 1. Where the configuration has none it is as much as a
+    /// packet can carry.
+    pub settle_max: u64,
 }
 
 /// A peer. Its asset is a place in the table of assets.
@@ -57,6 +60,7 @@ pub(crate) struct PeerFields<'a> {
     pub(crate) engine: Option<&'a str>,
     pub(crate) threshold: Option<i64>,
     pub(crate) settle_to: Option<i64>,
+    pub(crate) settle_max: Option<u64>,
 }
 
 /// Reads the fields of a peer's table.
@@ -77,6 +81,7 @@ pub(crate) fn fields_of(table: &Table) -> Result<PeerFields<'_>, ConfigFault>
     let engine = optional_text(table, Field::Engine, Form::Place)?;
     let threshold = optional_integer(table, Field::Threshold)?;
     let settle_to = optional_integer(table, Field::SettleTo)?;
+    let settle_max = optional_amount(table, Field::SettleMax, 1, MAX_WRITTEN)?;
     Ok(PeerFields {
         name,
         asset,
@@ -90,18 +95,20 @@ pub(crate) fn fields_of(table: &Table) -> Result<PeerFields<'_>, ConfigFault>
         engine,
         threshold,
         settle_to,
+        settle_max,
     })
 }
 
 impl PeerFields<'_> {
     // The levels, where both are given.
     fn levels(&self) -> Option<Levels>
-        ensures { result ≡ levels_from self.now.threshold self.now.settle_to }
+        ensures { result ≡ levels_from self.now.threshold self.now.settle_to self.now.settle_max }
     {
         match (self.threshold, self.settle_to) {
             (Some(threshold), Some(settle_to)) => Some(Levels {
                 threshold,
                 settle_to,
+                settle_max: self.settle_max.unwrap_or(u64::MAX),
             }),
             _ => None,
         }

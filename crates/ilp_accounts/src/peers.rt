@@ -214,6 +214,9 @@ fn check_levels(fields: &PeerFields<'_>) -> Result<(), ConfigFault>
     if !are_ordered(fields.least, fields.threshold, fields.settle_to) {
         return Err(ConfigFault::BadLevels);
     }
+    if fields.settle_max.is_some() && fields.threshold.is_none() {
+        return Err(ConfigFault::BadLevels);
+    }
     Ok(())
 }
 

@@ -1,12 +1,12 @@
 -- What may come next in a journal whose base lies behind all of it, and what may not.
 use Rattle.std.proofs.Common.{◌≡◌, ℕ, ◌+◌, ◌<◌, ◌≤◌, ℤ, pos, ◌+ℤ◌, ◌-ℤ◌, Bool, true, false, cond, [], ◌∷◌, ◌++◌, length, Option, Some, None, refl, sym, ap, ◌∙◌, arith, length-append}
-use Rattle.std.specs.Prelude.{◌≢◌, ◌≤ℤ◌, ◌<ℤ◌, int_le, int_lt, nat_le, nat_abs, IsSomeAnd}
+use Rattle.std.specs.Prelude.{◌≢◌, ◌≤ℤ◌, ◌<ℤ◌, int_le, int_lt, nat_le, nat_abs, IfSome, IsSomeAnd}
 use Rattle.std.proofs.lemmas.Bool.{leb-true, le-leb, eq-eqb}
 use Rattle.std.proofs.lemmas.Int.{ints}
 use Rattle.ilp_assets.specs.Quote.{most}
 use Rattle.ilp_accounts.specs.declared.peer.Levels.{Levels}
-use Rattle.ilp_accounts.specs.Configuration.{Configuration, peer_at}
-use Rattle.ilp_accounts.specs.Valid.{IsValid}
+use Rattle.ilp_accounts.specs.Configuration.{Configuration, PlainPeer, peer_at}
+use Rattle.ilp_accounts.specs.Valid.{IsValid, AreOrdered}
 use Rattle.ilp_journal.specs.declared.entry.Entry.{Entry}
 use Rattle.ilp_journal.specs.declared.entry.What.{What}
 use Rattle.ilp_journal.specs.declared.entry.What.TheVariants as what
@@ -18,7 +18,7 @@ use Rattle.ilp_journal.proofs.Growth.{balance-push, open_count-push}
 use Rattle.ilp_book.specs.Book.{PlainBook, has_room, pushed}
 use Rattle.ilp_book.specs.Configured.{IsKnown}
 use Rattle.ilp_book.specs.Judging.{behind_all, HasRoom, KeepsLimits}
-use Rattle.ilp_book.specs.Lawful.{IsLawful, IsWithinLimits, IsInTime, KeepsRule, KeepsRuleOf, IsDueAsk, owed_above}
+use Rattle.ilp_book.specs.Lawful.{IsLawful, IsWithinLimits, IsInTime, KeepsRule, KeepsRuleOf, IsDueAsk, most_open_asks, owed_above}
 use Rattle.ilp_book.specs.SettleStep.{due_amount}
 use Rattle.ilp_book.proofs.HoldSteps.{hold_admits}
 use Rattle.ilp_book.proofs.InTime.{calm}
@@ -115,9 +115,9 @@ limits_last book e before after =
 -- ---- what is due
 
 -- what is asked for from the threshold on is due
-pub due_back : (o : Option Levels) (b : ℤ) (amount : ℕ) → IsSomeAnd o (λ (v : Levels). (v.threshold ≤ℤ b) × (pos amount ≡ owed_above b v.settle_to)) → due_amount b o ≡ Some amount
+pub due_back : (o : Option Levels) (b : ℤ) (amount : ℕ) → IsSomeAnd o (λ (v : Levels). (v.threshold ≤ℤ b) × (pos amount ≡ owed_above b v)) → due_amount b o ≡ Some amount
 due_back None b amount due = absurd due
-due_back (Some v) b amount due = ap (λ t. cond t (Some (nat_abs (owed_above b v.settle_to))) None) (reached v.threshold b due.0) ∙ ap (λ z. Some (nat_abs z)) (sym due.1)
+due_back (Some v) b amount due = ap (λ t. cond t (Some (nat_abs (owed_above b v))) None) (reached v.threshold b due.0) ∙ ap (λ z. Some (nat_abs z)) (sym due.1)
   where
     reached : (a b : ℤ) → a ≤ℤ b → int_le a b ≡ true
     reached a b h = of (int_le a b) refl
@@ -130,13 +130,18 @@ due_back (Some v) b amount due = ap (λ t. cond t (Some (nat_abs (owed_above b v
 pub not_due : (C : Configuration) (j : Entries) (a : Ask) → due_amount (balance j a.peer) (peer_at C a.peer).levels ≢ Some a.amount → IsDueAsk C j a → ⊥
 not_due C j a other due = other (due_back (peer_at C a.peer).levels (balance j a.peer) a.amount due.due)
 
--- one for that amount is, where none is open
-pub is_due : (C : Configuration) (j : Entries) (a : Ask) → IsValid C → IsKnown C a.peer → open_asks j a.peer ≡ 0 → due_amount (balance j a.peer) (peer_at C a.peer).levels ≡ Some a.amount → IsDueAsk C j a
-is_due C j a valid known none due = record {
+-- one for that amount is, where few enough are open
+pub is_due : (C : Configuration) (j : Entries) (a : Ask) → IsValid C → IsKnown C a.peer → open_asks j a.peer < most_open_asks → due_amount (balance j a.peer) (peer_at C a.peer).levels ≡ Some a.amount → IsDueAsk C j a
+is_due C j a valid known few due = record {
   known = known;
-  few_open = omega (arith, none);
+  few_open = few;
   due = due_from (peer_at C a.peer).levels (peer_at C a.peer) (balance j a.peer) a.amount (peer_valid C a.peer valid known).levels due;
 }
+
+-- the levels of a valid peer stand in order
+pub levels_ordered : (o : Option Levels) (peer : PlainPeer) → IfSome o (AreOrdered peer) → IfSome o (λ (v : Levels). v.settle_to <ℤ v.threshold)
+levels_ordered None peer h = h
+levels_ordered (Some v) peer h = h.settle_to
 
 -- ---- numbers that are compared
 

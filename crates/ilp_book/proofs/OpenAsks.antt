@@ -1,12 +1,12 @@
 -- Which settlements to a peer are open: their count, and the first of them.
-use Rattle.std.proofs.Common.{◌≡◌, ℕ, suc, ◌+◌, ◌≤◌, ◌<◌, Bool, true, false, cond, ◌&&◌, List, [], ◌∷◌, Option, Some, None, refl, ap, ◌∙◌, subst, arith}
+use Rattle.std.proofs.Common.{◌≡◌, ℕ, suc, ◌+◌, ◌<◌, Bool, true, false, cond, ◌&&◌, List, [], ◌∷◌, Option, Some, None, refl, ap, ◌∙◌, subst, arith}
 use Rattle.std.specs.Prelude.{nat_lt, ◌==◌, slice_get, unwrap_or, option_map, option_and_then, IsSome}
-use Rattle.std.proofs.lemmas.Bool.{ltb-true, le-ltb}
+use Rattle.std.proofs.lemmas.Bool.{ltb-true}
 use Rattle.ilp_journal.specs.declared.entry.Entry.{Entry}
 use Rattle.ilp_journal.specs.declared.entry.What.{What}
 use Rattle.ilp_journal.specs.declared.entry.Ask.{Ask}
 use Rattle.ilp_journal.specs.Places.{sum_from, first_from}
-use Rattle.ilp_journal.specs.Journal.{Entries, ask_at, as_ask, is_unclosed, open_asks, paid_to, is_ask_of, first_open_number, first_open_ask}
+use Rattle.ilp_journal.specs.Journal.{Entries, ask_at, as_ask, is_unclosed, open_asks, paid_to, is_ask_of, first_open_ask}
 use Rattle.ilp_book.specs.declared.fault.AskFault.{AskFault}
 use Rattle.ilp_book.specs.declared.fault.AskFault.TheVariants as ask_fault
 use Rattle.ilp_book.specs.Lawful.{most_open_asks}
@@ -33,33 +33,6 @@ sum_from-none test f n (x ∷ xs) none e =
     parts : (b : Bool) → test n x ≡ b → cond b (Some n) (first_from test (n + 1) xs) ≡ None → (test n x ≡ false) × (first_from test (n + 1) xs ≡ None)
     parts true t e = absurd cc
     parts false t e = (t, e)
-
--- a sum with a term that passes a test
-sum_from-some : {X : Type 0} (test : ℕ → X → Bool) (f : ℕ → X → ℕ) (n k : ℕ) (xs : List X) → ((i : ℕ) (x : X) → test i x ≡ true → 1 ≤ f i x) → first_from test n xs ≡ Some k → 1 ≤ sum_from f n xs
-sum_from-some test f n k [] counted e = absurd cc
-sum_from-some test f n k (x ∷ xs) counted e = of_test (test n x) refl (λ later. sum_from-some test f (n + 1) k xs counted later) e
-  where
-    of_test : (b : Bool) → test n x ≡ b → (first_from test (n + 1) xs ≡ Some k → 1 ≤ sum_from f (n + 1) xs) → cond b (Some n) (first_from test (n + 1) xs) ≡ Some k → 1 ≤ f n x + sum_from f (n + 1) xs
-    of_test true t rest e = omega (arith, counted n x t)
-    of_test false t rest e = omega (arith, rest e)
-
--- where an open settlement of a peer is found it has one open
-some_open : (j : Entries) (peer n : ℕ) → first_open_number j peer ≡ Some n → 1 ≤ open_asks j peer
-unfolding open_asks
-some_open j peer n e = sum_from-some (λ k (d : Entry). is_ask_of peer d.what && is_unclosed j k) _ 0 n j (λ k d passed. counted (as_ask d.what) (is_unclosed j k) passed) e
-  where
-    counted : (o : Option Ask) (b : Bool) → (unwrap_or (option_map (λ (a : Ask). a.peer == peer) o) false && b) ≡ true → 1 ≤ cond b (unwrap_or (option_map (paid_to peer) o) 0) 0
-    counted None b passed = cc
-    counted (Some a) false passed = of_peer (a.peer == peer) passed
-      where
-        of_peer : (b : Bool) → (b && false) ≡ true → 1 ≤ 0
-        of_peer true passed = cc
-        of_peer false passed = cc
-    counted (Some a) true passed = of_peer (a.peer == peer) passed
-      where
-        of_peer : (b : Bool) → (b && true) ≡ true → 1 ≤ cond b 1 0
-        of_peer true passed = omega arith
-        of_peer false passed = cc
 
 -- where no open settlement of a peer is found it has none open
 none_open : (j : Entries) (peer : ℕ) → first_open_ask j peer ≡ None → open_asks j peer ≡ 0
@@ -118,17 +91,10 @@ few_open j peer e = of_test (nat_lt (open_asks j peer) most_open_asks) refl e
 abbrev pub told_open : Option (ℕ × Ask) → Option AskFault
 told_open o = option_map (λ (x : ℕ × Ask). ask_fault.StillOpen x.0 x.1.amount) o
 
--- as long as one may be open, the first that is open is told
-pub still_open_is : (j : Entries) (peer : ℕ) → still_open j peer ≡ told_open (first_open_ask j peer)
-still_open_is j peer = of (first_open_number j peer) refl
-  where
-    found : ℕ → Option (ℕ × Ask)
-    found n = option_map (λ (a : Ask). (n, a)) (ask_at j n)
+-- where fewer are open than may be, none is told
+pub none_told : (j : Entries) (peer : ℕ) → nat_lt (open_asks j peer) most_open_asks ≡ true → still_open j peer ≡ None
+none_told j peer few = ap (λ b. cond b None (told_open (first_open_ask j peer))) few
 
-    of : (o : Option ℕ) → first_open_number j peer ≡ o → cond (nat_lt (open_asks j peer) most_open_asks) None (told_open (option_and_then found o)) ≡ told_open (option_and_then found o)
-    of None is = either (nat_lt (open_asks j peer) most_open_asks)
-      where
-        either : (b : Bool) → ◌≡◌ {A = Option AskFault} (cond b None None) None
-        either true = refl
-        either false = refl
-    of (Some n) is = ap (λ b. cond b None (told_open (found n))) (le-ltb (open_asks j peer) most_open_asks (some_open j peer n is))
+-- else the first that is open is told
+pub first_told : (j : Entries) (peer : ℕ) → nat_lt (open_asks j peer) most_open_asks ≡ false → still_open j peer ≡ told_open (first_open_ask j peer)
+first_told j peer full = ap (λ b. cond b None (told_open (first_open_ask j peer))) full

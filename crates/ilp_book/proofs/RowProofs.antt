@@ -8,7 +8,7 @@ use Rattle.ilp_journal.specs.Journal.{open_holds, open_asks}
 use Rattle.ilp_book.specs.HoldStep.{hold_terms, hold_fitted, hold_checked, hold_step}
 use Rattle.ilp_book.specs.AnswerStep.{verdict, answer_step, expire_step}
 use Rattle.ilp_book.specs.SettleStep.{credit_checked, credit_step, ask_checked, ask_step, close_step}
-use Rattle.ilp_book.specs.Rows.{PaidRow, LateRow, ReleasedRow, ExpiredRow, LeastRow, TermsRow, TotalRow, FullRow, OlderRow, CreditedRow, SettledRow, CarriedRow}
+use Rattle.ilp_book.specs.Rows.{PaidRow, LateRow, ReleasedRow, ExpiredRow, LeastRow, TermsRow, TotalRow, FullRow, OlderRow, CreditedRow, SettledRow, PartsRow, CarriedRow}
 
 pub paid_row : (c : List ℕ) → meets c (replicate 32 0) ≡ true → PaidRow c
 unfolding quote balance total_in total_out open_holds hold_terms hold_fitted hold_checked hold_step verdict answer_step
@@ -68,6 +68,10 @@ credited_row = refl
 pub settled_row : SettledRow
 unfolding balance open_asks credit_checked credit_step ask_checked ask_step close_step
 settled_row = refl
+
+pub parts_row : PartsRow
+unfolding balance open_asks credit_checked credit_step ask_checked ask_step close_step
+parts_row = refl
 
 pub carried_row : (c : List ℕ) → CarriedRow c
 unfolding quote balance total_in total_out hold_terms hold_fitted hold_checked hold_step

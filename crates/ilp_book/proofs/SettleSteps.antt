@@ -139,13 +139,13 @@ credit_lawful book caller p growth lawful known key =
 
 -- what is due is asked for from the threshold on
 pub due_from : (o : Option Levels) (peer : PlainPeer) (b : ℤ) (amount : ℕ) → IfSome o (AreOrdered peer) → due_amount b o ≡ Some amount
-    → IsSomeAnd o (λ (v : Levels). (v.threshold ≤ℤ b) × (pos amount ≡ owed_above b v.settle_to))
+    → IsSomeAnd o (λ (v : Levels). (v.threshold ≤ℤ b) × (pos amount ≡ owed_above b v))
 due_from None peer b amount v e = absurd cc
 due_from (Some v) peer b amount h e =
-    let t : (int_le v.threshold b ≡ true) × (◌≡◌ {A = Option ℕ} (Some (nat_abs (owed_above b v.settle_to))) (Some amount))
-    = chosen (int_le v.threshold b) (Some (nat_abs (owed_above b v.settle_to))) amount e in
+    let t : (int_le v.threshold b ≡ true) × (◌≡◌ {A = Option ℕ} (Some (nat_abs (owed_above b v))) (Some amount))
+    = chosen (int_le v.threshold b) (Some (nat_abs (owed_above b v))) amount e in
     let reached : v.threshold ≤ℤ b = late v.threshold b t.0 in
-    let whole : pos (nat_abs (owed_above b v.settle_to)) ≡ owed_above b v.settle_to = natural (owed_above b v.settle_to) (above b v.threshold v.settle_to reached h.settle_to) in
+    let whole : pos (nat_abs (owed_above b v)) ≡ owed_above b v = natural (owed_above b v) (above b v.threshold v.settle_to v.settle_max reached h.settle_to) in
     (reached, ap pos (sym (some_same _ amount t.1)) ∙ whole)
   where
     late : (a b : ℤ) → int_le a b ≡ true → a ≤ℤ b
@@ -158,8 +158,8 @@ due_from (Some v) peer b amount h e =
         never : (z : ℤ) (n : ℕ) → z ≡ negsuc n → pos 0 ≤ℤ z → ⊥
         never z n e h = omega (arith, ints)
 
-    above : (b t s : ℤ) → t ≤ℤ b → s <ℤ t → pos 0 ≤ℤ int_min (b -ℤ s) (pos most)
-    above b t s h k = omega (arith, ints, clamps)
+    above : (b t s : ℤ) (n : ℕ) → t ≤ℤ b → s <ℤ t → pos 0 ≤ℤ int_min (b -ℤ s) (pos n)
+    above b t s n h k = omega (arith, ints, clamps)
 
 -- an ask of what is due, where none is told to be open, is one that the rules know
 pub due_ask : (C : Configuration) (j : Entries) (peer amount : ℕ) → IsValid C → IsKnown C peer → still_open j peer ≡ None → due_amount (balance j peer) (peer_at C peer).levels ≡ Some amount
@@ -182,13 +182,13 @@ ask_due book new caller peer amount growth result none due does =
     subst (λ o. Asks o (due_amount owed (peer_at book.config peer).levels)) (sym none) (subst (Asks None) (sym due) does)
 
 -- a due ask leaves the balance at its least or above
-due_covered : (o : Option Levels) (peer : PlainPeer) (b : ℤ) (amount : ℕ) → IfSome o (AreOrdered peer) → IsSomeAnd o (λ (v : Levels). (v.threshold ≤ℤ b) × (pos amount ≡ owed_above b v.settle_to))
+due_covered : (o : Option Levels) (peer : PlainPeer) (b : ℤ) (amount : ℕ) → IfSome o (AreOrdered peer) → IsSomeAnd o (λ (v : Levels). (v.threshold ≤ℤ b) × (pos amount ≡ owed_above b v))
     → (peer.least +ℤ pos amount) ≤ℤ b
 due_covered None peer b amount h due = absurd due
-due_covered (Some v) peer b amount h due = bounded b peer.least v.settle_to amount due.1 h.least
+due_covered (Some v) peer b amount h due = bounded b peer.least v.settle_to amount v.settle_max due.1 h.least
   where
-    bounded : (b l s : ℤ) (n : ℕ) → pos n ≡ int_min (b -ℤ s) (pos most) → l ≤ℤ s → (l +ℤ pos n) ≤ℤ b
-    bounded b l s n e h = omega (arith, ints, clamps)
+    bounded : (b l s : ℤ) (n limit : ℕ) → pos n ≡ int_min (b -ℤ s) (pos limit) → l ≤ℤ s → (l +ℤ pos n) ≤ℤ b
+    bounded b l s n limit e h = omega (arith, ints, clamps)
 
 -- a due ask is admitted where it is in time and there is room
 pub ask_admits : (book : PlainBook) (m : ℤ) (actor : ℕ) (a : Ask) → IsValid book.config → IsLawful book → IsInTime book.entries (record { moment = m; actor = actor; what = what.Asked a })

@@ -50,20 +50,20 @@ pub record IsFreshCredit (C : Configuration) (before : Entries) (c : Credited) :
   pub rounded : c.credited ≡ credited_at (quantity_named c) (scale_at C c.peer)
   pub fresh : IsNone (kept_at before c.peer c.key)
 
--- what a settlement asks for: what lies above a level, as far as one packet can carry it
-abbrev pub owed_above : ℤ → ℤ → ℤ
-owed_above balance settle_to = int_min (balance -ℤ settle_to) (pos most)
+-- what a settlement asks for: what lies above the level to settle to, as far as one settlement may go
+abbrev pub owed_above : ℤ → Levels → ℤ
+owed_above balance l = int_min (balance -ℤ l.settle_to) (pos l.settle_max)
 
 -- how many settlements to a peer may be open at once
 abbrev pub most_open_asks : ℕ
-most_open_asks = 1
+most_open_asks = 4
 
 -- A settlement is asked for from the peer's threshold on, where fewer of its settlements are open than may be.
 pub record IsDueAsk (C : Configuration) (before : Entries) (a : Ask) : Type 0 where
   pub known : IsKnown C a.peer
   pub few_open : open_asks before a.peer < most_open_asks
   pub due : IsSomeAnd (peer_at C a.peer).levels (λ (l : Levels).
-      (l.threshold ≤ℤ balance before a.peer) × (pos a.amount ≡ owed_above (balance before a.peer) l.settle_to))
+      (l.threshold ≤ℤ balance before a.peer) × (pos a.amount ≡ owed_above (balance before a.peer) l))
 
 -- ---- entries
 

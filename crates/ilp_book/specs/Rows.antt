@@ -31,7 +31,11 @@ alice = record nobody { least = negsuc 99; max_packet = 18446744073709551615 }
 
 -- bob is the peer 1
 abbrev pub bob : PlainPeer
-bob = record alice { levels = Some (record { threshold = pos 1000; settle_to = pos 200 }) }
+bob = record alice { levels = Some (record { threshold = pos 1000; settle_to = pos 200; settle_max = 18446744073709551615 }) }
+
+-- bob, where a settlement with him is of 300 cents at most
+abbrev pub bob_in_parts : PlainPeer
+bob_in_parts = record alice { levels = Some (record { threshold = pos 1000; settle_to = pos 200; settle_max = 300 }) }
 
 abbrev pub between : PlainPeer → PlainPeer → Configuration
 between one other = record {
@@ -173,12 +177,24 @@ CreditedRow =
     answers_of (between alice bob) (at_ 0 large ∷ at_ 0 large ∷ at_ 0 (settles 0 (cents 5)) ∷ [])
     ≡ of_credit (Ok (record { number = 0; amount = 199; fresh = true })) ∷ of_credit (Ok (record { number = 0; amount = 199; fresh = false })) ∷ of_credit (Err (credit_fault.KeyTaken 0)) ∷ []
 
--- what bob is owed above 200 cents is asked for once, from 1000 cents on
+-- what bob is owed above 200 cents is asked for, from 1000 cents on
 abbrev pub SettledRow : Type 0
 SettledRow =
     answers_of (between alice bob) (at_ 0 (settles 1 (cents 1000)) ∷ at_ 0 (ask 1) ∷ at_ 0 (ask 1) ∷ at_ 0 (close 1 rejected) ∷ at_ 0 (close 1 accepted) ∷ at_ 0 (ask 0) ∷ [])
-    ≡ of_credit (Ok (record { number = 0; amount = 1000; fresh = true })) ∷ of_ask (Ok (record { number = 1; amount = 800 })) ∷ of_ask (Err (ask_fault.StillOpen 1 800))
+    ≡ of_credit (Ok (record { number = 0; amount = 1000; fresh = true })) ∷ of_ask (Ok (record { number = 1; amount = 800 })) ∷ of_ask (Err (ask_fault.NotDue (pos 200)))
     ∷ of_close (Ok 2) ∷ of_close (Err (record { closer = Some 2 })) ∷ of_ask (Err (ask_fault.NotDue (pos 0))) ∷ []
+
+-- a settlement with bob is asked for
+abbrev pub asked_as : ℕ → CallReply
+asked_as n = of_ask (Ok (record { number = n; amount = 300 }))
+
+-- 2000 cents are settled with bob in parts of 300, of which four are open at once
+abbrev pub PartsRow : Type 0
+PartsRow =
+    answers_of (between alice bob_in_parts) (at_ 0 (settles 1 (cents 2000)) ∷ at_ 0 (ask 1) ∷ at_ 0 (ask 1) ∷ at_ 0 (ask 1) ∷ at_ 0 (ask 1) ∷ at_ 0 (ask 1)
+    ∷ at_ 0 (close 2 accepted) ∷ at_ 0 (ask 1) ∷ at_ 0 (close 3 rejected) ∷ at_ 0 (ask 1) ∷ [])
+    ≡ of_credit (Ok (record { number = 0; amount = 2000; fresh = true })) ∷ asked_as 1 ∷ asked_as 2 ∷ asked_as 3 ∷ asked_as 4 ∷ of_ask (Err (ask_fault.StillOpen 1 300))
+    ∷ of_close (Ok 5) ∷ of_ask (Err (ask_fault.NotDue (pos 800))) ∷ of_close (Ok 6) ∷ asked_as 7 ∷ []
 
 -- the hold 0 is released by the actor 0
 abbrev pub ended_at : ℕ → Cause → Entry

@@ -10,7 +10,7 @@ use Rattle.ilp_journal.specs.declared.entry.What.{What}
 use Rattle.ilp_journal.specs.declared.entry.What.TheVariants as what
 use Rattle.ilp_journal.specs.declared.entry.Ask.{Ask}
 use Rattle.ilp_journal.specs.declared.entry.Credited.{Credited}
-use Rattle.ilp_journal.specs.Journal.{Entries, closing_of, open_ask_at, open_asks, first_open_ask}
+use Rattle.ilp_journal.specs.Journal.{Entries, closing_of, open_ask_at, open_asks, first_open_ask, next_open_ask}
 use Rattle.ilp_journal.specs.Balance.{balance}
 use Rattle.ilp_book.specs.declared.calls.Kept.{Kept}
 use Rattle.ilp_book.specs.declared.fault.CreditFault.{CreditFault}
@@ -97,7 +97,7 @@ still_open j peer =
 -- what is asked for, where the balance is at the threshold or above it
 abbrev pub due_amount : ℤ → Option Levels → Option ℕ
 due_amount balance None = None
-due_amount balance (Some l) = if int_le l.threshold balance then Some (nat_abs (owed_above balance l.settle_to)) else None
+due_amount balance (Some l) = if int_le l.threshold balance then Some (nat_abs (owed_above balance l)) else None
 
 -- a settlement that is due, if the book has room for it
 abbrev pub ask_fitted : PlainBook → Ask → Result Ask AskFault
@@ -128,6 +128,10 @@ ask_booked book caller granted (Ok a) =
 -- a settlement to a peer
 unfoldable pub ask_step : PlainBook → By → ℕ → Growth → Made (Result Asked AskFault)
 ask_step book caller peer growth = ask_booked book caller growth (ask_checked book peer)
+
+-- the open settlement to a peer that has the least number behind another, or of all, and its amount
+abbrev pub open_settlement : Entries → ℕ → Option ℕ → Option (ℕ × ℕ)
+open_settlement j peer after = option_map (λ (x : ℕ × Ask). (x.0, x.1.amount)) (next_open_ask j peer after)
 
 -- ---- closings
 

@@ -1,16 +1,17 @@
 //! Settlements to peers: which are open, and what is asked for.
-ghost use Rattle.std.specs.Prelude.{◌≡◌, ◌≤ℤ◌, ◌<ℤ◌, pos, IfSome};
+ghost use Rattle.std.specs.Prelude.{◌≡◌, ◌≤ℤ◌, ◌<ℤ◌, nat_lt, pos, IfSome};
 ghost use Rattle.ilp_accounts.specs.declared.peer.Levels.{Levels};
 ghost use Rattle.ilp_journal.specs.Booked.{most_sum};
-ghost use Rattle.ilp_journal.specs.Journal.{open_ask_at};
-ghost use Rattle.ilp_book.specs.Lawful.{owed_above};
-ghost use Rattle.ilp_book.specs.SettleStep.{still_open, due_amount, closing_of_verdict, verdict_of};
+ghost use Rattle.ilp_journal.specs.Journal.{open_ask_at, open_asks};
+ghost use Rattle.ilp_book.specs.Lawful.{most_open_asks, owed_above};
+ghost use Rattle.ilp_book.specs.SettleStep.{still_open, open_settlement, due_amount, closing_of_verdict, verdict_of};
 ghost use Rattle.ilp_book.specs.Tables.{IsTallied};
+ghost use Rattle.ilp_tallies.specs.Tallies.{IsOfEach};
 
 use crate::fault::AskFault;
 use ilp_accounts::Levels;
 use ilp_journal::{Ask, Journal, What};
-use ilp_tallies::Tallies;
+use ilp_tallies::{MOST_OPEN, Tallies};
 use std::alloc::Allocator;
 
 /// The settlement under a number, if it is open.
@@ -24,7 +25,15 @@ pub(crate) fn open_ask_at<A: Allocator>(journal: &Journal<A>, number: u32) -> Op
     Some(ask)
 }
 
-/// The refusal where a settlement to the peer is open, of which there may be one at a time.
+/// Whether fewer settlements to the peer are open than may be.
+pub(crate) fn are_few_open<A: Allocator>(tallies: &Tallies<A>, peer: u32) -> bool
+    ensures { IsOfEach tallies.now (λ _ _ j. nat_lt (open_asks j peer) most_open_asks) result }
+{
+    (tallies.open_asks(peer) as usize) < MOST_OPEN
+}
+
+/// The refusal where as many settlements to the peer are open as may be. It names the one that has
+/// the least number.
 pub(crate) fn still_open<A: Allocator>(
     journal: &Journal<A>,
     tallies: &Tallies<A>,
@@ -33,12 +42,31 @@ pub(crate) fn still_open<A: Allocator>(
     requires { IsTallied journal.now.entries tallies.now }
     ensures { result ≡ still_open journal.now.entries peer }
 {
+    if are_few_open(tallies, peer) {
+        return None;
+    }
     let number = tallies.first_open_ask(peer)?;
     let ask = journal.ask(number)?;
     Some(AskFault::StillOpen {
         number,
         amount: ask.amount,
     })
+}
+
+/// The open settlement to a peer that has the least number behind this one, or of all, with its
+/// amount.
+pub(crate) fn open_settlement<A: Allocator>(
+    journal: &Journal<A>,
+    tallies: &Tallies<A>,
+    peer: u32,
+    after: Option<u32>,
+) -> Option<(u32, u64)>
+    requires { IsTallied journal.now.entries tallies.now }
+    ensures { result ≡ open_settlement journal.now.entries peer after }
+{
+    let number = tallies.next_open_ask(peer, after)?;
+    let ask = journal.ask(number)?;
+    Some((number, ask.amount))
 }
 
 /// What is asked for, where the balance is at the peer's threshold or above it.
@@ -51,18 +79,18 @@ pub(crate) fn due_amount(balance: i128, levels: Option<Levels>) -> Option<u64>
     if balance < i128::from(levels.threshold) {
         return None;
     }
-    Some(owed_above(balance, levels.settle_to))
+    Some(owed_above(balance, levels))
 }
 
-// What lies above a level, as far as one packet can carry it.
-fn owed_above(balance: i128, settle_to: i64) -> u64
-    requires above { settle_to ≤ℤ balance }
+// What lies above the level to settle to, as far as one settlement may go.
+fn owed_above(balance: i128, levels: Levels) -> u64
+    requires above { levels.settle_to ≤ℤ balance }
     requires high { balance ≤ℤ pos most_sum }
-    ensures { pos result ≡ owed_above balance settle_to }
+    ensures { pos result ≡ owed_above balance levels }
 {
-    match u64::try_from(balance - i128::from(settle_to)) {
-        Ok(amount) => amount,
-        Err(_) => u64::MAX,
+    match u64::try_from(balance - i128::from(levels.settle_to)) {
+        Ok(amount) => amount.min(levels.settle_max),
+        Err(_) => levels.settle_max,
     }
 }
 

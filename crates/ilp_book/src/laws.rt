@@ -24,7 +24,7 @@ ghost use Rattle.ilp_book.specs.Lawful.{IsLawful};
 ghost use Rattle.ilp_book.specs.AnswerStep.{answer_step, expire_step, IsOverBy};
 ghost use Rattle.ilp_book.specs.SettleStep.{EngineVerdict, kept, close_step, IsClosedBy, IsKeptBy};
 ghost use Rattle.ilp_book.specs.Run.{Step, AreAllowed, book_after};
-ghost use Rattle.ilp_book.specs.Rows.{PaidRow, LateRow, ReleasedRow, ExpiredRow, LeastRow, TermsRow, TotalRow, FullRow, OlderRow, CreditedRow, SettledRow, CarriedRow};
+ghost use Rattle.ilp_book.specs.Rows.{PaidRow, LateRow, ReleasedRow, ExpiredRow, LeastRow, TermsRow, TotalRow, FullRow, OlderRow, CreditedRow, SettledRow, PartsRow, CarriedRow};
 
 /// Whatever calls come, of whatever actors, at whatever times and however short memory is, the
 /// journal is lawful, and the books of each asset sum to what was settled in it.
@@ -135,5 +135,6 @@ pub fn rows()
     ensures older { (c : List ℕ) → OlderRow c }
     ensures credited { CreditedRow }
     ensures settled { SettledRow }
+    ensures parts { PartsRow }
     ensures carried { (c : List ℕ) → CarriedRow c }
 {}

@@ -34,11 +34,12 @@ pub enum BrokenRule {
     /// A key of a peer is credited once.
     #[error("the peer's key was credited before")]
     KeyTaken,
-    /// One settlement to a peer is open at a time.
-    #[error("a settlement to the peer is still open")]
+    /// Four settlements to a peer are open at a time at most.
+    #[error("four settlements to the peer are still open")]
     StillOpen,
-    /// A settlement is asked for from `threshold` on, for what lies above `settle_to`.
-    #[error("by threshold and settle_to the peer isn't owed this amount")]
+    /// A settlement is asked for from `threshold` on, for what lies above `settle_to`, at most
+    /// `settle_max`.
+    #[error("by threshold, settle_to and settle_max this amount isn't asked for")]
     NotDue,
     /// A closing is that of an open settlement.
     #[error("the settlement that it names isn't open")]

@@ -8,7 +8,7 @@ ghost use Rattle.ilp_book.specs.AnswerStep.{answer_step, expire_step};
 ghost use Rattle.ilp_book.specs.SettleStep.{payment, verdict_of, credit_growth, credit_step, ask_growth, ask_step, close_step};
 ghost use Rattle.ilp_desk.specs.Desk.{actors_of, base_of};
 ghost use Rattle.ilp_desk.specs.Opening.{IsWhyNot, IsWorkerCount, first_shares};
-ghost use Rattle.ilp_desk.specs.Session.{IsReplyAt, IsCopyOf};
+ghost use Rattle.ilp_desk.specs.Session.{IsReplyAt, IsLookAt, IsCopyOf};
 
 use crate::locked::LockedBook;
 use crate::naming::Naming;
@@ -219,6 +219,19 @@ impl<J: Naming> Desk<J> {
             (verdict_of accepted)) share.old share.new result }
     {
         self.lock(rt).settle_close(share, number, accepted, now)
+    }
+
+    /// The open settlement to a peer that has the least number behind this one, or of all, with its
+    /// amount in units of the peer's asset. Nothing is booked, and no share is raised.
+    pub fn open_settlement(
+        &self,
+        rt: &impl Wait,
+        peer: u32,
+        after: Option<u32>,
+    ) -> Option<(u32, u64)>
+        ensures { IsLookAt J.desk peer after result }
+    {
+        self.lock(rt).open_settlement(peer, after)
     }
 
     /// What the report of the book tells, in units of each asset. The copy is made with the lock

@@ -6,7 +6,7 @@ ghost use Rattle.ilp_book.specs.Book.{by, Does};
 ghost use Rattle.ilp_book.specs.Configured.{IsKnown};
 ghost use Rattle.ilp_book.specs.HoldStep.{incoming, hold_step, growth_of};
 ghost use Rattle.ilp_book.specs.AnswerStep.{answer_step, expire_step};
-ghost use Rattle.ilp_book.specs.SettleStep.{payment, verdict_of, credit_growth, credit_step, ask_growth, ask_step, close_step};
+ghost use Rattle.ilp_book.specs.SettleStep.{payment, verdict_of, open_settlement, credit_growth, credit_step, ask_growth, ask_step, close_step};
 ghost use Rattle.ilp_report.specs.Report.{snapshot_of};
 ghost use Rattle.ilp_desk.specs.Desk.{IsBookOf, actors_of, base_of};
 ghost use Rattle.ilp_desk.specs.Session.{IsSession};
@@ -195,6 +195,14 @@ impl<J: Naming> LockedBook<J> {
         let result = self.book.settle_close(share.actor(), number, accepted, now);
         share.count(&mut self.total, self.book.len() - before);
         result
+    }
+
+    /// `Book::open_settlement`. No share is lent for it, and the book stays as it is.
+    pub fn open_settlement(&self, peer: u32, after: Option<u32>) -> Option<(u32, u64)>
+        ensures value { result ≡ open_settlement self.now.entries peer after }
+        ensures of_desk { IsBookOf J.desk self.now }
+    {
+        self.book().open_settlement(peer, after)
     }
 
     /// What the report of the book tells now, in units of each asset: see `Snapshot::of`. `AllocError`

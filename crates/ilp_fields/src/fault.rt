@@ -46,6 +46,7 @@ pub enum Field {
     Engine,
     Threshold,
     SettleTo,
+    SettleMax,
     Prefix,
 }
 
@@ -87,6 +88,7 @@ impl Field {
             Field::Engine => "engine",
             Field::Threshold => "threshold",
             Field::SettleTo => "settle_to",
+            Field::SettleMax => "settle_max",
             Field::Prefix => "prefix",
         }
     }
@@ -134,7 +136,7 @@ pub enum ConfigFault {
     /// Two routes have one prefix.
     #[error("a prefix is given twice")]
     DoubleRoute,
-    /// `least` is above 0, `settle_to` stands without `threshold`, or not
+    /// `least` is above 0, `settle_to` or `settle_max` stands without `threshold`, or not
     /// `least <= settle_to < threshold`.
     #[error("the levels of a peer are out of order")]
     BadLevels,

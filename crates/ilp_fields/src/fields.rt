@@ -196,6 +196,27 @@ pub fn defaulted_amount(
     }
 }
 
+/// An amount from the least to the most, which needn't be there. It is refused with `BadValue` where
+/// the value is no integer or lies outside.
+pub fn optional_amount(
+    table: &Table,
+    field: Field,
+    least: u64,
+    most: u64,
+) -> Result<Option<u64>, ConfigFault>
+    ensures { Gives (λ amount. amount) result
+        (optional (is_natural least most) field (table_view table.now))
+        (natural_in field (table_view table.now)) }
+{
+    match value_at(table, field) {
+        None => Ok(None),
+        Some(value) => match natural(value) {
+            Some(amount) if least <= amount && amount <= most => Ok(Some(amount)),
+            _ => Err(ConfigFault::BadValue { field }),
+        },
+    }
+}
+
 /// An integer that has to be there.
 ///
 /// It is refused with `Missing` where the field is absent, and with `BadValue` where its value is no

@@ -14,24 +14,26 @@ use Rattle.ilp_desk.specs.declared.record.Record.{Record}
 use Rattle.ilp_desk.specs.declared.record.Recorded.TheVariants as recorded
 use Rattle.ilp_desk.specs.Desk.{PlainDesk}
 use Rattle.ilp_desk.specs.Portion.{Portion, portion, Holding, holding}
-use Rattle.ilp_desk.specs.Session.{IsReplyAt}
+use Rattle.ilp_desk.specs.Session.{IsReplyAt, IsLookAt}
 use Rattle.ilp_workers.specs.declared.links.EngineReply.{EngineReply}
 use Rattle.ilp_workers.specs.declared.links.EngineReply.TheVariants.{Accepted, Refused, Unknown}
 use Rattle.ilp_settler.specs.declared.turn.Turn.{Turn}
 use Rattle.ilp_settler.specs.declared.turn.Turn.TheVariants.{NoAccount, Idle, Kept, Closed}
 use Rattle.ilp_workers.specs.Links.{Tells, ToEngine, asked, asking, settled, settling}
 
--- its share, the records of what it booked, what its links tell (the moments of its clock, and what engines were handed), and
--- which peers' engines are known to have the account, by the peers' places
+-- its share, the records of what it booked, what its links tell (the moments of its clock, and what engines were handed), and,
+-- by the peers' places, whose engines are known to have the account, and which settlement the engine was asked for last
 pub record PlainSettler : Type 0 where
   pub share : Portion
   pub records : List Record
   pub moments : Option (List ℤ)
   pub engine : Option (List ToEngine)
   pub accounts : List Bool
+  pub tried : List (Option ℕ)
 
-abbrev pub settler : Portion → List Record → Option (List ℤ) → Option (List ToEngine) → List Bool → PlainSettler
-settler share records moments engine accounts = record { share = share; records = records; moments = moments; engine = engine; accounts = accounts }
+abbrev pub settler : Portion → List Record → Option (List ℤ) → Option (List ToEngine) → List Bool → List (Option ℕ) → PlainSettler
+settler share records moments engine accounts tried =
+    record { share = share; records = records; moments = moments; engine = engine; accounts = accounts; tried = tried }
 
 -- ---- accounts
 
@@ -55,6 +57,20 @@ account_told peer said = asked (asking peer said)
 abbrev pub HasAccount : Bool → ℕ → Option (List ToEngine) → Option (List ToEngine) → Type 0
 HasAccount true peer told told' = told' ≡ told
 HasAccount false peer told told' = Tells told (account_told peer true) told'
+
+-- ---- settlements that were tried
+
+-- none was tried yet
+abbrev pub none_tried : List (Option ℕ)
+none_tried = replicate most_peers None
+
+-- the settlement that the peer's engine was asked for last
+abbrev pub last_tried : List (Option ℕ) → ℕ → Option ℕ
+last_tried tried peer = unwrap_or (slice_get tried peer) None
+
+-- the same, once it was asked for the settlement n
+abbrev pub with_tried : List (Option ℕ) → ℕ → ℕ → List (Option ℕ)
+with_tried tried peer n = slice_set tried peer (Some n)
 
 -- ---- keys
 
@@ -85,11 +101,21 @@ pub record IsAsking (desk : PlainDesk) (peer : ℕ) (moments moments' : Option (
   pub booked : IsAskedAt desk peer now before after reply
   pub raised : after ≡ portion before.actor (before.entries + asks_of reply)
 
--- the settlement that a reply leads to: a new one, or the one that is still open
-abbrev pub settlement_of : Result Asked AskFault → Option Asked
-settlement_of (Ok a) = Some a
-settlement_of (Err (ask_fault.StillOpen number amount)) = Some (record { number = number; amount = amount })
-settlement_of (Err fault) = None
+-- ---- choosing an open settlement
+
+-- a settlement, by its number and its amount
+abbrev pub of_open : ℕ × ℕ → Asked
+of_open (number, amount) = record { number = number; amount = amount }
+
+-- where no open settlement lies behind the last one, the book is looked at for the first of all
+abbrev pub IsNextOr : PlainDesk → ℕ → Option (ℕ × ℕ) → Option (ℕ × ℕ) → Type 0
+IsNextOr desk peer (Some one) found = found ≡ Some one
+IsNextOr desk peer None found = IsLookAt desk peer None found
+
+-- The open settlement behind the one that was tried last is found, else the first of all. Each is a look at the book.
+abbrev pub IsChoosing : PlainDesk → ℕ → Option ℕ → Option (ℕ × ℕ) → Type 0
+IsChoosing desk peer None found = IsLookAt desk peer None found
+IsChoosing desk peer (Some last) found = (behind : Option (ℕ × ℕ)) × IsLookAt desk peer (Some last) behind × IsNextOr desk peer behind found
 
 -- ---- asking the engine
 
@@ -155,40 +181,43 @@ ClosesBy desk peer a (Some accepted) moments moments' before after turn = IsClos
 pub record IsWithoutAccount (peer : ℕ) (before after : PlainSettler) : Type 0 where
   pub unknown : knows_account before.accounts peer ≡ false
   pub denied : Tells before.engine (account_told peer false) after.engine
-  pub same : after ≡ settler before.share before.records before.moments after.engine before.accounts
+  pub same : after ≡ settler before.share before.records before.moments after.engine before.accounts before.tried
 
 -- The engine has the account, and there is no room for a record. No book is asked, and no engine for a settlement.
 pub record IsWithoutRoom (peer : ℕ) (before after : PlainSettler) : Type 0 where
   pub account : HasAccount (knows_account before.accounts peer) peer before.engine after.engine
-  pub same : after ≡ settler before.share before.records before.moments after.engine (with_account before.accounts peer)
+  pub same : after ≡ settler before.share before.records before.moments after.engine (with_account before.accounts peer) before.tried
 
--- what a turn comes to by a refusal of the book
-abbrev pub IsTurnOfFault : {E : Type 0} → AskFault → Result Turn E → Type 0
-IsTurnOfFault ask_fault.Memory turn = IsErr turn
-IsTurnOfFault fault turn = turn ≡ Ok (Idle fault)
-
--- No settlement is due, or it can't be booked. No engine is asked for one.
-pub record IsIdle {E : Type 0} (before after : PlainSettler) (engine : Option (List ToEngine)) (reply : Result Asked AskFault) (turn : Result Turn E) : Type 0 where
-  pub fault : AskFault
-  pub refused : reply ≡ Err fault
-  pub turn_is : IsTurnOfFault fault turn
-  pub records : after.records ≡ before.records
-  pub engine_stays : after.engine ≡ engine
+-- No engine is asked for a settlement.
+pub record IsIdle (before after : PlainSettler) (engine : Option (List ToEngine)) (share : Portion) (moments : Option (List ℤ)) : Type 0 where
+  pub same : after ≡ settler share before.records moments engine after.accounts before.tried
 
 -- The peer's engine is asked for the settlement, once, and a book is told what it said. Between the two sessions nothing is known
 -- of the book.
-pub record IsSettling {E : Type 0} (desk : PlainDesk) (peer : ℕ) (before after : PlainSettler) (engine : Option (List ToEngine)) (a : Asked) (share : Portion) (moments : Option (List ℤ)) (turn : Result Turn E) : Type 0 where
+pub record IsSettling (desk : PlainDesk) (peer : ℕ) (before after : PlainSettler) (engine : Option (List ToEngine)) (a : Asked) (share : Portion) (moments : Option (List ℤ)) (told : Turn) : Type 0 where
   pub said : EngineReply
   pub handed : Tells engine (settlement_told desk.config peer a said) after.engine
-  pub told : Turn
   pub closed : ClosesBy desk peer a (verdict_by said) moments after.moments (holding share before.records) (holding after.share after.records) told
-  pub turn_is : turn ≡ Ok told
+  pub tried : after.tried ≡ with_tried before.tried peer a.number
 
--- after a book was asked: by the settlement that its reply leads to
-abbrev pub GoesOn : {E : Type 0} → PlainDesk → ℕ → PlainSettler → PlainSettler → Option (List ToEngine) → Result Asked AskFault → Portion → Option (List ℤ) → Result Turn E → Option Asked → Type 0
-GoesOn desk peer before after engine reply share moments turn None =
-    IsIdle before after engine reply turn × (after.share ≡ share) × (after.moments ≡ moments)
-GoesOn desk peer before after engine reply share moments turn (Some a) = IsSettling desk peer before after engine a share moments turn
+-- an open settlement is taken up where one was found; else the turn tells why none was asked for
+abbrev pub TakesUp : PlainDesk → ℕ → PlainSettler → PlainSettler → Option (List ToEngine) → AskFault → Portion → Option (List ℤ) → Turn → Option (ℕ × ℕ) → Type 0
+TakesUp desk peer before after engine fault share moments told None = IsIdle before after engine share moments × (told ≡ Idle fault)
+TakesUp desk peer before after engine fault share moments told (Some one) = IsSettling desk peer before after engine (of_open one) share moments told
+
+-- A book refused a settlement, and was looked at for one that is open.
+pub record IsTakingUp (desk : PlainDesk) (peer : ℕ) (before after : PlainSettler) (engine : Option (List ToEngine)) (fault : AskFault) (share : Portion) (moments : Option (List ℤ)) (told : Turn) : Type 0 where
+  pub found : Option (ℕ × ℕ)
+  pub chosen : IsChoosing desk peer (last_tried before.tried peer) found
+  pub taken : TakesUp desk peer before after engine fault share moments told found
+
+-- after a book was asked: by a new settlement, or by an open one, unless memory was denied
+abbrev pub GoesOn : {E : Type 0} → PlainDesk → ℕ → PlainSettler → PlainSettler → Option (List ToEngine) → Portion → Option (List ℤ) → Result Turn E → Result Asked AskFault → Type 0
+GoesOn desk peer before after engine share moments turn (Ok a) =
+    (told : Turn) × IsSettling desk peer before after engine a share moments told × (turn ≡ Ok told)
+GoesOn desk peer before after engine share moments turn (Err ask_fault.Memory) = IsIdle before after engine share moments × IsErr turn
+GoesOn desk peer before after engine share moments turn (Err fault) =
+    (told : Turn) × IsTakingUp desk peer before after engine fault share moments told × (turn ≡ Ok told)
 
 -- The engine has the account, which is kept. A book is asked for a settlement, and then the engine.
 pub record IsTurn {E : Type 0} (desk : PlainDesk) (peer : ℕ) (before after : PlainSettler) (turn : Result Turn E) : Type 0 where
@@ -199,7 +228,7 @@ pub record IsTurn {E : Type 0} (desk : PlainDesk) (peer : ℕ) (before after : P
   pub share : Portion
   pub moments : Option (List ℤ)
   pub asked : IsAsking desk peer before.moments moments before.share share reply
-  pub goes_on : GoesOn desk peer before after engine reply share moments turn (settlement_of reply)
+  pub goes_on : GoesOn desk peer before after engine share moments turn reply
 
 -- what a turn for a peer is, by what it answers
 abbrev pub Turns : {E : Type 0} → PlainDesk → ℕ → PlainSettler → PlainSettler → Result Turn E → Type 0

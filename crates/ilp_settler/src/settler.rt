@@ -2,7 +2,7 @@
 ghost use Rattle.std.specs.Prelude.{◌≡◌, [], IfOk, IfErr};
 ghost use Rattle.ilp_book.specs.Configured.{IsKnown};
 ghost use Rattle.ilp_desk.specs.Portion.{holding};
-ghost use Rattle.ilp_settler.specs.Settler.{settler, no_accounts, Turns};
+ghost use Rattle.ilp_settler.specs.Settler.{settler, no_accounts, none_tried, Turns};
 
 use crate::settling::{LONGEST_KEY, MOST_PEERS, SettlerParts};
 use crate::turn::Turn;
@@ -24,7 +24,8 @@ impl<J: Naming, C: Clock + Drop, E: EngineLink + Drop, A: Allocator> Model for S
 
     ghost Value = { PlainSettler };
 
-    ghost view = { λ s. settler s.parts.share s.parts.records.items (C.told s.parts.clock) (E.told s.parts.engine) s.parts.accounts };
+    ghost view = { λ s. settler s.parts.share s.parts.records.items (C.told s.parts.clock) (E.told s.parts.engine)
+        s.parts.accounts s.parts.tried };
 }
 
 /// What was given for a settler that there is no memory for, as it was given.
@@ -50,7 +51,7 @@ impl<J: Naming, C: Clock + Drop, E: EngineLink + Drop, A: Allocator> Settler<J, 
     ) -> Result<Settler<J, C, E, A>, NoSettler<J, C, E>>
     where
         A: Copy,
-        ensures settler { IfOk result (λ s. s ≡ settler share [] (C.told clock) (E.told engine) no_accounts) }
+        ensures settler { IfOk result (λ s. s ≡ settler share [] (C.told clock) (E.told engine) no_accounts none_tried) }
         ensures share { IfErr result (λ e. e.share ≡ share) }
         ensures links { IfErr result (λ e. (e.clock ≡ clock) × (e.engine ≡ engine)) }
     {
@@ -68,6 +69,7 @@ impl<J: Naming, C: Clock + Drop, E: EngineLink + Drop, A: Allocator> Settler<J, 
             engine,
             key,
             accounts: [false; MOST_PEERS],
+            tried: [None; MOST_PEERS],
         };
         Ok(Settler { parts })
     }
@@ -88,9 +90,10 @@ impl<J: Naming, C: Clock + Drop, E: EngineLink + Drop, A: Allocator> Settler<J, 
 
     /// Has a peer's engine settle what is due to the peer (RFC 0038), or what is still open. An
     /// engine that never said that it has an account of the peer is asked for that first, and where
-    /// it says no the turn ends as `NoAccount`. Then the settlement is booked, or the open one is
-    /// taken up; the engine is asked for it under the key `RUN-NUMBER`, while no lock is held; and
-    /// what it said is booked. The error is want of memory, which is denied before the engine is
+    /// it says no the turn ends as `NoAccount`. Then a settlement is booked; where the book refuses
+    /// that, the open one behind the one that was tried last for this peer is taken up, else the
+    /// first of all. The engine is asked for it under the key `RUN-NUMBER`, while no lock is held,
+    /// and what it said is booked. Where none is open, the turn ends as `Idle`. The error is want of memory, which is denied before the engine is
     /// asked to settle. Nothing is booked then, share and records are as they were, and that the
     /// engine has the account is kept, so that the next turn does not ask for it again.
     pub fn turn(&mut self, rt: &impl Wait, desk: &Desk<J>, peer: u32) -> Result<Turn, AllocError>

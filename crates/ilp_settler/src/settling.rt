@@ -1,10 +1,11 @@
 //! Of what a settler consists, and how it has a peer's engine settle.
 ghost use Rattle.std.specs.Prelude.{◌≡◌, ◌<◌, ◌≤◌, Ok, true, false, vec_len, vec_capacity, string_bytes, string_capacity};
+ghost use Rattle.ilp_accounts.specs.Limits.{most_peers};
 ghost use Rattle.ilp_book.specs.Configured.{IsKnown};
 ghost use Rattle.ilp_desk.specs.Portion.{holding};
 ghost use Rattle.ilp_workers.specs.declared.links.EngineReply.{EngineReply};
 ghost use Rattle.ilp_workers.specs.Links.{Tells};
-ghost use Rattle.ilp_settler.specs.Settler.{settler, longest_key, key_text, knows_account, with_account, account_told, HasAccount, IsAsking, settlement_told, verdict_by, IsClosing, ClosesBy, record_of_close, Turns};
+ghost use Rattle.ilp_settler.specs.Settler.{settler, longest_key, key_text, knows_account, with_account, account_told, HasAccount, last_tried, with_tried, IsAsking, IsChoosing, IsTakingUp, settlement_told, verdict_by, IsClosing, ClosesBy, record_of_close, Turns};
 
 use crate::turn::Turn;
 use ilp_accounts::Config;
@@ -33,6 +34,8 @@ pub(crate) struct SettlerParts<J: Naming, C: Clock + Drop, E: EngineLink + Drop,
     pub(crate) key: String<A>,
     // By peers' places: whether the engine said that it has the account.
     pub(crate) accounts: [bool; MOST_PEERS],
+    // By peers' places: the settlement that the engine was asked for last.
+    pub(crate) tried: [Option<u32>; MOST_PEERS],
     ghost room: { longest_key ≤ string_capacity key },
 }
 
@@ -47,9 +50,9 @@ impl<J: Naming, C: Clock + Drop, E: EngineLink + Drop, A: Allocator> SettlerPart
         requires known { IsKnown J.desk.config peer }
         ensures { Turns J.desk peer
             (settler self.old.share self.old.records.items (C.told self.old.clock)
-            (E.told self.old.engine) self.old.accounts)
+            (E.told self.old.engine) self.old.accounts self.old.tried)
             (settler self.new.share self.new.records.items (C.told self.new.clock)
-            (E.told self.new.engine) self.new.accounts)
+            (E.told self.new.engine) self.new.accounts self.new.tried)
             result }
     {
         if !self.has_account(desk.config(), peer) {
@@ -60,14 +63,41 @@ impl<J: Naming, C: Clock + Drop, E: EngineLink + Drop, A: Allocator> SettlerPart
         };
         match self.ask(rt, desk, peer) {
             Ok(asked) => Ok(self.carry_out(rt, desk, peer, asked)),
-            Err(AskFault::StillOpen { number, amount }) => {
-                let asked = Asked { number, amount };
-                Ok(self.carry_out(rt, desk, peer, asked))
-            }
-            Err(AskFault::NotDue { balance }) => Ok(Turn::Idle(AskFault::NotDue { balance })),
-            Err(AskFault::Full) => Ok(Turn::Idle(AskFault::Full)),
             Err(AskFault::Memory) => Err(AllocError),
+            Err(fault) => Ok(self.take_up(rt, desk, peer, fault)),
         }
+    }
+
+    // Has the peer's engine settle what is open, if anything is. No other settlement is asked for,
+    // for this reason.
+    fn take_up(&mut self, rt: &impl Wait, desk: &Desk<J>, peer: u32, fault: AskFault) -> Turn
+        requires known { IsKnown J.desk.config peer }
+        requires room { vec_len self.old.records < vec_capacity self.old.records }
+        ensures taken { IsTakingUp J.desk peer
+            (settler self.old.share self.old.records.items (C.told self.old.clock)
+            (E.told self.old.engine) self.old.accounts self.old.tried)
+            (settler self.new.share self.new.records.items (C.told self.new.clock)
+            (E.told self.new.engine) self.new.accounts self.new.tried)
+            (E.told self.old.engine) fault self.old.share (C.told self.old.clock) result }
+        ensures accounts { self.new.accounts ≡ self.old.accounts }
+    {
+        match self.choose(rt, desk, peer) {
+            Some((number, amount)) => self.carry_out(rt, desk, peer, Asked { number, amount }),
+            None => Turn::Idle(fault),
+        }
+    }
+
+    // The open settlement behind the one that was tried last, else the first of all.
+    fn choose(&self, rt: &impl Wait, desk: &Desk<J>, peer: u32) -> Option<(u32, u64)>
+        requires known { IsKnown J.desk.config peer }
+        ensures { IsChoosing J.desk peer (last_tried self.now.tried peer) result }
+    {
+        if let Some(last) = self.tried[place_of(desk.config(), peer)] {
+            if let Some(open) = desk.open_settlement(rt, peer, Some(last)) {
+                return Some(open);
+            }
+        }
+        desk.open_settlement(rt, peer, None)
     }
 
     // Whether the peer's engine has the account: where it did not say so before, it is asked now.
@@ -81,11 +111,9 @@ impl<J: Naming, C: Clock + Drop, E: EngineLink + Drop, A: Allocator> SettlerPart
             (E.told self.old.engine) (E.told self.new.engine) }
         ensures kept { result ≡ true → self.new.accounts ≡ with_account self.old.accounts peer }
         ensures books { (self.new.share ≡ self.old.share) × (self.new.records ≡ self.old.records)
-            × (self.new.clock ≡ self.old.clock) }
+            × (self.new.clock ≡ self.old.clock) × (self.new.tried ≡ self.old.tried) }
     {
-        // Called for what its contract tells: there are at most as many peers as flags.
-        let _ = config.peers();
-        let place = peer as usize;
+        let place = place_of(config, peer);
         if !self.accounts[place] {
             if !self.engine.account(peer) {
                 return false;
@@ -102,6 +130,7 @@ impl<J: Naming, C: Clock + Drop, E: EngineLink + Drop, A: Allocator> SettlerPart
             self.old.share self.new.share result }
         ensures records { self.new.records ≡ self.old.records }
         ensures accounts { self.new.accounts ≡ self.old.accounts }
+        ensures tried { self.new.tried ≡ self.old.tried }
         ensures engine { self.new.engine ≡ self.old.engine }
     {
         let now = self.clock.now();
@@ -115,9 +144,11 @@ impl<J: Naming, C: Clock + Drop, E: EngineLink + Drop, A: Allocator> SettlerPart
             (settlement_told config.now peer asked result) (E.told self.new.engine) }
         ensures books { (self.new.share ≡ self.old.share) × (self.new.records ≡ self.old.records)
             × (self.new.clock ≡ self.old.clock) × (self.new.accounts ≡ self.old.accounts) }
+        ensures tried { self.new.tried ≡ with_tried self.old.tried peer asked.number }
     {
         put_key(&mut self.key, config, asked.number);
         let scale = config.scale(peer);
+        self.tried[place_of(config, peer)] = Some(asked.number);
         self.engine
             .settle(peer, self.key.as_str(), asked.amount, scale)
     }
@@ -133,6 +164,7 @@ impl<J: Naming, C: Clock + Drop, E: EngineLink + Drop, A: Allocator> SettlerPart
             (C.told self.new.clock) (holding self.old.share self.old.records.items)
             (holding self.new.share self.new.records.items) result }
         ensures accounts { self.new.accounts ≡ self.old.accounts }
+        ensures tried { self.new.tried ≡ with_tried self.old.tried peer asked.number }
     {
         match self.settle(desk.config(), peer, asked) {
             EngineReply::Accepted => self.close(rt, desk, peer, asked, true),
@@ -157,6 +189,7 @@ impl<J: Naming, C: Clock + Drop, E: EngineLink + Drop, A: Allocator> SettlerPart
             (C.told self.new.clock) (holding self.old.share self.old.records.items)
             (holding self.new.share self.new.records.items) result }
         ensures accounts { self.new.accounts ≡ self.old.accounts }
+        ensures tried { self.new.tried ≡ self.old.tried }
         ensures engine { self.new.engine ≡ self.old.engine }
     {
         let number = asked.number;
@@ -178,6 +211,17 @@ impl<J: Naming, C: Clock + Drop, E: EngineLink + Drop> SettlerParts<J, C, E, Glo
         let SettlerParts { share, records, .. } = self;
         End::new(share, records)
     }
+}
+
+// Where what is known of a peer stands.
+fn place_of(config: &Config, peer: u32) -> usize
+    requires known { IsKnown config.now peer }
+    ensures place { result ≡ peer }
+    ensures within { result < most_peers }
+{
+    // Called for what its contract tells: there are at most as many peers as places.
+    let _ = config.peers();
+    peer as usize
 }
 
 // Writes the key of the settlement of this number in place of what stands there, into the room that

@@ -7,11 +7,11 @@ use ilp_book::AskFault;
 pub enum Turn {
     /// The peer's engine was asked whether it has an account of the peer, and said that it has none.
     NoAccount,
-    /// No settlement is due, or the book can't have another; this is why.
+    /// No settlement is due, or the book can't have another; this is why. None is open.
     Idle(AskFault),
     /// The settlement of this number is not closed by this turn: the engine did not say what became
-    /// of it, or the book had it open no more when it did. If it is open, the next turn tries it
-    /// again under the same key.
+    /// of it, or the book had it open no more when it did. While it is open, later turns try it again
+    /// under the same key.
     Kept { number: u32 },
     /// The settlement of this number is closed: the engine accepted it, or refused it, and then the
     /// peer has its amount back.

@@ -1,5 +1,7 @@
 //! The open settlements to all peers, by the peers' places.
 ghost use Rattle.std.specs.Prelude.{◌≡◌, ◌<◌, [], length, IfOk, replicate, slice_get};
+ghost use Rattle.std.specs.List.{find};
+ghost use Rattle.ilp_journal.specs.Journal.{is_behind};
 ghost use Rattle.ilp_tallies.specs.declared.open_asks.TheConstants.{MOST_OPEN};
 ghost use Rattle.ilp_tallies.specs.OpenAsks as asks;
 ghost use Rattle.ilp_tallies.specs.OpenAsks.{AreOpenAsks, HasRoomToAsk, asks_after};
@@ -35,6 +37,20 @@ pub(crate) fn first_ask<A: Allocator>(rows: &Vec<OpenAsks, A>, peer: u32) -> Opt
 {
     match rows.get(peer as usize) {
         Some(row) => row.first(),
+        None => None,
+    }
+}
+
+/// The first number of an open settlement to a peer behind this one, or of all.
+pub(crate) fn next_ask<A: Allocator>(
+    rows: &Vec<OpenAsks, A>,
+    peer: u32,
+    after: Option<u32>,
+) -> Option<u32>
+    ensures { result ≡ find (is_behind after) (asks.asks_row rows.now.items peer) }
+{
+    match rows.get(peer as usize) {
+        Some(row) => row.next(after),
         None => None,
     }
 }

@@ -8,4 +8,5 @@ mod rows;
 mod step;
 mod tallies;
 
+pub use open_asks::MOST_OPEN;
 pub use tallies::Tallies;

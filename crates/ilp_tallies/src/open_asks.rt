@@ -1,12 +1,13 @@
 //! The open settlements to one peer.
 ghost use Rattle.std.specs.Prelude.{◌≡◌, ◌<◌, [], ◌∷◌, ◌++◌, length, filter, not, ◌==◌, slice_get};
+ghost use Rattle.std.specs.List.{find};
+ghost use Rattle.ilp_journal.specs.Journal.{is_behind};
 ghost use Rattle.ilp_tallies.specs.declared.open_asks.TheConstants.{MOST_OPEN};
 
 use std::marker::Model;
 
-/// How many settlements to one peer may be open at once. There is room for more than the one that
-/// a book allows, so that a book may allow more without memory in another form.
-pub(crate) const MOST_OPEN: usize = 4;
+/// How many settlements to one peer may be open at once.
+pub const MOST_OPEN: usize = 4;
 
 /// The numbers of the open settlements to a peer, in the order in which they were asked for.
 #[derive(Drop)]
@@ -54,6 +55,13 @@ impl OpenAsks {
         Some(self.numbers[0])
     }
 
+    /// The first one whose number lies behind this one, or of all.
+    pub(crate) fn next(&self, after: Option<u32>) -> Option<u32>
+        ensures { result ≡ find (is_behind after) self.now }
+    {
+        first_behind(&self.numbers[..self.count], after)
+    }
+
     /// Adds the number of a settlement that is asked for.
     pub(crate) fn push(&mut self, number: u32)
         requires { length self.old < MOST_OPEN }
@@ -75,5 +83,25 @@ impl OpenAsks {
             }
         }
         left
+    }
+}
+
+// The first of these numbers that lies behind this one, or of all.
+fn first_behind(numbers: &[u32], after: Option<u32>) -> Option<u32>
+    ensures { result ≡ find (is_behind after) numbers.now }
+{
+    numbers
+        .iter()
+        .find(|number| lies_behind(after, **number))
+        .copied()
+}
+
+// Whether a number lies behind another, where there is one.
+fn lies_behind(after: Option<u32>, number: u32) -> bool
+    ensures { result ≡ is_behind after number }
+{
+    match after {
+        Some(after) => after < number,
+        None => true,
     }
 }

@@ -7,7 +7,7 @@ use std::rt::Runtime;
 use std::{fs, io};
 
 // The names of the configurations, each of which has a file of scripts beside it.
-const CONFIGURATIONS: [&str; 10] = [
+const CONFIGURATIONS: [&str; 11] = [
     "two_peers",
     "dear_peer",
     "short_journal",
@@ -18,6 +18,7 @@ const CONFIGURATIONS: [&str; 10] = [
     "settlements",
     "settlements_short_journal",
     "settlements_scales",
+    "settlements_in_parts",
 ];
 
 /// Prints what each script prints, under its name.

@@ -4,7 +4,7 @@ use crate::calls::{Call, Made, Payment, Sent};
 use crate::chance::Chance;
 use crate::configured::PEERS;
 use crate::locks::{condition, preimage};
-use crate::walks::{Ends, ask_at, ended_by, first_open_ask, open_hold_at};
+use crate::walks::{Ends, ask_at, ended_by, open_hold_at, open_settlement};
 use ilp_book::{Book, PeerReply};
 use ilp_settlement::Quantity;
 
@@ -72,7 +72,7 @@ fn choose(chance: &mut Chance, book: &Book, ends: &Ends, now: i64) -> Call {
         },
         12 | 13 => Call::Expire,
         14 | 15 => Call::Credit(payment(chance)),
-        16 | 17 => Call::Ask {
+        16..=18 => Call::Ask {
             peer: chance.below(PEERS),
         },
         _ => Call::Close {
@@ -141,10 +141,10 @@ fn hold_number(chance: &mut Chance, book: &Book, ends: &Ends) -> u32 {
     number
 }
 
-// The open settlement to some peer, or any settlement that stands a little before some entry.
+// The first open settlement to some peer, or any settlement that stands a little before some entry.
 fn ask_number(chance: &mut Chance, book: &Book, ends: &Ends) -> u32 {
     if chance.is_one_in(3) {
-        if let Some((number, _)) = first_open_ask(book, ends, chance.below(PEERS)) {
+        if let Some((number, _)) = open_settlement(book, ends, chance.below(PEERS), None) {
             return number;
         }
     }

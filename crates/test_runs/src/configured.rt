@@ -18,6 +18,7 @@ const USD: u32 = 0;
 const EUR: u32 = 1;
 
 // Alice and bob have one asset, and carol another. Bob may owe little, and no settlement to bob is due.
+// What carol is owed is mostly settled in parts.
 const TEXT: &str = r#"
 address = "test.hub"
 run = "r1"
@@ -68,6 +69,7 @@ least = -50000
 engine = "127.0.0.1:7004"
 threshold = 5000
 settle_to = -1000
+settle_max = 9000
 [[route]]
 prefix = "test.alice"
 peer = "alice"
@@ -90,15 +92,30 @@ pub(crate) struct Account {
     pub(crate) least: i128,
     pub(crate) fee_ppm: u128,
     pub(crate) max_packet: u64,
-    /// The threshold, and what a settlement brings the balance down to.
-    pub(crate) levels: Option<(i128, i128)>,
+    /// When a settlement is due, if ever.
+    pub(crate) levels: Option<Levels>,
+}
+
+/// When a settlement to a peer is due, and for how much.
+#[derive(Clone, Copy)]
+pub(crate) struct Levels {
+    /// From which balance on.
+    pub(crate) threshold: i128,
+    /// The balance that is to be left.
+    pub(crate) settle_to: i128,
+    /// How much one settlement is for at most.
+    pub(crate) settle_max: u64,
 }
 
 const ALICE: Account = Account {
     least: -9_223_372_036_854_775_808,
     fee_ppm: 0,
     max_packet: 18_446_744_073_709_551_615,
-    levels: Some((1_000, 200)),
+    levels: Some(Levels {
+        threshold: 1_000,
+        settle_to: 200,
+        settle_max: 18_446_744_073_709_551_615,
+    }),
 };
 
 const BOB: Account = Account {
@@ -112,7 +129,11 @@ const CAROL: Account = Account {
     least: -50_000,
     fee_ppm: 0,
     max_packet: 18_446_744_073_709_551_615,
-    levels: Some((5_000, -1_000)),
+    levels: Some(Levels {
+        threshold: 5_000,
+        settle_to: -1_000,
+        settle_max: 9_000,
+    }),
 };
 
 /// What the configuration says of the peer at this place.

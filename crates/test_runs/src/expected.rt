@@ -1,7 +1,7 @@
 //! What a call is to be answered, by the rules and by walks over the book.
 
 use crate::calls::{Call, Made, Payment, Reply, Sent};
-use crate::configured::{account_of, asset_of, scale_of};
+use crate::configured::{Levels, account_of, asset_of, scale_of};
 use crate::locks::meets;
 use crate::terms::terms;
 use crate::walks::{self, Ends};
@@ -12,6 +12,9 @@ use ilp_journal::{Cause, Hold};
 use ilp_settlement::Quantity;
 
 const MOST: u128 = 18_446_744_073_709_551_615;
+
+/// How many settlements to a peer may be open at once.
+pub(crate) const MOST_OPEN: u32 = 4;
 
 /// What a call at this moment is to be answered.
 pub(crate) fn expected(book: &Book, ends: &Ends, moment: i64, made: &Made) -> Reply {
@@ -146,9 +149,8 @@ fn in_units(quantity: &Quantity, scale: u8) -> u128 {
 }
 
 fn asked(book: &Book, ends: &Ends, peer: u32) -> Result<Asked, AskFault> {
-    if let Some((number, ask)) = walks::first_open_ask(book, ends, peer) {
-        let amount = ask.amount;
-        return Err(AskFault::StillOpen { number, amount });
+    if let Some(fault) = still_open(book, ends, peer) {
+        return Err(fault);
     }
     let balance = walks::balance(book, peer);
     let Some(amount) = due(balance, account_of(peer).levels) else {
@@ -163,14 +165,25 @@ fn asked(book: &Book, ends: &Ends, peer: u32) -> Result<Asked, AskFault> {
     })
 }
 
-// What lies above the level to which a settlement goes, where the balance is at the threshold.
-fn due(balance: i128, levels: Option<(i128, i128)>) -> Option<u64> {
-    let (threshold, settle_to) = levels?;
-    if balance < threshold {
+// The refusal where as many settlements to a peer are open as may be. It names the first.
+fn still_open(book: &Book, ends: &Ends, peer: u32) -> Option<AskFault> {
+    if walks::open_asks(book, ends, peer) < MOST_OPEN {
         return None;
     }
-    let above = balance.wrapping_sub(settle_to);
-    Some(u64::try_from(above).unwrap_or(u64::MAX))
+    let (number, amount) = walks::open_settlement(book, ends, peer, None)?;
+    Some(AskFault::StillOpen { number, amount })
+}
+
+// What lies above the level to which a settlement goes, as far as one may go, where the balance is at
+// the threshold.
+fn due(balance: i128, levels: Option<Levels>) -> Option<u64> {
+    let levels = levels?;
+    if balance < levels.threshold {
+        return None;
+    }
+    let above = balance.wrapping_sub(levels.settle_to);
+    let above = u64::try_from(above).unwrap_or(u64::MAX);
+    Some(above.min(levels.settle_max))
 }
 
 fn closed(book: &Book, ends: &Ends, number: u32) -> Result<u32, NotOpen> {

@@ -1,6 +1,7 @@
 //! The readers of a book, compared with walks over its entries.
 
 use crate::configured::{ASSETS, PEERS};
+use crate::expected::MOST_OPEN;
 use crate::walks::{self, Ends};
 use ilp_book::Book;
 use std::io;
@@ -42,6 +43,54 @@ fn peer_agrees(rt: &impl Print, book: &Book, ends: &Ends, peer: u32) -> io::Resu
         println!(rt;
             "open_holds {peer} is to be {open}, and is {}",
             book.open_holds(peer)
+        )?;
+        return Ok(false);
+    }
+    settlements_agree(rt, book, ends, peer)
+}
+
+// Behind a late entry, the end and the greatest number, and then from one open settlement to the next.
+fn settlements_agree(rt: &impl Print, book: &Book, ends: &Ends, peer: u32) -> io::Result<bool> {
+    let late = book.len().saturating_sub(20);
+    for after in [late, book.len(), u32::MAX] {
+        if !settlement_agrees(rt, book, ends, peer, Some(after))? {
+            return Ok(false);
+        }
+    }
+    each_settlement_agrees(rt, book, ends, peer)
+}
+
+fn each_settlement_agrees(
+    rt: &impl Print,
+    book: &Book,
+    ends: &Ends,
+    peer: u32,
+) -> io::Result<bool> {
+    let mut after = None;
+    for _ in 0..=MOST_OPEN {
+        if !settlement_agrees(rt, book, ends, peer, after)? {
+            return Ok(false);
+        }
+        match book.open_settlement(peer, after) {
+            Some((number, _)) => after = Some(number),
+            None => return Ok(true),
+        }
+    }
+    Ok(true)
+}
+
+fn settlement_agrees(
+    rt: &impl Print,
+    book: &Book,
+    ends: &Ends,
+    peer: u32,
+    after: Option<u32>,
+) -> io::Result<bool> {
+    let open = walks::open_settlement(book, ends, peer, after);
+    let told = book.open_settlement(peer, after);
+    if told != open {
+        println!(rt;
+            "the settlement to {peer} behind {after:?} is to be {open:?}, and is {told:?}"
         )?;
         return Ok(false);
     }

@@ -52,7 +52,7 @@ pub(crate) const RUNS: [Run; 7] = [
     },
     Run {
         name: 2,
-        seed: 4,
+        seed: 24,
         before: 0,
         steps: 500,
         journal: 4096,

@@ -12,7 +12,9 @@ pub(crate) use holds::{answer_of, earliest, fulfilled, hold_at, open_hold_at, op
 use ilp_book::Book;
 use ilp_journal::What;
 pub(crate) use peers::balance;
-pub(crate) use settlements::{Kept, ask_at, closing_of, first_open_ask, kept_under, open_ask_at};
+pub(crate) use settlements::{
+    Kept, ask_at, closing_of, kept_under, open_ask_at, open_asks, open_settlement,
+};
 
 /// What happened at an entry.
 pub(crate) fn what_at(book: &Book, number: u32) -> Option<&What> {

@@ -1,6 +1,7 @@
 //! Scenes of a desk whose worker answers connections and whose settler has turns.
 
 mod answering;
+mod closing;
 mod cuts;
 mod memory;
 mod playing;
@@ -10,6 +11,7 @@ mod turns;
 use crate::links::engine::Sayings;
 use crate::opening::{Play, open_desk};
 use crate::row::{moments_of, octets_of, said};
+use closing::close;
 use cuts::cut_each;
 use ilp_desk::{Desk, Naming, Share};
 use memory::{deny_settler, deny_workers};
@@ -23,6 +25,8 @@ use std::sync::Wait;
 enum Act {
     /// A worker and a settler.
     Both,
+    /// First a worker and then a settler, whose desk is closed.
+    Close,
     /// Workers, each of which is denied another growth.
     DenyWorkers,
     /// A settler that is denied each growth.
@@ -35,6 +39,7 @@ impl Act {
     fn of(word: &str) -> Option<Act> {
         match word {
             "both" => Some(Act::Both),
+            "close" => Some(Act::Close),
             "deny-workers" => Some(Act::DenyWorkers),
             "deny-settler" => Some(Act::DenySettler),
             "cut" => Some(Act::Cut),
@@ -75,6 +80,7 @@ impl<R: Print + Wait> Play<R> for Scene<'_> {
     ) -> io::Result<()> {
         match self.act {
             Act::Both => take_turns(rt, &desk, shares, &self.given),
+            Act::Close => close(rt, desk, shares, &self.given),
             Act::DenyWorkers => deny_workers(rt, &desk, shares, &self.given),
             Act::DenySettler => deny_settler(rt, &desk, shares, &self.given),
             Act::Cut => cut_each(rt, &desk, shares, &self.given),

@@ -5,13 +5,13 @@ ghost use Rattle.ilp_desk.specs.Desk.{actors_of, base_of};
 
 mod at_once;
 mod forwards;
-mod gathering;
+pub(crate) mod gathering;
 mod many;
 mod memory;
 mod quiet;
 mod reporting;
 mod sweeping;
-mod totals;
+pub(crate) mod totals;
 mod unlocked;
 
 use crate::row::{moments_of, octets_of, said};

@@ -4,9 +4,9 @@ ghost use Rattle.ilp_journal.specs.Journal.{open_ask_at};
 ghost use Rattle.ilp_book.specs.Book.{by, Does};
 ghost use Rattle.ilp_book.specs.Configured.{IsKnown};
 ghost use Rattle.ilp_book.specs.Lawful.{IsLawful, IsFreshCredit, IsDueAsk};
-ghost use Rattle.ilp_book.specs.SettleStep.{payment, verdict_of, credit_fitted, credit_booked, credit_growth, credit_step, ask_fitted, ask_booked, ask_growth, ask_step, close_step};
+ghost use Rattle.ilp_book.specs.SettleStep.{payment, verdict_of, open_settlement, credit_fitted, credit_booked, credit_growth, credit_step, ask_fitted, ask_booked, ask_growth, ask_step, close_step};
 
-use crate::asks::{closing, due_amount, open_ask_at, still_open};
+use crate::asks::{closing, due_amount, open_ask_at, open_settlement, still_open};
 use crate::book::Book;
 use crate::calls::{Asked, Kept};
 use crate::credits::kept_reply;
@@ -51,9 +51,9 @@ impl<A: Allocator + Clone> Book<A> {
         }
     }
 
-    /// Asks for a settlement to a peer, where none to it is open and its balance has reached its
-    /// threshold: for what lies above `settle_to`, but no more than 18446744073709551615 units of
-    /// its asset. It takes the memory for the entry that closes it too. The refusals come in the
+    /// Asks for a settlement to a peer, where fewer than four to it are open and its balance has
+    /// reached its threshold: for what lies above `settle_to`, but no more than `settle_max`, in
+    /// units of its asset. It takes the memory for the entry that closes it too. The refusals come in the
     /// order of `AskFault`; each leaves the book as it was.
     #[tactic(auto, unfolding(crate::specs::SettleStep::ask_step, crate::specs::SettleStep::ask_checked))]
     pub fn ask(&mut self, actor: u32, peer: u32, now: i64) -> Result<Asked, AskFault>
@@ -159,6 +159,14 @@ impl<A: Allocator> Book<A> {
             actor,
             what,
         }))
+    }
+
+    /// The open settlement to a peer that has the least number behind this one, or of all, with its
+    /// amount in units of the peer's asset.
+    pub fn open_settlement(&self, peer: u32, after: Option<u32>) -> Option<(u32, u64)>
+        ensures { result ≡ open_settlement self.now.entries peer after }
+    {
+        open_settlement(&self.journal, &self.tables.tallies, peer, after)
     }
 
     // The settlement under a number, if it is open.

@@ -15,7 +15,7 @@ ghost use Rattle.ilp_book.specs.Lawful.{IsLawful, KeepsRule, KeepsRuleOf, HasTer
 
 use super::Carrying;
 use crate::answers::open_hold_at;
-use crate::asks::{due_amount, open_ask_at};
+use crate::asks::{are_few_open, due_amount, open_ask_at};
 use crate::book::is_short;
 use crate::moments::{after, last_moment};
 use crate::rule::BrokenRule;
@@ -144,7 +144,7 @@ impl<A: Allocator> Carrying<A> {
             return Err(BrokenRule::Peer);
         }
         let tallies = &self.tables.tallies;
-        if tallies.open_asks(ask.peer) > 0 {
+        if !are_few_open(tallies, ask.peer) {
             return Err(BrokenRule::StillOpen);
         }
         let balance = tallies.balance(ask.peer);

@@ -2,13 +2,13 @@
 
 use super::books::{CONDITION, DEADLINE, START, hold};
 use super::settlements::{ALICE, BOB, FILLED, ask, credit, credit_again, fill};
-use super::{FIRST_OF_A_BOOK, GROWTHS, lending};
+use super::{FIRST_OF_A_BOOK, GROWTHS, LENDING, lending};
 use ilp_accounts::Config;
-use ilp_book::{AskFault, Book, CarryFault};
+use ilp_book::{AskFault, Book, BrokenRule, CarryFault};
 use ilp_io::{Narrow, Recording, WhenFull, WriteFault};
 use ilp_journal::{Cause, What};
 use ilp_packet::Prepare;
-use std::alloc::{AllocError, Allocator};
+use std::alloc::{AllocError, Allocator, Global};
 use std::process::Abort;
 use std::test::Fail;
 use test_allocator::DenyingAllocator;
@@ -104,12 +104,10 @@ fn look_at<A: Allocator + Clone>(rt: &(impl Abort + AllocGlobal), book: &mut Boo
     assert!(rt; is_ended(book, FILLED + 4, FILLED + 2, Cause::Late));
     assert!(rt; is_ended(book, FILLED + 5, FILLED + 3, Cause::Restart));
     credit_again(rt, book, 0, FILLED);
+    assert_eq!(rt; book.open_settlement(BOB, None), Some((FILLED + 1, 1_800)));
     assert!(rt; BOB < book.config().peers());
-    let open = AskFault::StillOpen {
-        number: FILLED + 1,
-        amount: 1_800,
-    };
-    assert_eq!(rt; book.ask(0, BOB, CARRIED), Err(open));
+    let low = AskFault::NotDue { balance: 200 };
+    assert_eq!(rt; book.ask(0, BOB, CARRIED), Err(low));
 }
 
 // Whether an entry releases a hold for this cause, at the moment at which the book was carried over.
@@ -123,6 +121,71 @@ fn is_ended<A: Allocator>(book: &Book<A>, number: u32, ended: u32, why: Cause) -
         }
         _ => false,
     }
+}
+
+// The text was saved where no `settle_max` was configured. It goes on where one is, unless the
+// settlement in it is of more.
+#[test]
+fn an_earlier_settlement_beside_a_settle_max(rt: HostRuntime) -> Result<(), Fail> {
+    let alloc = rt.alloc();
+    let too_much = CarryFault::Unlawful {
+        entry: 1,
+        rule: BrokenRule::NotDue,
+    };
+    assert_eq!(rt; fault_of(alloc, TEXT, "")?, None);
+    assert_eq!(rt; fault_of(alloc, TEXT, "settle_max = 1800")?, None);
+    assert_eq!(rt; fault_of(alloc, TEXT, "settle_max = 1799")?, Some(too_much));
+    Ok(())
+}
+
+#[test]
+fn four_open_settlements_and_a_fifth(rt: HostRuntime) -> Result<(), Fail> {
+    let fifth = CarryFault::Unlawful {
+        entry: 5,
+        rule: BrokenRule::StillOpen,
+    };
+    assert_eq!(rt; fault_of_parts(rt.alloc(), 4)?, None);
+    assert_eq!(rt; fault_of_parts(rt.alloc(), 5)?, Some(fifth));
+    Ok(())
+}
+
+// Why so many open settlements are not carried over.
+fn fault_of_parts(alloc: Global, parts: u32) -> Result<Option<CarryFault>, Fail> {
+    let text = text_of_parts(alloc, parts)?;
+    fault_of(alloc, &text, "settle_max = 300")
+}
+
+// The text of a journal in which bob is owed 3000, and so many settlements of 300 are open.
+fn text_of_parts(alloc: Global, parts: u32) -> Result<String, AllocError> {
+    let mut text = String::new(alloc);
+    text.push_str("ilp-journal 1\n1735689600000 0 credited bob 6b00 3000 2 3000\n")?;
+    for _ in 0..parts {
+        text.push_str("1735689600000 0 asked bob 300\n")?;
+    }
+    let last = format!(in alloc; "end {}\n", parts.saturating_add(1))?;
+    text.push_str(&last)?;
+    Ok(text)
+}
+
+// Why a text is not carried over, where the configuration has this line more of bob.
+fn fault_of(alloc: Global, text: &str, line: &str) -> Result<Option<CarryFault>, Fail> {
+    let config = lending_with(alloc, line)?;
+    Ok(fault_under(alloc, &config, text))
+}
+
+fn fault_under(alloc: Global, config: &Config, text: &str) -> Option<CarryFault> {
+    match Book::carry_over(alloc, config, text.as_bytes(), CARRIED) {
+        Ok(_book) => None,
+        Err(fault) => Some(fault),
+    }
+}
+
+// The peers that lend, with a line more of bob, whose table is the last of theirs.
+fn lending_with(alloc: Global, line: &str) -> Result<Config, Fail> {
+    let (peers, routes) = LENDING.split_once("[[route]]").ok_or("no route")?;
+    let text = format!(in alloc; "{peers}{line}\n[[route]]{routes}")?;
+    let config = Config::read(alloc, text.as_bytes())?;
+    Ok(config)
 }
 
 #[test]

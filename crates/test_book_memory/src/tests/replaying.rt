@@ -88,7 +88,7 @@ const EACH_TEXT: &str = "held 0 to bob out 100\n\
     refused 46 KeyTaken 10\n\
     refused 31 NotJson\n\
     entry 11 asked 900\n\
-    refused 48 StillOpen 11 900\n\
+    refused 47 NotDue 200\n\
     refused 47 NotDue -100\n\
     entry 12 undone 11\n\
     not open 11 by 12\n\

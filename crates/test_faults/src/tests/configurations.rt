@@ -79,6 +79,7 @@ fn assert_terms(rt: &impl Abort, config: &Config) {
     let levels = Levels {
         threshold: 1_000,
         settle_to: 200,
+        settle_max: u64::MAX,
     };
     assert_eq!(rt; config.levels(1), Some(levels));
     assert_eq!(rt; config.routes(), 2);

@@ -84,7 +84,8 @@ fn print_settlement(rt: &impl Print, config: &Config, peer: u32) -> io::Result<(
         return println!(rt; "levels of {name} none");
     };
     println!(rt; "threshold of {name} {}", levels.threshold)?;
-    println!(rt; "settle_to of {name} {}", levels.settle_to)
+    println!(rt; "settle_to of {name} {}", levels.settle_to)?;
+    println!(rt; "settle_max of {name} {}", levels.settle_max)
 }
 
 fn print_found(rt: &impl Print, config: &Config) -> io::Result<()> {

@@ -27,12 +27,32 @@ pub(crate) fn open_ask_at(book: &Book, ends: &Ends, number: u32) -> Option<Ask> 
     ask_at(book, number)
 }
 
-/// The first open settlement to a peer, with its number.
-pub(crate) fn first_open_ask(book: &Book, ends: &Ends, peer: u32) -> Option<(u32, Ask)> {
+/// How many settlements to a peer are open.
+pub(crate) fn open_asks(book: &Book, ends: &Ends, peer: u32) -> u32 {
+    let mut open = 0u32;
     for number in 0..book.len() {
         if let Some(ask) = open_ask_at(book, ends, number) {
             if ask.peer == peer {
-                return Some((number, ask));
+                open = open.wrapping_add(1);
+            }
+        }
+    }
+    open
+}
+
+/// The first open settlement to a peer whose number lies above this one, or of all: its number and
+/// its amount.
+pub(crate) fn open_settlement(
+    book: &Book,
+    ends: &Ends,
+    peer: u32,
+    after: Option<u32>,
+) -> Option<(u32, u64)> {
+    let first = after.map_or(0, |after| after.saturating_add(1));
+    for number in first..book.len() {
+        if let Some(ask) = open_ask_at(book, ends, number) {
+            if ask.peer == peer {
+                return Some((number, ask.amount));
             }
         }
     }

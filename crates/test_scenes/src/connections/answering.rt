@@ -1,7 +1,8 @@
 //! A connection: what comes in, and what is answered.
 
-use super::steps::Connection;
-use crate::told::print_response;
+use super::Given;
+use super::steps::{Connection, Step};
+use crate::told::{print_actor, print_response};
 use ilp_desk::{Desk, Naming};
 use ilp_http::Buffer;
 use ilp_io::{Narrow, Pieces, WhenFull};
@@ -48,4 +49,26 @@ pub(crate) fn answer<
     );
     println!(rt; "{handled:?}")?;
     print_response(rt, alloc, &sink.recording.octets)
+}
+
+/// Has a worker answer each connection, and prints what it booked.
+pub(crate) fn answer_each<
+    J: Naming,
+    C: Clock + Drop,
+    U: Uplink + Drop,
+    E: EngineLink + Drop,
+    A: Allocator,
+>(
+    rt: &(impl Print + Wait),
+    desk: &Desk<J>,
+    worker: &mut Worker<J, C, U, E, A>,
+    given: &Given<'_>,
+) -> io::Result<()> {
+    let mut buffer = Buffer::new(desk.config().allocator())?;
+    for step in given.steps.split("-- ").skip(1) {
+        if let Some(Step::Connection(connection)) = Step::of(step) {
+            answer(rt, desk, worker, &mut buffer, &connection)?;
+        }
+    }
+    print_actor(rt, worker.share(), worker.records())
 }

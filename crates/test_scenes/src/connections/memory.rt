@@ -1,18 +1,16 @@
 //! Growths of memory that are denied, in turn.
 
 use super::Given;
-use super::answering::answer;
+use super::answering::answer_each;
 use super::playing::{bob, engine};
-use super::steps::Step;
-use super::turns::settle;
+use super::turns::settle_each;
 use crate::links::clocks::Still;
 use crate::links::engine::Wanting;
 use crate::peers::START;
-use crate::told::{print_actor, print_book};
+use crate::told::print_book;
 use ilp_desk::{Desk, Naming, Share};
-use ilp_http::Buffer;
 use ilp_settler::{NoSettler, Settler};
-use ilp_workers::{Clock, EngineLink, Uplink, Worker};
+use ilp_workers::{EngineLink, Worker};
 use std::alloc::Allocator;
 use std::io;
 use std::sync::Wait;
@@ -60,21 +58,6 @@ fn work_over<J: Naming, R: Print + Wait, A: Allocator + Copy>(
         Ok(mut worker) => answer_each(rt, desk, &mut worker, given),
         Err(_) => println!(rt; "no worker"),
     }
-}
-
-fn answer_each<J: Naming, C: Clock + Drop, U: Uplink + Drop, E: EngineLink + Drop, A: Allocator>(
-    rt: &(impl Print + Wait),
-    desk: &Desk<J>,
-    worker: &mut Worker<J, C, U, E, A>,
-    given: &Given<'_>,
-) -> io::Result<()> {
-    let mut buffer = Buffer::new(desk.config().allocator())?;
-    for step in given.steps.split("-- ").skip(1) {
-        if let Some(Step::Connection(connection)) = Step::of(step) {
-            answer(rt, desk, worker, &mut buffer, &connection)?;
-        }
-    }
-    print_actor(rt, worker.share(), worker.records())
 }
 
 /// Has the worker of a desk take its steps, and then the settler: first without its first growth,
@@ -168,18 +151,4 @@ fn settle_over<J: Naming, B: Allocator, E: EngineLink + Drop>(
         Ok(mut settler) => settle_each(rt, desk, &mut settler, given),
         Err(_) => println!(rt; "no settler"),
     }
-}
-
-fn settle_each<J: Naming, C: Clock + Drop, E: EngineLink + Drop, A: Allocator>(
-    rt: &(impl Print + Wait),
-    desk: &Desk<J>,
-    settler: &mut Settler<J, C, E, A>,
-    given: &Given<'_>,
-) -> io::Result<()> {
-    for step in given.steps.split("-- ").skip(1) {
-        if let Some(Step::Turn { peer }) = Step::of(step) {
-            settle(rt, desk, settler, peer)?;
-        }
-    }
-    print_actor(rt, settler.share(), settler.records())
 }

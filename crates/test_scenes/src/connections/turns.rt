@@ -1,5 +1,8 @@
 //! Turns of a settler.
 
+use super::Given;
+use super::steps::Step;
+use crate::told::print_actor;
 use ilp_desk::{Desk, Naming};
 use ilp_settler::Settler;
 use ilp_workers::{Clock, EngineLink};
@@ -21,4 +24,19 @@ pub(crate) fn settle<J: Naming, C: Clock + Drop, E: EngineLink + Drop, A: Alloca
         Ok(turn) => println!(rt; "{turn:?}"),
         Err(_) => println!(rt; "no memory"),
     }
+}
+
+/// Has a settler take each turn, and prints what it booked.
+pub(crate) fn settle_each<J: Naming, C: Clock + Drop, E: EngineLink + Drop, A: Allocator>(
+    rt: &(impl Print + Wait),
+    desk: &Desk<J>,
+    settler: &mut Settler<J, C, E, A>,
+    given: &Given<'_>,
+) -> io::Result<()> {
+    for step in given.steps.split("-- ").skip(1) {
+        if let Some(Step::Turn { peer }) = Step::of(step) {
+            settle(rt, desk, settler, peer)?;
+        }
+    }
+    print_actor(rt, settler.share(), settler.records())
 }

@@ -11,7 +11,7 @@ use ilp_book::{Book, PeerReply};
 use ilp_desk::{Closed, Desk, End, Naming, NotGathered, Share, WhyNotGathered, gather};
 use ilp_packet::Packet;
 use ilp_settler::{NoSettler, Settler, Sweeper};
-use ilp_workers::{NoWorker, Uplink, Worker};
+use ilp_workers::{EngineLink, NoWorker, Uplink, Worker};
 use std::alloc::Global;
 use std::io;
 use std::sync::Wait;
@@ -121,9 +121,9 @@ fn end_over<J: Naming, U: Uplink + Drop>(
 }
 
 /// What is handed in for a worker that there is no memory for.
-pub(crate) fn end_without<J: Naming, U: Uplink + Drop>(
+pub(crate) fn end_without<J: Naming, U: Uplink + Drop, E: EngineLink + Drop>(
     alloc: Global,
-    back: NoWorker<J, Still, U, NoEngine>,
+    back: NoWorker<J, Still, U, E>,
 ) -> End<J> {
     let NoWorker {
         share,
@@ -157,15 +157,21 @@ pub(crate) fn settler_end<J: Naming>(desk: &Desk<J>, share: Share<J>) -> End<J> 
     let alloc = desk.config().allocator();
     match Settler::new(alloc, share, Still(START), NoEngine) {
         Ok(settler) => settler.into_end(),
-        Err(back) => {
-            let NoSettler {
-                share,
-                clock: _,
-                engine: _,
-            } = back;
-            End::new(share, Vec::new(alloc))
-        }
+        Err(back) => end_without_settler(alloc, back),
     }
+}
+
+/// What is handed in for a settler that there is no memory for.
+pub(crate) fn end_without_settler<J: Naming, E: EngineLink + Drop>(
+    alloc: Global,
+    back: NoSettler<J, Still, E>,
+) -> End<J> {
+    let NoSettler {
+        share,
+        clock: _,
+        engine: _,
+    } = back;
+    End::new(share, Vec::new(alloc))
 }
 
 // The end of a share that books the packet, and of which no record is kept.

@@ -3,17 +3,20 @@
 use super::gathering::book_of;
 use ilp_book::Book;
 use ilp_desk::{AnsweredHold, Desk, End, Naming, Record, Recorded, Verdict};
-use ilp_journal::What;
+use ilp_journal::{Entry, What};
 use std::io;
 
 /// What was booked: how many entries, how many holds that were fulfilled, and their amounts in and
-/// out.
+/// out; what was credited, and the settlements to peers that were confirmed and undone.
 #[derive(Clone, Copy, Debug)]
 struct Totals {
     entries: u64,
     fulfilled: u64,
     paid: u64,
     got: u64,
+    credited: u64,
+    confirmed: u64,
+    undone: u64,
 }
 
 const NOTHING: Totals = Totals {
@@ -21,13 +24,82 @@ const NOTHING: Totals = Totals {
     fulfilled: 0,
     paid: 0,
     got: 0,
+    credited: 0,
+    confirmed: 0,
+    undone: 0,
 };
 
 impl Totals {
-    fn add(&mut self, amount: u64, out: u64) {
+    fn add_payment(&mut self, amount: u64, out: u64) {
         self.fulfilled = self.fulfilled.wrapping_add(1);
         self.paid = self.paid.wrapping_add(amount);
         self.got = self.got.wrapping_add(out);
+    }
+
+    fn add_credit(&mut self, amount: u64) {
+        self.credited = self.credited.wrapping_add(amount);
+    }
+
+    fn add_settlement(&mut self, amount: u64, accepted: bool) {
+        if accepted {
+            self.confirmed = self.confirmed.wrapping_add(amount);
+        } else {
+            self.undone = self.undone.wrapping_add(amount);
+        }
+    }
+
+    // Adds what a record is of.
+    fn add_record(&mut self, record: &Record) {
+        match record.what {
+            Recorded::Answered(hold) => self.add_answered(&hold),
+            Recorded::Credited { amount, .. } => self.add_credit(amount),
+            Recorded::Closed {
+                amount,
+                accepted,
+                ..
+            } => self.add_settlement(amount, accepted),
+        }
+    }
+
+    fn add_answered(&mut self, hold: &AnsweredHold) {
+        if hold.verdict == Verdict::Fulfilled {
+            self.add_payment(hold.amount, hold.out);
+        }
+    }
+
+    // Adds what an entry of the book did.
+    fn add_entry(&mut self, book: &Book, what: &What) {
+        match what {
+            What::Fulfilled { hold, .. } => {
+                let (amount, out) = held_at(book, *hold).unwrap_or((0, 0));
+                self.add_payment(amount, out);
+            }
+            What::Credited(credit) => self.add_credit(credit.credited),
+            What::Confirmed { ask } => self.add_settlement(asked_at(book, *ask), true),
+            What::Undone { ask } => self.add_settlement(asked_at(book, *ask), false),
+            What::Hold(_) | What::Released { .. } | What::Asked(_) => {}
+        }
+    }
+}
+
+// The amounts of the hold under a number.
+fn held_at(book: &Book, number: u32) -> Option<(u64, u64)> {
+    match &book.entry(number)?.what {
+        What::Hold(hold) => Some((hold.amount, hold.out)),
+        _ => None,
+    }
+}
+
+// The amount of the settlement under a number.
+fn asked_at(book: &Book, number: u32) -> u64 {
+    match book.entry(number) {
+        Some(
+            Entry {
+                what: What::Asked(ask),
+                ..
+            },
+        ) => ask.amount,
+        _ => 0,
     }
 }
 
@@ -43,17 +115,7 @@ fn totals_of_ends<J: Naming>(ends: &Vec<End<J>>) -> Totals {
 
 fn add_records(totals: &mut Totals, records: &[Record]) {
     for record in records {
-        if let Recorded::Answered(
-            AnsweredHold {
-                amount,
-                out,
-                verdict: Verdict::Fulfilled,
-                ..
-            },
-        ) = record.what
-        {
-            totals.add(amount, out);
-        }
+        totals.add_record(record);
     }
 }
 
@@ -62,20 +124,11 @@ fn totals_of_book(book: &Book) -> Totals {
     let mut totals = NOTHING;
     totals.entries = u64::from(book.len());
     for number in 0..book.len() {
-        if let Some((amount, out)) = fulfilled_by(book, number) {
-            totals.add(amount, out);
+        if let Some(entry) = book.entry(number) {
+            totals.add_entry(book, &entry.what);
         }
     }
     totals
-}
-
-// The amounts of the hold that an entry fulfills, if it does.
-fn fulfilled_by(book: &Book, number: u32) -> Option<(u64, u64)> {
-    let hold = book.entry(number)?.what.fulfilled()?;
-    match &book.entry(hold)?.what {
-        What::Hold(hold) => Some((hold.amount, hold.out)),
-        _ => None,
-    }
 }
 
 /// Prints what these ends add up to, closes their desk, and prints what its book does.

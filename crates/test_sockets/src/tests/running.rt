@@ -1,10 +1,12 @@
 //! The running connector, in a conversation of its peers and a settlement engine, beside a peer that says
-//! nothing, and beside one that answers once its packet was swept. The tests themselves start the threads:
+//! nothing, beside one that answers once its packet was swept, and beside an engine that says nothing of
+//! one of two settlements. The tests themselves start the threads:
 //! what a connector asks of its runtime has types of its own, of which a proof knows nothing in another
 //! thread where the runtime is a parameter.
 
 mod conversation;
 mod messages;
+mod parts;
 mod silence;
 mod sweeping;
 
@@ -16,7 +18,8 @@ use ilp_connector::BUILT_IN;
 use ilp_links::{Hurry, TcpLinks};
 use ilp_notices::Notices;
 use ilp_running::serve;
-use messages::{PRINTED, PRINTED_OF_SILENCE, SWEPT};
+use messages::{PRINTED, PRINTED_OF_PARTS, PRINTED_OF_SILENCE, SWEPT};
+use parts::{Settling, settle_in_parts};
 use silence::{Scene, stay_silent};
 use std::alloc::Global;
 use std::io;
@@ -105,6 +108,20 @@ fn sweep_at<R: Net<Stream = TcpStream> + Clock>(
     sweep(rt, alloc, &scene, moment)
 }
 
+// Has two settlements with bob, whose engine listens here.
+fn settle_in_parts_at<R: Net<Stream = TcpStream> + Clock>(
+    rt: &R,
+    alloc: Global,
+    engines: &String,
+    engine: &TcpListener,
+) -> io::Result<bool> {
+    let settling = Settling {
+        engines: engines.as_str(),
+        engine,
+    };
+    settle_in_parts(rt, alloc, settling)
+}
+
 // What a test plays on: the configuration, and where bob and his engine listen.
 #[derive(Drop)]
 struct Stage {
@@ -165,7 +182,7 @@ fn free_place<R: Net<Listener = TcpListener, Stream = TcpStream>>(
 }
 
 // The terms of a connector with two workers at these places, which holds packets for so many milliseconds
-// at most.
+// at most. They end with those of bob.
 fn terms(
     alloc: Global,
     peers: &str,
@@ -174,7 +191,7 @@ fn terms(
     max_hold_ms: u32,
 ) -> io::Result<String> {
     let text = format!(in alloc;
-        "address = \"test.hub\"\nrun = \"r1\"\nlisten = \"{peers}\"\nengine_listen = \"{engines}\"\nworkers = 2\nmax_hold_ms = {max_hold_ms}\n[[asset]]\ncode = \"USD\"\nscale = 2\n[[peer]]\nname = \"alice\"\nasset = \"USD/2\"\ntoken = \"a-token\"\nout_token = \"to-alice\"\nhost = \"127.0.0.1:1\"\nleast = -100\n[[peer]]\nname = \"bob\"\nasset = \"USD/2\"\ntoken = \"b-token\"\nout_token = \"to-bob\"\nhost = \"{bob}\"\nleast = -100\n[[route]]\nprefix = \"test.bob\"\npeer = \"bob\"\n"
+        "address = \"test.hub\"\nrun = \"r1\"\nlisten = \"{peers}\"\nengine_listen = \"{engines}\"\nworkers = 2\nsettle_ms = 20\nmax_hold_ms = {max_hold_ms}\n[[asset]]\ncode = \"USD\"\nscale = 2\n[[route]]\nprefix = \"test.bob\"\npeer = \"bob\"\n[[peer]]\nname = \"alice\"\nasset = \"USD/2\"\ntoken = \"a-token\"\nout_token = \"to-alice\"\nhost = \"127.0.0.1:1\"\nleast = -100\n[[peer]]\nname = \"bob\"\nasset = \"USD/2\"\ntoken = \"b-token\"\nout_token = \"to-bob\"\nhost = \"{bob}\"\nleast = -100\n"
     )?;
     Ok(text)
 }
@@ -191,6 +208,34 @@ fn beside_bob<R: Net<Listener = TcpListener, Stream = TcpStream>>(
     let engine = TcpListener::bind(rt, "127.0.0.1:0")?;
     let place = format!(in alloc; "{}", bob.local_addr()?)?;
     let text = terms(alloc, peers, engines, place.as_str(), max_hold_ms)?;
+    stage_of(alloc, text.as_str(), bob, engine)
+}
+
+// The terms of a connector at these places, which settles with bob by this engine, in parts of 400.
+fn terms_in_parts(
+    alloc: Global,
+    peers: &str,
+    engines: &str,
+    engine: &TcpListener,
+) -> io::Result<String> {
+    let text = terms(alloc, peers, engines, "127.0.0.1:1", 30_000)?;
+    let place = engine.local_addr()?;
+    let text = format!(in alloc;
+        "{text}engine = \"{place}\"\nthreshold = 500\nsettle_to = 200\nsettle_max = 400\n"
+    )?;
+    Ok(text)
+}
+
+// The stage of a connector at these places, which settles with bob in parts.
+fn in_parts<R: Net<Listener = TcpListener, Stream = TcpStream>>(
+    rt: &R,
+    alloc: Global,
+    peers: &str,
+    engines: &str,
+) -> io::Result<Stage> {
+    let bob = TcpListener::bind(rt, "127.0.0.1:0")?;
+    let engine = TcpListener::bind(rt, "127.0.0.1:0")?;
+    let text = terms_in_parts(alloc, peers, engines, &engine)?;
     stage_of(alloc, text.as_str(), bob, engine)
 }
 
@@ -230,5 +275,24 @@ fn a_hold_that_is_swept(rt: HostRuntime) -> Result<(), Fail> {
         || sweep_at(&rt, alloc, &peers, &engines, &bob, &moment),
     );
     assert!(rt; is_right(written, said, SWEPT));
+    Ok(())
+}
+
+#[test]
+fn two_open_settlements(rt: HostRuntime) -> Result<(), Fail> {
+    let alloc = rt.alloc();
+    let (peers, engines) = (free_place(&rt, alloc)?, free_place(&rt, alloc)?);
+    let Stage {
+        config,
+        notices,
+        bob: _bob,
+        engine,
+    } = in_parts(&rt, alloc, peers.as_str(), engines.as_str())?;
+    let (written, said) = join(
+        &rt,
+        || printed(&rt, &config, &notices, Still),
+        || settle_in_parts_at(&rt, alloc, &engines, &engine),
+    );
+    assert!(rt; is_right(written, said, PRINTED_OF_PARTS));
     Ok(())
 }

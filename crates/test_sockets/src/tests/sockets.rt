@@ -71,6 +71,19 @@ pub(super) fn hear(
     Ok((stream, is_heard))
 }
 
+/// Accepts a connection, and answers it so. Says whether it begins with this request.
+pub(super) fn hear_and_answer(
+    rt: &impl Clock,
+    alloc: Global,
+    listener: &TcpListener,
+    request: &[u8],
+    response: &[u8],
+) -> io::Result<bool> {
+    let (mut stream, is_heard) = hear(rt, alloc, listener, request)?;
+    answer(&mut stream, response)?;
+    Ok(is_heard)
+}
+
 /// Answers, and says that no more comes.
 pub(super) fn answer(stream: &mut TcpStream, response: &[u8]) -> io::Result<()> {
     stream.write_all(response)?;

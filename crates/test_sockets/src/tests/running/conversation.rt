@@ -5,7 +5,7 @@ use super::messages::{
     SETTLEMENT, TO_BOB, message,
 };
 use crate::tests::FULFILL;
-use crate::tests::sockets::{answer, hear, receive, send};
+use crate::tests::sockets::{answer, hear, hear_and_answer, receive, send};
 use std::alloc::Global;
 use std::io;
 use std::net::{Net, TcpListener, TcpStream};
@@ -65,22 +65,10 @@ fn settle<R>(rt: &R, alloc: Global, engine: &TcpListener) -> io::Result<bool>
 where
     R: Net<Stream = TcpStream> + Clock,
 {
-    let is_told = hear_and_take(rt, alloc, engine, ACCOUNT)?;
+    let is_told = hear_and_answer(rt, alloc, engine, ACCOUNT, CREATED)?;
     let credited = ask(rt, alloc, CREDIT)?;
-    let is_asked = hear_and_take(rt, alloc, engine, SETTLEMENT)?;
+    let is_asked = hear_and_answer(rt, alloc, engine, SETTLEMENT, CREATED)?;
     Ok(is_told && is_asked && credited.as_slice() == CREDITED)
-}
-
-// Bob's engine, for one request, which it accepts.
-fn hear_and_take(
-    rt: &impl Clock,
-    alloc: Global,
-    engine: &TcpListener,
-    request: &[u8],
-) -> io::Result<bool> {
-    let (mut stream, is_heard) = hear(rt, alloc, engine, request)?;
-    answer(&mut stream, CREATED)?;
-    Ok(is_heard)
 }
 
 // Asks for something at the side of the engines, and gives what is answered.

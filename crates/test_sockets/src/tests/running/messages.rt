@@ -107,6 +107,20 @@ settled   USD/2                                         1000\n\
 entries                                                    5\n\
 fulfilled                                                  0\n";
 
+/// What is printed in the end of a connector that settled 1000 with bob down to 200 in two parts.
+pub(crate) const PRINTED_OF_PARTS: &[u8] =
+    b"balance   alice                                            0\n\
+balance   bob                                            200\n\
+open      alice                                            0\n\
+open      bob                                              0\n\
+held      USD/2                                            0\n\
+fees      USD/2                                            0\n\
+bought    USD/2                                            0\n\
+sold      USD/2                                            0\n\
+settled   USD/2                                          200\n\
+entries                                                    5\n\
+fulfilled                                                  0\n";
+
 /// What is printed in the end.
 pub(crate) const PRINTED: &[u8] = b"balance   alice                                         -100\n\
 balance   bob                                            200\n\
