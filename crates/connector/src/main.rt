@@ -6,11 +6,13 @@ mod carrying;
 mod checking;
 mod configuring;
 mod expecting;
+mod helping;
 mod replaying;
 mod serving;
 
 use checking::{run_check, run_check_journal};
-use ilp_connector::{Refusal, describe_packet};
+use helping::{USAGE, is_help, run_help, run_version};
+use ilp_connector::{Refusal, describe_packet, reject_words};
 use ilp_journal_file::FileFault;
 use replaying::run_replay;
 use serving::run_serve;
@@ -23,14 +25,11 @@ use std::rt::{Files, Runtime};
 use std::sync::Wait;
 use std::thread::Threads;
 
-const USAGE: &str =
-    "usage: connector packet HEX, check CONFIG, replay CONFIG, serve CONFIG [JOURNAL]";
-
 // What the program is asked for: a command, what it is about, and where a journal is kept.
 #[derive(Drop)]
 struct Words {
     command: String,
-    argument: String,
+    argument: Option<String>,
     journal: Option<String>,
 }
 
@@ -76,7 +75,7 @@ fn given_words<R: Runtime + AllocGlobal>(rt: &R) -> Result<Words, Exit> {
         Err(_) => return Err(Exit::Misused),
     };
     match (words.next(), words.next(), words.next(), words.next()) {
-        (Some(command), Some(argument), journal, None) => Ok(Words {
+        (Some(command), argument, journal, None) => Ok(Words {
             command,
             argument,
             journal,
@@ -98,23 +97,40 @@ where
         + Send
         + Sync,
 {
-    let argument = words.argument.as_str();
-    match (words.command.as_str(), &words.journal) {
-        ("packet", None) => run_packet(rt, argument),
-        ("check", None) => run_check(rt, argument),
-        ("check", Some(journal)) => run_check_journal(rt, argument, journal.as_str()),
-        ("replay", None) => run_replay(rt, argument),
-        ("serve", None) => run_serve(rt, argument, None),
-        ("serve", Some(journal)) => run_serve(rt, argument, Some(journal.as_str())),
+    let argument = words.argument.as_ref().map(|word| word.as_str());
+    let journal = words.journal.as_ref().map(|word| word.as_str());
+    match (words.command.as_str(), argument, journal) {
+        ("help", _, None) | ("-h" | "--help", None, None) => run_help(rt),
+        ("--version", None, None) => run_version(rt),
+        ("packet" | "check" | "replay" | "serve", Some(word), None) if is_help(word) => run_help(
+            rt,
+        ),
+        ("check" | "serve", Some(_), Some(word)) if is_help(word) => run_help(rt),
+        ("packet", Some(text), None) => run_packet(rt, text),
+        ("check", Some(config), None) => run_check(rt, config),
+        ("check", Some(config), Some(journal)) => run_check_journal(rt, config, journal),
+        ("replay", Some(config), None) => run_replay(rt, config),
+        ("serve", Some(config), journal) => run_serve(rt, config, journal),
         _ => Exit::Misused,
     }
 }
 
-// Prints what a packet in hexadecimal says.
+// Prints what a packet in hexadecimal says, and on standard error what a Reject says as text.
 fn run_packet<R: Runtime + AllocGlobal>(rt: &R, text: &str) -> Exit {
     match describe_packet(rt.alloc(), text) {
-        Ok(line) => print_line(rt, line.as_str()),
+        Ok(line) => {
+            let exit = print_line(rt, line.as_str());
+            tell_words(rt, text);
+            exit
+        }
         Err(refusal) => Exit::Refused(refusal),
+    }
+}
+
+// Tells a person what a Reject says as text. Where memory is short its line was printed all the same.
+fn tell_words<R: Runtime + AllocGlobal>(rt: &R, text: &str) {
+    if let Ok(Some(words)) = reject_words(rt.alloc(), text) {
+        let _ = rt.eprintln(words.as_str());
     }
 }
 

@@ -3,7 +3,8 @@
 use crate::Exit;
 use crate::configuring::configured;
 use ilp_accounts::Config;
-use ilp_connector::{ReplayFault, replay};
+use ilp_connector::{Refusal, ReplayFault, SCRIPT_LIMIT, bad_lines, replay};
+use ilp_io::{ReadFault, read_to_limit};
 use std::io;
 use std::rt::Runtime;
 
@@ -15,12 +16,36 @@ pub(crate) fn run_replay<R: Runtime + AllocGlobal>(rt: &R, path: &str) -> Exit {
     }
 }
 
+// The same over a configuration that was read. The script is kept, since its bad lines are told behind it.
 fn replay_over<R: Runtime + AllocGlobal>(rt: &R, config: &Config) -> Exit {
-    let mut reader = rt.reader();
+    match read_to_limit(rt.alloc(), &mut rt.reader(), SCRIPT_LIMIT) {
+        Ok(script) => replay_script(rt, config, &script),
+        Err(ReadFault::Failed) => Exit::Refused(Refusal::ReadFault),
+        Err(ReadFault::TooLong) => Exit::Refused(Refusal::ScriptTooLong),
+        Err(ReadFault::Memory) => Exit::Refused(Refusal::Memory),
+    }
+}
+
+// Writes what the lines of a script print, and tells on standard error what is wrong with bad ones.
+fn replay_script<R: Runtime + AllocGlobal>(rt: &R, config: &Config, script: &[u8]) -> Exit {
+    let mut reader = script;
     let mut writer = io::writer(rt);
     match replay(rt.alloc(), config, &mut reader, &mut writer) {
-        Ok(()) => Exit::Done,
+        Ok(()) => {
+            tell_bad_lines(rt, config, script);
+            Exit::Done
+        }
         Err(ReplayFault::WriteFault) => Exit::OutputFailed,
         Err(fault) => Exit::Refused(fault.refusal()),
+    }
+}
+
+// Tells a person why lines are bad. Where memory is short they were printed as such all the same.
+fn tell_bad_lines<R: Runtime + AllocGlobal>(rt: &R, config: &Config, script: &[u8]) {
+    let Ok(found) = bad_lines(rt.alloc(), config, script) else {
+        return;
+    };
+    for line in &found {
+        let _ = rt.eprintln(format_args!("{line}"));
     }
 }

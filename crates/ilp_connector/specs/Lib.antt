@@ -1,3 +1,4 @@
+pub mod BadLines
 pub mod Calls
 pub mod CheckText
 pub mod ConfigReading

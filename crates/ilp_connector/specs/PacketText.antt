@@ -1,6 +1,7 @@
 -- What the command `packet` says of a packet in hexadecimal.
-use Rattle.std.specs.Prelude.{ℕ, List, [], ◌∷◌, ◌++◌, Result, Ok, Err, codes}
+use Rattle.std.specs.Prelude.{ℕ, List, [], ◌∷◌, ◌++◌, Option, Some, None, Result, Ok, Err, codes, if◌then◌else◌}
 use Rattle.std.specs.Fmt.{decimal, signed_decimal}
+use Rattle.std.specs.List.{list_all}
 use Rattle.hex.specs.Hex.{decode_of, encode_lower}
 use Rattle.hex.specs.declared.error.FromHexError.{FromHexError}
 use Rattle.ilp_packet.specs.declared.fault.PacketFault.{PacketFault}
@@ -9,6 +10,7 @@ use Rattle.ilp_packet.specs.Reading.{reading}
 use Rattle.ilp_connector.specs.declared.refusal.Refusal.{Refusal}
 use Rattle.ilp_connector.specs.declared.refusal.Refusal.TheVariants as refusals
 use Rattle.ilp_connector.specs.Refusals.{packet_refusal}
+use Rattle.ilp_connector.specs.Script.{is_printable}
 
 -- octets in hexadecimal, `-` where there are none
 abbrev pub hex_text : List ℕ → List ℕ
@@ -34,3 +36,22 @@ decoded_text (Err fault) = Err refusals.BadHex
 -- the line of a packet in hexadecimal, or why there is none
 unfoldable pub description : List ℕ → Result (List ℕ) Refusal
 description text = decoded_text (decode_of text)
+
+-- octets in quotes, where each is a space or visible ASCII
+abbrev pub spoken : List ℕ → List ℕ
+spoken octets = if list_all is_printable octets then codes "\"" ++ (octets ++ codes "\"") else codes "no text"
+
+-- what code and message of a Reject say
+abbrev pub words_of : Result PlainPacket PacketFault → Option (List ℕ)
+words_of (Ok (reject r)) = Some (codes "code " ++ (spoken r.code ++ (codes ", message " ++ spoken r.message)))
+words_of (Ok (prepare p)) = None
+words_of (Ok (fulfill f)) = None
+words_of (Err fault) = None
+
+abbrev pub decoded_words : Result (List ℕ) FromHexError → Option (List ℕ)
+decoded_words (Ok octets) = words_of (reading octets)
+decoded_words (Err fault) = None
+
+-- what those of a Reject in hexadecimal say
+unfoldable pub reject_words : List ℕ → Option (List ℕ)
+reject_words text = decoded_words (decode_of text)

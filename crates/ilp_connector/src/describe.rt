@@ -1,10 +1,11 @@
 //! A packet as a line of text, for people.
-ghost use Rattle.std.specs.Prelude.{◌≡◌, ◌⊎◌, Ok, Err, IfOk, IfErr, string_bytes};
+ghost use Rattle.std.specs.Prelude.{◌≡◌, ◌⊎◌, Ok, Err, IfOk, IfErr, option_map, string_bytes};
 ghost use Rattle.ilp_packet.specs.Packet.{plain, plain_prepare, plain_fulfill, plain_reject, prepare, fulfill, reject, IsPrepare, IsWithin};
 ghost use Rattle.ilp_packet.specs.Address.{IsAddress};
 ghost use Rattle.ilp_packet.specs.Reading.{reading};
-ghost use Rattle.ilp_connector.specs.PacketText.{hex_text, packet_text, read_text, description};
+ghost use Rattle.ilp_connector.specs.PacketText.{hex_text, packet_text, read_text, description, spoken, words_of, reject_words};
 
+use crate::form::is_printable;
 use crate::line::decode;
 use crate::refusal::Refusal;
 use ilp_packet::{Fulfill, Packet, Prepare, Reject};
@@ -124,4 +125,45 @@ fn hex_or_dash<A: Allocator + Copy>(alloc: A, octets: &[u8]) -> Result<String<A>
         return String::from_str(alloc, "-");
     }
     hex::encode(alloc, octets)
+}
+
+/// What the code and the message of a Reject in hexadecimal say (RFC 0027), as one line without its end,
+/// where they are text. None of any other packet, and of what is none. `AllocError` tells that memory is
+/// short.
+#[tactic(auto, unfolding(crate::specs::PacketText::reject_words))]
+pub fn reject_words<A: Allocator + Copy>(
+    alloc: A,
+    text: &str,
+) -> Result<Option<String<A>>, AllocError>
+    ensures { IfOk result (λ words. option_map string_bytes words ≡ reject_words text.now) }
+{
+    match decode(alloc, text.as_bytes())? {
+        Some(octets) => words_of(alloc, &octets),
+        None => Ok(None),
+    }
+}
+
+// The same of a packet's octets.
+fn words_of<A: Allocator + Copy>(alloc: A, octets: &[u8]) -> Result<Option<String<A>>, AllocError>
+    ensures { IfOk result (λ words. option_map string_bytes words ≡ words_of (reading octets.now)) }
+{
+    let Ok(Packet::Reject(packet)) = Packet::read(octets) else {
+        return Ok(None);
+    };
+    let code = spoken(alloc, packet.code)?;
+    let message = spoken(alloc, packet.message)?;
+    Ok(Some(format!(in alloc; "code {code}, message {message}")?))
+}
+
+// Octets in quotes where they are text.
+fn spoken<A: Allocator + Copy>(alloc: A, octets: &[u8]) -> Result<String<A>, AllocError>
+    ensures { IfOk result (λ text. string_bytes text ≡ spoken octets.now) }
+{
+    if !is_printable(octets) {
+        return String::from_str(alloc, "no text");
+    }
+    match str::from_utf8(octets) {
+        Ok(text) => format!(in alloc; "\"{text}\""),
+        Err(_) => unreachable!(),
+    }
 }

@@ -15,11 +15,11 @@ use ilp_journal::Key;
 use std::alloc::AllocError;
 use std::str;
 
-// The most digits of a moment.
-const MOMENT_DIGITS: usize = 15;
+/// The most digits of a moment.
+pub(crate) const MOMENT_DIGITS: usize = 15;
 
-// The most digits of an entry's number.
-const ENTRY_DIGITS: usize = 9;
+/// The most digits of an entry's number.
+pub(crate) const ENTRY_DIGITS: usize = 9;
 
 /// What a line asks for. Packets are hexadecimal text, which is decoded later, and quantities are
 /// JSON, which is read later.
@@ -58,14 +58,27 @@ pub(crate) enum Form<'a> {
     Bad,
 }
 
-// The fields of a line, of which the fifth is the rest of the line.
+/// The fields of a line, of which the fifth is the rest of the line.
 #[derive(Clone, Copy)]
-enum Fields<'a> {
+pub(crate) enum Fields<'a> {
     One(&'a [u8]),
     Two(&'a [u8], &'a [u8]),
     Three(&'a [u8], &'a [u8], &'a [u8]),
     Four(&'a [u8], &'a [u8], &'a [u8], &'a [u8]),
     Five(&'a [u8], &'a [u8], &'a [u8], &'a [u8], &'a [u8]),
+}
+
+impl<'a> Fields<'a> {
+    /// The first field.
+    pub(crate) fn first(self) -> &'a [u8] {
+        match self {
+            Fields::One(first)
+            | Fields::Two(first, _)
+            | Fields::Three(first, _, _)
+            | Fields::Four(first, _, _, _)
+            | Fields::Five(first, _, _, _, _) => first,
+        }
+    }
 }
 
 /// What a line asks for. A key of a settlement lies on the heap of the configuration: `AllocError`
@@ -271,8 +284,8 @@ fn verdict_in(text: &[u8]) -> Option<bool>
     }
 }
 
-// Cuts a line at its first four spaces.
-fn split_fields(line: &[u8]) -> Fields<'_>
+/// Cuts a line at its first four spaces.
+pub(crate) fn split_fields(line: &[u8]) -> Fields<'_>
     ensures { field_list (fields_of line.now) result }
 {
     let (first, rest) = cut(line);
@@ -304,15 +317,15 @@ fn cut(text: &[u8]) -> (&[u8], Option<&[u8]>)
     }
 }
 
-// Whether each octet is a space or visible ASCII.
-fn is_printable(text: &[u8]) -> bool
+/// Whether each octet is a space or visible ASCII.
+pub(crate) fn is_printable(text: &[u8]) -> bool
     ensures { result ≡ list_all is_printable text.now }
 {
     text.iter().all(|octet| 32 <= *octet && *octet <= 126)
 }
 
-// The number that a text of at most so many decimal digits writes.
-fn number_in(text: &[u8], most: usize) -> Option<u64>
+/// The number that a text of at most so many decimal digits writes.
+pub(crate) fn number_in(text: &[u8], most: usize) -> Option<u64>
     requires { most ≤ moment_digits }
     ensures value { result ≡ number_in most text.now }
     ensures bound { IfSome result (λ number. number < 10 ^ most) }

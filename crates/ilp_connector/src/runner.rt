@@ -18,8 +18,8 @@ use std::alloc::Allocator;
 use std::error::Error;
 use std::fmt;
 
-// The most octets of a script.
-const MAX_SCRIPT: usize = 1_048_576;
+/// The most octets of a script.
+pub const SCRIPT_LIMIT: usize = 1_048_576;
 
 /// Why a replay stopped before its end.
 #[derive(Clone, Copy, Debug, PartialEq, Eq)]
@@ -100,7 +100,7 @@ pub fn replay<S: Source, W: Sink, A: Allocator + Copy>(
     ensures unrun { IsErrOf result ReplayFault.ScriptTooLong
         → Appends (W.contents writer.old) (W.contents writer.new) [] }
 {
-    let script = match read_to_limit(alloc, reader, MAX_SCRIPT) {
+    let script = match read_to_limit(alloc, reader, SCRIPT_LIMIT) {
         Ok(script) => script,
         Err(ReadFault::Failed) => return Err(ReplayFault::ReadFault),
         Err(ReadFault::TooLong) => return Err(ReplayFault::ScriptTooLong),

@@ -27,5 +27,5 @@ pub use journal_file::{
 };
 pub use notices::Notices;
 pub use starting::{
-    closing, few_files, listening, no_thread, not_listening, one_worker, report_follows,
+    closing, doubtful, few_files, listening, no_thread, not_listening, one_worker, report_follows,
 };

@@ -13,6 +13,11 @@ pub fn listening<R: Clock + Eprint>(rt: &R, config: &Config) {
     tell(rt, Level::Info, WhereAndWho(config));
 }
 
+/// Tells of a thing in the configuration that is allowed and probably not meant.
+pub fn doubtful<R: Clock + Eprint>(rt: &R, what: &str) {
+    tell(rt, Level::Warn, format_args!("configuration: {what}"));
+}
+
 /// Tells what one worker alone can't do, where there is only one.
 pub fn one_worker<R: Clock + Eprint>(rt: &R, config: &Config) {
     if config.workers() == 1 {

@@ -2,7 +2,7 @@
 
 use crate::fault::RowFault;
 use crate::repeated::push_repeated;
-use ilp_connector::describe_packet;
+use ilp_connector::{describe_packet, reject_words};
 use ilp_oer::Octets;
 use ilp_packet::{
     Packet, PacketFault, is_address, is_scheme, write_fulfill, write_prepare, write_reject,
@@ -19,7 +19,8 @@ pub(crate) fn print_packets<R: Runtime + AllocGlobal>(rt: &R) -> io::Result<()> 
     print_rows(rt, "packets/packets.txt")?;
     print_rows(rt, "packets/vectors.txt")?;
     print_cuts(rt)?;
-    print_addresses(rt)
+    print_addresses(rt)?;
+    print_words(rt)
 }
 
 fn print_rows<R: Runtime + AllocGlobal>(rt: &R, path: &str) -> io::Result<()> {
@@ -133,4 +134,16 @@ fn print_address(rt: &impl Print, text: &str) -> io::Result<()> {
     } else {
         println!(rt; "'{text}' is neither")
     }
+}
+
+// Prints what code and message of each packet say, if it is a Reject.
+fn print_words<R: Runtime + AllocGlobal>(rt: &R) -> io::Result<()> {
+    let rows = fs::read_to_string(rt, "packets/words.txt")?;
+    for row in rows.lines() {
+        match reject_words(rt.alloc(), row)? {
+            Some(words) => println!(rt; "{words}")?,
+            None => println!(rt; "no words")?,
+        }
+    }
+    Ok(())
 }

@@ -2,7 +2,7 @@
 
 use crate::words::in_hexadecimal;
 use ilp_accounts::{Config, ConfigFault};
-use ilp_connector::{Refusal, ReplayFault, replay};
+use ilp_connector::{Refusal, ReplayFault, bad_lines, replay};
 use std::rt::Runtime;
 use std::{fs, io};
 
@@ -26,7 +26,29 @@ pub(crate) fn print_scripts<R: Runtime + AllocGlobal>(rt: &R) -> io::Result<()> 
     for name in CONFIGURATIONS {
         print_over(rt, name)?;
     }
+    print_told(rt)?;
     print_faults(rt)
+}
+
+// Prints what is told of the lines of a script that are bad.
+fn print_told<R: Runtime + AllocGlobal>(rt: &R) -> io::Result<()> {
+    let octets = fs::read(rt, "scripts/two_peers.toml")?;
+    let script = fs::read(rt, "scripts/bad_lines.txt")?;
+    match Config::read(rt.alloc(), &octets) {
+        Ok(config) => print_bad_lines(rt, &config, &script),
+        Err(fault) => print_refused(rt, "bad_lines", fault),
+    }
+}
+
+fn print_bad_lines<R: Runtime + AllocGlobal>(
+    rt: &R,
+    config: &Config,
+    script: &[u8],
+) -> io::Result<()> {
+    for line in &bad_lines(rt.alloc(), config, script)? {
+        println!(rt; "{line}")?;
+    }
+    Ok(())
 }
 
 // Prints what the scripts of a configuration print.

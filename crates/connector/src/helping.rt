@@ -1,0 +1,47 @@
+//! What the program says of itself.
+
+use crate::{Exit, print_line};
+use std::rt::Runtime;
+
+/// How the program is called, for whoever called it otherwise.
+pub(crate) const USAGE: &str =
+    "usage: connector packet HEX, check CONFIG, replay CONFIG, serve CONFIG [JOURNAL]";
+
+// The versions of the program and of the kit that it is made with. The first stands in the file VERSION
+// too, and the manual is made from the help.
+const VERSION: &str = "connector 0.1.0, of rattle-kit-13f with the logic dac8208d650f15bf";
+
+const HELP: &str = "\
+A connector of the Interledger Protocol, version 4: it forwards packets between
+its peers, keeps an exact balance with each, and has engines settle.
+
+connector serve CONFIG [JOURNAL]  runs the connector until /close is posted
+connector check CONFIG [JOURNAL]  says whether a configuration is valid, and what
+                                  a start over a journal would do
+connector replay CONFIG           runs the script of standard input over a
+                                  configuration, without sockets
+connector packet HEX              says in words what a packet has
+connector help                    says this, as -h and --help do
+connector --version               says the versions of the program and of the kit
+
+CONFIG is a file in TOML, or - for the built-in configuration. JOURNAL is the
+file that a run begins with, if it is there, and is saved to in the end.
+
+The exit status is 0 where it is done, 1 where it is refused, which standard
+output ends with as `refused NUMBER NAME`, 2 where the arguments are not
+understood, and 3 where standard output failed.";
+
+/// Whether a word asks for help.
+pub(crate) fn is_help(word: &str) -> bool {
+    matches!(word, "-h" | "--help")
+}
+
+/// Says what each command does.
+pub(crate) fn run_help<R: Runtime>(rt: &R) -> Exit {
+    print_line(rt, HELP)
+}
+
+/// Says which version this is.
+pub(crate) fn run_version<R: Runtime>(rt: &R) -> Exit {
+    print_line(rt, VERSION)
+}
