@@ -17,13 +17,13 @@ import sys
 import time
 from pathlib import Path
 
-from cases import (bodies, clients, conversations, ending, engines, journal_texts, journals, links, operating,
+from cases import (bodies, clients, commands, conversations, ending, engines, journal_texts, journals, links, operating,
                    strangers, telling, telling_of_the_book, waiting)
 from cases.case import CASES, Case, Differs
 from cases.laboratory import Laboratory
 
 # Each of them lists its cases as it is read.
-PARTS = (conversations, links, engines, clients, strangers, bodies, operating, journals, journal_texts,
+PARTS = (commands, conversations, links, engines, clients, strangers, bodies, operating, journals, journal_texts,
          telling, telling_of_the_book, waiting, ending)
 
 # In seconds; the longest case takes a minute and some.

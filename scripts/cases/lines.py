@@ -39,6 +39,9 @@ PATH = r'"[^"]*"'
 NO_JOURNAL = ("warn no journal is kept: balances and keys are forgotten at the end, so each start needs a "
               "`run` that no earlier one had")
 
+# What a line begins with that tells what is to be looked at in a configuration.
+WARNING = "warn configuration: "
+
 # Each line has one of these forms, level and text.
 FORMS = [re.compile(form) for form in (
     rf"info listening at {PLACE} for peers and at {PLACE} for engines: \d+ workers?, \d+ peers?, .+",
@@ -63,6 +66,7 @@ FORMS = [re.compile(form) for form in (
     r"error journal: \d+ of \d+ entries, (9[5-9]|100) percent",
     r"error journal: full, with \d+ of \d+ entries: packets get T03, and credits 503",
     re.escape(NO_JOURNAL),
+    rf"{WARNING}.+",
     rf"info journal {PATH}: (begun with its \d+ entries|saved with \d+ entries)",
     rf"warn journal {PATH}: not there yet, .+",
     rf"warn journal {PATH}: can't be saved: .+",

@@ -10,7 +10,7 @@ from dataclasses import dataclass, field
 from pathlib import Path
 
 from cases.case import Differs, expect, expect_that
-from cases.lines import Line, check_lines, read_lines
+from cases.lines import WARNING, Line, check_lines, read_lines
 from cases.messages import HERE
 from cases.stand_ins import free_port
 
@@ -143,6 +143,7 @@ class Program:
         self.started = time.time()
         self.configuration = folder / "connector.toml"
         self.configuration.write_text(setup.text())
+        self.configuration.chmod(0o644 if user is not None else 0o600)
         words = [str(binary), "serve", argument or str(self.configuration)]
         words += [str(journal)] if journal is not None else []
 
@@ -172,8 +173,13 @@ class Program:
         return self.errors().splitlines()
 
     def lines(self) -> list[Line]:
-        """The lines on standard error so far, as a running connector tells them."""
-        return read_lines(self.errors())
+        """The lines on standard error so far, as a running connector tells them, but those of `warnings`."""
+        return [line for line in read_lines(self.errors()) if not line.said.startswith(WARNING)]
+
+    def warnings(self) -> list[str]:
+        """What it tells at its start of its configuration."""
+        lines = read_lines(self.errors())
+        return [line.said.removeprefix(WARNING) for line in lines if line.said.startswith(WARNING)]
 
     def told(self, form: str) -> list[Line]:
         """Those of them whose level and text have this form."""

@@ -1,7 +1,8 @@
 //! The command `check`.
 
 use crate::carrying::book_of;
-use crate::configuring::{config_octets, configured, refused};
+use crate::configuring::{config_octets, config_of, refused};
+use crate::warning::{Telling, tell_warnings};
 use crate::{Exit, print_line};
 use ilp_accounts::{Config, explain};
 use ilp_book::Book;
@@ -20,7 +21,7 @@ pub(crate) fn run_check<R: Runtime + AllocGlobal>(rt: &R, path: &str) -> Exit {
         Err(exit) => return exit,
     };
     match check(rt.alloc(), &octets) {
-        Ok(line) => print_line(rt, line.as_str()),
+        Ok(line) => print_checked(rt, path, &octets, line.as_str()),
         Err(fault) => refused(Refusal::from(fault), explain(rt.alloc(), &octets, fault)),
     }
 }
@@ -31,18 +32,29 @@ pub(crate) fn run_check_journal<R>(rt: &R, path: &str, journal: &str) -> Exit
 where
     R: Runtime + AllocGlobal + Files<File = File> + Copy,
 {
-    match journal_line(rt, path, journal) {
-        Ok(line) => print_line(rt, line.as_str()),
+    let octets = match config_octets(rt, path) {
+        Ok(octets) => octets,
+        Err(exit) => return exit,
+    };
+    match journal_line(rt, &octets, journal) {
+        Ok(line) => print_checked(rt, path, &octets, line.as_str()),
         Err(exit) => exit,
     }
 }
 
+// Prints the line of a configuration that is valid, and tells behind it what is to be looked at.
+fn print_checked<R: Runtime + AllocGlobal>(rt: &R, path: &str, octets: &[u8], line: &str) -> Exit {
+    let exit = print_line(rt, line);
+    tell_warnings(rt, path, octets, Telling::Line);
+    exit
+}
+
 // The line of a configuration and a journal.
-fn journal_line<R>(rt: &R, path: &str, journal: &str) -> Result<String, Exit>
+fn journal_line<R>(rt: &R, octets: &[u8], journal: &str) -> Result<String, Exit>
 where
     R: Runtime + AllocGlobal + Files<File = File> + Copy,
 {
-    let config = configured(rt, path)?;
+    let config = config_of(rt, octets)?;
     line_by(rt, &config, journal)
 }
 

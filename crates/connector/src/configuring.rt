@@ -1,6 +1,7 @@
 //! Where a command's configuration comes from.
 
 use crate::Exit;
+use crate::warning::{Telling, tell_warnings};
 use ilp_accounts::{Config, explain};
 use ilp_connector::{BUILT_IN, CONFIG_LIMIT, Refusal, read_config};
 use ilp_journal_file::Noting;
@@ -22,10 +23,22 @@ pub(crate) fn config_octets<R: Runtime + AllocGlobal>(rt: &R, path: &str) -> Res
 /// The configuration that a path names, or what is told where it is refused.
 pub(crate) fn configured<R: Runtime + AllocGlobal>(rt: &R, path: &str) -> Result<Config, Exit> {
     let octets = config_octets(rt, path)?;
-    match Config::read(rt.alloc(), &octets) {
+    config_of(rt, &octets)
+}
+
+/// The same, with a notice of each thing that is to be looked at.
+pub(crate) fn noticed<R: Runtime + AllocGlobal>(rt: &R, path: &str) -> Result<Config, Exit> {
+    let octets = config_octets(rt, path)?;
+    tell_warnings(rt, path, &octets, Telling::Notice);
+    config_of(rt, &octets)
+}
+
+/// The configuration of these octets, or what is told where it is refused.
+pub(crate) fn config_of<R: Runtime + AllocGlobal>(rt: &R, octets: &[u8]) -> Result<Config, Exit> {
+    match Config::read(rt.alloc(), octets) {
         Ok(config) => Ok(config),
         Err(fault) => {
-            let why = explain(rt.alloc(), &octets, fault);
+            let why = explain(rt.alloc(), octets, fault);
             Err(refused(Refusal::from(fault), why))
         }
     }

@@ -9,6 +9,7 @@ mod expecting;
 mod helping;
 mod replaying;
 mod serving;
+mod warning;
 
 use checking::{run_check, run_check_journal};
 use helping::{USAGE, is_help, run_help, run_version};

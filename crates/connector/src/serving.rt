@@ -6,7 +6,7 @@ ghost use Rattle.ilp_running.specs.Serving.{desk_of, IsClosed};
 
 use crate::Exit;
 use crate::carrying::{book_of, new_book};
-use crate::configuring::configured;
+use crate::configuring::noticed;
 use ilp_accounts::Config;
 use ilp_book::Book;
 use ilp_connector::Refusal;
@@ -66,7 +66,7 @@ where
         + Send
         + Sync,
 {
-    let config = configured(rt, path)?;
+    let config = noticed(rt, path)?;
     match new_book(rt, &config) {
         Ok(book) => serve_new(rt, &config, book),
         Err(exit) => Err(exit),
@@ -108,7 +108,7 @@ where
         + Send
         + Sync,
 {
-    let config = configured(rt, path)?;
+    let config = noticed(rt, path)?;
     match JournalFile::take(rt, rt.alloc(), journal) {
         Ok(file) => serve_file(rt, &config, &file, journal),
         Err(fault) => Err(Exit::from(fault)),

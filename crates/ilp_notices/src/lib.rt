@@ -27,5 +27,6 @@ pub use journal_file::{
 };
 pub use notices::Notices;
 pub use starting::{
-    closing, doubtful, few_files, listening, no_thread, not_listening, one_worker, report_follows,
+    closing, configuration_warning, few_files, listening, no_thread, not_listening, one_worker,
+    report_follows,
 };

@@ -14,7 +14,7 @@ pub fn listening<R: Clock + Eprint>(rt: &R, config: &Config) {
 }
 
 /// Tells of a thing in the configuration that is allowed and probably not meant.
-pub fn doubtful<R: Clock + Eprint>(rt: &R, what: &str) {
+pub fn configuration_warning<R: Clock + Eprint>(rt: &R, what: &str) {
     tell(rt, Level::Warn, format_args!("configuration: {what}"));
 }
 
