@@ -6,7 +6,7 @@ use Rattle.std.specs.Str.{IsAscii, IsUtf8}
 use Rattle.std.specs.Str.Parse.{digits_value}
 use Rattle.std.proofs.lemmas.Bool.Decides.{nat_tests}
 use Rattle.std.proofs.lemmas.Str.Parse.{IsDigitsTest, IsNumeralModel, numerals_by_value}
-use Rattle.ilp_connector.specs.Script.{number_in}
+use Rattle.ilp_connector.specs.Script.{is_printable, number_in}
 use Rattle.std.proofs.lemmas.Str.{IsUtf8-from_ascii}
 
 digits_test : IsDigitsTest (λ ds. list_all is_ascii_digit ds ≡ true)
@@ -19,6 +19,17 @@ own_numerals = numerals_by_value _ digits_test
 pub IsUtf8-digits : (text : List ℕ) → list_all is_ascii_digit text ≡ true → IsUtf8 text
 IsUtf8-digits text digits = IsUtf8-from_ascii text (ascii text digits) where
   ascii : (xs : List ℕ) → list_all is_ascii_digit xs ≡ true → IsAscii xs
+  ascii [] h = λ i. omega arith
+  ascii (x ∷ xs) h = by_place x xs (grind (arith, nat_tests)) (ascii xs (grind (arith, nat_tests)))
+    where
+      by_place : (y : ℕ) (ys : List ℕ) → y < 128 → IsAscii ys → IsAscii (y ∷ ys)
+      by_place y ys first rest zero = first
+      by_place y ys first rest (suc i) = rest i
+
+-- spaces and visible ASCII are text
+pub IsUtf8-printable : (text : List ℕ) → list_all is_printable text ≡ true → IsUtf8 text
+IsUtf8-printable text printable = IsUtf8-from_ascii text (ascii text printable) where
+  ascii : (xs : List ℕ) → list_all is_printable xs ≡ true → IsAscii xs
   ascii [] h = λ i. omega arith
   ascii (x ∷ xs) h = by_place x xs (grind (arith, nat_tests)) (ascii xs (grind (arith, nat_tests)))
     where

@@ -3,3 +3,4 @@ pub mod Fields
 pub mod Written
 pub mod LineSteps
 pub mod ScriptCalls
+mod BadLines

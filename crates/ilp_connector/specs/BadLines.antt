@@ -1,7 +1,9 @@
 -- The lines of a script that are bad.
-use Rattle.std.specs.Prelude.{ℕ, ◌+◌, List, [], ◌∷◌, map, Option, Some, None, Bool, true, false, is_err, if◌then◌else◌}
+use Rattle.std.specs.Prelude.{ℕ, ◌+◌, List, [], ◌∷◌, map, Some, None, Bool, true, false, is_err, if◌then◌else◌}
 use Rattle.hex.specs.Hex.{decode_of}
-use Rattle.ilp_connector.specs.declared.bad_lines.BadLine.{BadLine}
+use Rattle.ilp_connector.specs.declared.line_faults.BadLine.{BadLine}
+use Rattle.ilp_connector.specs.declared.reply.LineReply.{LineReply}
+use Rattle.ilp_connector.specs.declared.reply.LineReply.TheVariants as replies
 use Rattle.ilp_connector.specs.Script.{Form, hold, answer, expire, credit, ask, close, report, silent, bad, form_of}
 
 -- it asks for nothing that there is, or its packet isn't in hexadecimal
@@ -20,6 +22,11 @@ is_bad_form bad = true
 -- by the names of the peers
 abbrev pub is_bad : List (List ℕ) → List ℕ → Bool
 is_bad names line = is_bad_form (form_of names line)
+
+-- a reply that is printed as `bad line`
+abbrev pub is_bad_line : LineReply → Bool
+is_bad_line replies.BadLine = true
+is_bad_line _ = false
 
 -- the numbers of the bad ones of lines, of which the first has this number
 abbrev pub bad_numbers : List (List ℕ) → ℕ → List (List ℕ) → List ℕ

@@ -150,8 +150,10 @@ fn words_of<A: Allocator + Copy>(alloc: A, octets: &[u8]) -> Result<Option<Strin
     let Ok(Packet::Reject(packet)) = Packet::read(octets) else {
         return Ok(None);
     };
-    let code = spoken(alloc, packet.code)?;
-    let message = spoken(alloc, packet.message)?;
+    let code = packet.code;
+    let message = packet.message;
+    let code = spoken(alloc, code)?;
+    let message = spoken(alloc, message)?;
     Ok(Some(format!(in alloc; "code {code}, message {message}")?))
 }
 
