@@ -16,7 +16,7 @@ from cases.laboratory import Laboratory, post_close
 from cases.messages import HERE, bearer, post, request, soon
 from cases.program import Program
 from deploying.programs import DIFFERED, EXAMPLES, HELD, MISSING, Missing, connector, expect_tools, say
-from deploying.world import OUR_NAME, WITHIN, World
+from deploying.world import OUR_NAME, PEER_NAME, WITHIN, World
 from scenes import FULFILL
 
 PREPARE = [sys.executable, str(EXAMPLES / "prepare.py")]
@@ -85,8 +85,11 @@ def a_packet_goes_through(world: World) -> None:
 
 
 def a_peer_that_sends_chunks(world: World) -> None:
-    """A 200 in chunks is read all the same."""
+    """A 200 in chunks is read all the same. The peer is asked for by its name."""
     expect("a packet to who sends chunks", send(world, "chunks"), f"fulfilled: preimage {'00' * 32}")
+    peer = world.peers["chunks"]
+    expect("the name in TLS", peer.names, [PEER_NAME])
+    expect_that("the name in HTTP is another", f"Host: {PEER_NAME}\r\n".encode() in peer.received[0].octets)
 
 
 def certificates_that_do_not_fit(world: World) -> None:

@@ -58,6 +58,9 @@ class TlsStandIn(StandIn):
     def __init__(self, behaviour: Behaviour, certificate: Path) -> None:
         self.context = ssl.SSLContext(ssl.PROTOCOL_TLS_SERVER)
         self.context.load_cert_chain(f"{certificate}.crt", f"{certificate}.key")
+        # By which names it was asked for.
+        self.names: list[str | None] = []
+        self.context.sni_callback = lambda _, name, __: self.names.append(name)
         super().__init__(behaviour)
 
     def meet(self, link: socket.socket) -> None:
