@@ -24,6 +24,7 @@ import sys
 import tempfile
 import time
 from collections.abc import Callable
+from functools import partial
 from pathlib import Path
 
 from cases.case import Differs, expect, expect_that
@@ -352,10 +353,10 @@ def play(program: Path, rounds: int) -> None:
         bench = Bench(program, Path(folder))
         for trial in SIGNALS:
             for _ in range(rounds):
-                named(trial.__name__, lambda trial=trial: play_signal(bench, trial))
+                named(trial.__name__, partial(play_signal, bench, trial))
             print(f"{trial.__name__}: held {rounds} times", flush=True)
         for trial in FAULTS:
-            named(trial.__name__, lambda trial=trial: play_fault(bench, trial))
+            named(trial.__name__, partial(play_fault, bench, trial))
             print(f"{trial.__name__}: held", flush=True)
 
 

@@ -10,6 +10,7 @@ from collections import Counter
 from collections.abc import Iterator
 from concurrent.futures import ThreadPoolExecutor
 from pathlib import Path
+from typing import BinaryIO
 
 from cases.case import Differs, expect, expect_that
 from cases.laboratory import Laboratory, post_close
@@ -139,23 +140,23 @@ def too_many_at_once(world: World) -> None:
     with link_to(world) as link:
         writer = threading.Thread(target=link.sendall, args=(octets,))
         writer.start()
-        file = link.makefile("rb")
-        statuses = Counter(status for status in statuses_in(file, 300))
+        with link.makefile("rb") as file:
+            statuses = Counter(statuses_in(file, 300))
         writer.join()
     expect("the statuses", set(statuses), {401, 429})
     expect_that(f"{statuses[401]} of 300 went through", statuses[401] >= MOST_AT_ONCE)
     expect("another sender", send(world, "bob"), f"fulfilled: preimage {'00' * 32}")
 
 
-def statuses_in(file: object, count: int) -> Iterator[int]:
+def statuses_in(file: BinaryIO, count: int) -> Iterator[int]:
     """The statuses of answers that come one behind the other."""
     for _ in range(count):
-        line = file.readline()  # type: ignore[attr-defined]
+        line = file.readline()
         length = 0
-        while (field := file.readline()) not in (b"\r\n", b""):  # type: ignore[attr-defined]
+        while (field := file.readline()) not in (b"\r\n", b""):
             name, _, value = field.partition(b":")
             length = int(value) if name.lower() == b"content-length" else length
-        file.read(length)  # type: ignore[attr-defined]
+        file.read(length)
         yield int(line.split()[1])
 
 
@@ -191,8 +192,8 @@ def what_is_not_served(world: World) -> None:
     """Nothing of the engine side is reached, whatever is asked for, and only who shows a token sends."""
     place = world.setup.engine_listen
     key = ["-H", "Idempotency-Key: k", "-H", bearer(world.setup.token)]
-    for target in ("/close", "/report", "/accounts/alice/settlements", "//close", "/ilp/../close", "/ilp/", "/ilp?close",
-                   "/%63lose"):
+    for target in ("/close", "/report", "/accounts/alice/settlements", "//close", "/ilp/../close", "/ilp/",
+                   "/ilp?close", "/%63lose"):
         status, _ = curl(world, target, b'{"amount":"7","scale":2}', *key, "-H", f"Host: {place}")
         expect(f"the status of {target}", status, "404")
     status, _ = curl(world, "/ilp", b'{"amount":"7","scale":2}', *key, "--request-target", f"http://{place}/close")

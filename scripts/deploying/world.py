@@ -127,9 +127,9 @@ class World:
         """The stand-ins behind TLS."""
         fulfills = answers(response(200, FULFILL))
 
-        def held(received: Received, link: socket.socket, stop: object) -> None:
+        def held(received: Received, link: socket.socket, stop: threading.Event) -> None:
             self.release.wait(WITHIN)
-            fulfills(received, link, stop)  # type: ignore[arg-type]
+            fulfills(received, link, stop)
 
         behaviours = {"chunks": (answers(in_chunks(FULFILL)), PEER_NAME), "held": (held, PEER_NAME),
                       "misnamed": (fulfills, OTHER_NAME), "stranger": (fulfills, "stranger")}
