@@ -24,20 +24,27 @@ import sys
 import tempfile
 import time
 from collections.abc import Callable
+from concurrent.futures import ThreadPoolExecutor
 from functools import partial
 from pathlib import Path
 
 from cases.case import Differs, expect, expect_that
-from cases.messages import post, request
+from cases.messages import bearer, post, request, response, soon
 from cases.program import Setup
+from cases.stand_ins import StandIn, never_answers
 from connections import quantity
 from deploying.programs import DEPLOY, DIFFERED, HELD, MISSING, Missing, connector, expect_tools, say
+from scenes import R00
 
 WRAPPER = str(DEPLOY / "connector-run")
 
 # In seconds: what a start, an answer or an end takes at most beside other work, and how often it is looked for.
 WITHIN, PAUSE = 30.0, 0.005
 
+# In milliseconds.
+HOLD = 1000
+
+SIGNALS = (signal.SIGTERM, signal.SIGINT, signal.SIGHUP)
 LISTENING, CLOSING = "info listening at ", "info closing: "
 
 # A process of its own PID namespace, whose first one is the wrapper.
@@ -51,7 +58,8 @@ class Bench:
     def __init__(self, program: Path, folder: Path) -> None:
         self.program = program
         self.folder = folder
-        self.setup = Setup()
+        self.bob = StandIn(never_answers)
+        self.setup = Setup(bob=self.bob.port, top={"max_hold_ms": HOLD})
         self.configuration = folder / "connector.toml"
         self.configuration.write_text(self.setup.text())
         self.journal = folder / "state/hub.journal"
@@ -59,8 +67,8 @@ class Bench:
         self.mark = folder / "state/hub.journal.running"
         for path in (self.journal.parent, self.reports):
             path.mkdir()
-        # How many settlements were credited, and the names of the reports so far.
-        self.credited = 0
+        # How many entries the journal must have, and the names of the reports so far.
+        self.entries = 0
         self.kept: set[str] = set()
 
     def check(self) -> str:
@@ -70,10 +78,10 @@ class Bench:
 
     def credit(self) -> None:
         """A settlement that alice's engine tells, and that is credited."""
-        target, key = "/accounts/alice/settlements", f"Idempotency-Key: k{self.credited}"
+        target, key = "/accounts/alice/settlements", f"Idempotency-Key: k{self.entries}"
         answer = post(self.setup.engines_port, request(target, key, body=quantity(1, 2)))
         expect("the answer to a settlement", answer[:12], b"HTTP/1.1 201")
-        self.credited += 1
+        self.entries += 1
 
     def new_files(self) -> list[str]:
         """What came into the folder of reports since the last look."""
@@ -163,8 +171,8 @@ def expect_saved(bench: Bench, wrapped: Wrapped) -> None:
     lines = (bench.reports / new[0]).read_text().splitlines()
     expect("the lines of the report", len(lines), 11)
     expect("its last two lines", [line.split() for line in lines[-2:]],
-           [["entries", str(bench.credited)], ["fulfilled", "0"]])
-    expect("the journal", bench.check(), f"ok 2 peers 1 assets 2 routes {bench.credited} entries")
+           [["entries", str(bench.entries)], ["fulfilled", "0"]])
+    expect("the journal", bench.check(), f"ok 2 peers 1 assets 2 routes {bench.entries} entries")
 
 
 def expect_saved_or_not_begun(bench: Bench, wrapped: Wrapped) -> None:
@@ -192,7 +200,7 @@ def at_once(bench: Bench, wrapped: Wrapped) -> None:
 def at_random(bench: Bench, wrapped: Wrapped) -> None:
     """TERM, INT or HUP at any moment of the first half second."""
     time.sleep(random.uniform(0.0, 0.5))
-    wrapped.signal(random.choice((signal.SIGTERM, signal.SIGINT, signal.SIGHUP)))
+    wrapped.signal(random.choice(SIGNALS))
     expect_saved_or_not_begun(bench, wrapped)
 
 
@@ -217,27 +225,42 @@ def again_and_again(bench: Bench, wrapped: Wrapped) -> None:
     bench.credit()
     while wrapped.process.poll() is None:
         with contextlib.suppress(ProcessLookupError):
-            wrapped.signal(random.choice((signal.SIGTERM, signal.SIGINT, signal.SIGHUP)))
+            wrapped.signal(random.choice(SIGNALS))
         time.sleep(random.uniform(0.0, 0.1))
     expect_saved(bench, wrapped)
 
 
 def while_it_closes(bench: Bench, wrapped: Wrapped) -> None:
-    """TERM when somebody else has closed the connector."""
+    """TERM when somebody else has closed the connector: nothing is posted to its address any more."""
     wrapped.await_line(LISTENING)
     bench.credit()
     expect("a close", post(bench.setup.engines_port, request("/close"))[:12], b"HTTP/1.1 200")
-    time.sleep(random.uniform(0.0, 0.3))
-    with contextlib.suppress(ProcessLookupError):
+    wrapped.await_line(CLOSING)
+    wrapped.signal()
+    expect_saved(bench, wrapped)
+    expect_that(f"something was posted: {wrapped.said()!r}", "curl:" not in wrapped.said())
+
+
+def beside_a_packet(bench: Bench, wrapped: Wrapped) -> None:
+    """TERM while a packet is at a peer that says nothing: its sender is answered when the hold is over."""
+    wrapped.await_line(LISTENING)
+    before = len(bench.bob.of("/ilp"))
+    with ThreadPoolExecutor(1) as pool:
+        octets = request("/ilp", bearer(bench.setup.token), body=soon())
+        answer = pool.submit(post, bench.setup.peers_port, octets, WITHIN)
+        bench.bob.await_count("/ilp", before + 1)
         wrapped.signal()
+        expect("the answer to the packet", answer.result(), response(200, R00))
+    # The hold and its release.
+    bench.entries += 2
     expect_saved(bench, wrapped)
 
 
 def to_the_group(bench: Bench, wrapped: Wrapped) -> None:
-    """INT to all of its processes, as a terminal sends it."""
+    """A signal to all of its processes, as a terminal sends it."""
     wrapped.await_line(LISTENING)
     bench.credit()
-    os.killpg(wrapped.process.pid, signal.SIGINT)
+    os.killpg(wrapped.process.pid, random.choice(SIGNALS))
     expect_saved(bench, wrapped)
 
 
@@ -253,8 +276,8 @@ def as_process_1_at_once(bench: Bench, wrapped: Wrapped) -> None:
     expect_saved_or_not_begun(bench, wrapped)
 
 
-SIGNALS = (at_once, at_random, as_it_begins, once_it_listens, again_and_again, while_it_closes, to_the_group,
-           as_process_1, as_process_1_at_once)
+TRIALS = (at_once, at_random, as_it_begins, once_it_listens, again_and_again, while_it_closes, beside_a_packet,
+          to_the_group, as_process_1, as_process_1_at_once)
 
 
 def play_signal(bench: Bench, trial: Callable[[Bench, Wrapped], None]) -> None:
@@ -351,7 +374,7 @@ def play(program: Path, rounds: int) -> None:
     """All trials, each of which is told."""
     with tempfile.TemporaryDirectory(prefix="wrapper-trial-") as folder:
         bench = Bench(program, Path(folder))
-        for trial in SIGNALS:
+        for trial in TRIALS:
             for _ in range(rounds):
                 named(trial.__name__, partial(play_signal, bench, trial))
             print(f"{trial.__name__}: held {rounds} times", flush=True)

@@ -79,10 +79,9 @@ def established(port: int) -> int:
 # ---- steps
 
 def a_packet_goes_through(world: World) -> None:
-    """A packet through both fronts is fulfilled, one that is sent in chunks too."""
-    expect("a packet to bob", send(world, "bob"), f"fulfilled: preimage {'00' * 32}")
-    chunked = send(world, "bob", "-H", "Transfer-Encoding: chunked")
-    expect("a packet in chunks", chunked, f"fulfilled: preimage {'00' * 32}")
+    """A packet through both fronts is fulfilled, also one that is sent in chunks, or by who waits for a 100 first."""
+    for words in ((), ("-H", "Transfer-Encoding: chunked"), ("-H", "Expect: 100-continue")):
+        expect(f"a packet to bob {words}", send(world, "bob", *words), f"fulfilled: preimage {'00' * 32}")
 
 
 def a_peer_that_sends_chunks(world: World) -> None:
@@ -208,9 +207,9 @@ def what_is_not_served(world: World) -> None:
 STEPS = (a_packet_goes_through, a_peer_that_sends_chunks, certificates_that_do_not_fit, a_slow_sender,
          too_many_at_once, too_many_open, lengths, what_is_not_served)
 
-# What the steps above have fulfilled: three packets of 100 to the receiver, one to who sends chunks, and the slow
-# one and those that were held, of 1.
-FULFILLED = 4 + 1 + MOST_OPEN
+# What the steps above have fulfilled: four packets to the receiver, the slow one, one to who sends chunks, and those
+# that were held.
+FULFILLED = 4 + 1 + 1 + MOST_OPEN
 
 
 # ---- the program
