@@ -6,8 +6,8 @@
 Each trial is run ROUNDS times (10) over one journal. Its supervisor sends a signal at once, at a random moment, as
 the connector begins, once it listens, twice, to the whole group, from outside of a PID namespace where the wrapper
 is process 1, and so on. After each the report has to be there, and the journal with each settlement that was
-credited; or nothing was begun. Then it is tried with what fails: a close that can't be posted, a connector that is
-killed, one that is refused, and an address that another connector has.
+credited; or nothing was begun. Then it is tried with what fails: a close that can't be posted, a name that is taken, a
+connector that is killed, one that is refused, and an address that another connector has.
 
 It takes the program of scripts/build.sh, or the one that CONNECTOR names. It needs Linux, Python 3.11, curl and
 unshare, which has to be allowed. The exit status is 0 where all held, 1 where something differed, and 2 where
@@ -43,6 +43,9 @@ WITHIN, PAUSE = 30.0, 0.005
 
 # In milliseconds.
 HOLD = 1000
+
+# The second in which each start of some trials is.
+START = "20260102T030405Z"
 
 SIGNALS = (signal.SIGTERM, signal.SIGINT, signal.SIGHUP)
 LISTENING, CLOSING = "info listening at ", "info closing: "
@@ -301,6 +304,15 @@ def posts_that_fail(bench: Bench, wrapped: Wrapped) -> None:
     expect("how many closes were posted", (bench.folder / "posts").read_text().count("/close"), 3)
 
 
+def names_that_are_taken(bench: Bench, wrapped: Wrapped) -> None:
+    """Starts of one second have reports of their own, and an older one stays as it was."""
+    wrapped.await_line(LISTENING)
+    wrapped.signal()
+    expect("the exit status", wrapped.status(), 0)
+    expect("new files", bench.new_files(), [f"{START}-3.report"])
+    expect("the older report", (bench.reports / f"{START}.report").read_text(), "older\n")
+
+
 def refused(bench: Bench, wrapped: Wrapped) -> None:
     """A connector that is refused is not begun."""
     expect("the exit status", wrapped.status(), 1)
@@ -340,23 +352,32 @@ def another_has_the_address(bench: Bench, wrapped: Wrapped) -> None:
     expect_saved(bench, wrapped)
 
 
-def curl_that_fails_twice(folder: Path) -> str:
-    """A path on which the first two calls of curl fail."""
-    real, tools = shutil.which("curl"), folder / "tools"
-    tools.mkdir()
-    program = tools / "curl"
-    program.write_text(f'#!/bin/sh\necho "$@" >>{folder}/posts\n'
-                       f'[ "$(wc -l <{folder}/posts)" -gt 2 ] || exit 7\nexec {real} "$@"\n')
-    program.chmod(0o755)
+def with_tools(folder: Path) -> str:
+    """A path on which the first two calls of curl fail, and on which it is always the same second."""
+    tools = folder / "tools"
+    tools.mkdir(exist_ok=True)
+    curl = (f'echo "$@" >>{folder}/posts\n[ "$(wc -l <{folder}/posts)" -gt 2 ] || exit 7\n'
+            f'exec {shutil.which("curl")} "$@"\n')
+    for name, text in (("curl", curl), ("date", f"echo {START}\n")):
+        (tools / name).write_text(f"#!/bin/sh\n{text}")
+        (tools / name).chmod(0o755)
     return f"{tools}:{os.environ['PATH']}"
+
+
+def prepare(bench: Bench, trial: Callable[[Bench, Wrapped], None]) -> dict[str, str]:
+    """What has to be there before a trial, and its environment."""
+    if trial is refused:
+        bench.mark.write_text("run r1, begun with 0 entries\n")
+    if trial is names_that_are_taken:
+        (bench.reports / f"{START}.report").write_text("older\n")
+        (bench.reports / f"{START}-2.part").mkdir()
+        bench.new_files()
+    return {"PATH": with_tools(bench.folder)} if trial in (posts_that_fail, names_that_are_taken) else {}
 
 
 def play_fault(bench: Bench, trial: Callable[[Bench, Wrapped], None]) -> None:
     """A trial of what fails."""
-    environment = {"PATH": curl_that_fails_twice(bench.folder)} if trial is posts_that_fail else {}
-    if trial is refused:
-        bench.mark.write_text("run r1, begun with 0 entries\n")
-    wrapped = Wrapped(bench, [], **environment)
+    wrapped = Wrapped(bench, [], **prepare(bench, trial))
     try:
         trial(bench, wrapped)
     finally:
@@ -365,7 +386,7 @@ def play_fault(bench: Bench, trial: Callable[[Bench, Wrapped], None]) -> None:
             bench.mark.unlink()
 
 
-FAULTS = (posts_that_fail, refused, killed, another_has_the_address)
+FAULTS = (posts_that_fail, names_that_are_taken, refused, killed, another_has_the_address)
 
 
 # ---- the program
