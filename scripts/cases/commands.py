@@ -4,11 +4,16 @@ from pathlib import Path
 
 from cases.case import case, expect, expect_that
 from cases.laboratory import Laboratory, close
-from cases.messages import HERE
 from cases.program import Setup
 
 TOP = Path(__file__).resolve().parent.parent.parent
 USAGE = "usage: connector packet HEX, check CONFIG, replay CONFIG, serve CONFIG [JOURNAL]\n"
+
+# What is told of `careless`, and of its file where others may read it.
+CARELESS = ["at the top: `worker` is no field of the top, and is ignored: `workers` may be meant",
+            '[[peer]] 1 "alice": `token` is shorter than 16 octets, and may be guessed',
+            "[[route]] 2: `workers` is a field of the top: it belongs before the first table"]
+READABLE = "the file has tokens, and others may read it: chmod o-r"
 
 # A Reject of the code F02 by test.hub with the message `no route`, and one with a message that is no text.
 REJECT = "0e18463032" + "08" + b"test.hub".hex() + "08" + b"no route".hex() + "00"
@@ -71,3 +76,42 @@ def bad_lines_of_a_script(laboratory: Laboratory) -> None:
     expect("the last lines", text.splitlines()[-3:], ["bad line"] * 3)
     expect("what is told", [line.split(": ")[0] for line in errors.splitlines()], ["line 2", "line 4", "line 5"])
     expect_that(f"PEER is told: {errors!r}", "PEER is to be the name of a peer" in errors)
+
+
+# ---- warnings
+
+def careless() -> Setup:
+    """A configuration that is valid, with three things that are probably not meant."""
+    return Setup(token="a-token", top={"worker": 2}, further=["workers = 2"])
+
+
+@case
+def warnings_of_a_check(laboratory: Laboratory) -> None:
+    """What is probably not meant is told behind the answer, which stays as it was, with a journal too; of a
+    configuration that is refused only that is told, and of the built-in one nothing."""
+    file = laboratory.folder() / "connector.toml"
+    answer = "ok 2 peers 1 assets 2 routes"
+    for setup, mode, told in ((Setup(), 0o600, []), (careless(), 0o640, CARELESS),
+                              (careless(), 0o644, [READABLE, *CARELESS])):
+        file.write_text(setup.text())
+        file.chmod(mode)
+        status, text, errors = run(laboratory, "check", str(file))
+        expect("status and answer", (status, text), (0, f"{answer}\n"))
+        expect("what is told", errors.splitlines(), told)
+        status, text, errors = run(laboratory, "check", str(file), str(file.parent / "journal"))
+        expect("status and answer with a journal", (status, text), (0, f"{answer} 0 entries\n"))
+        expect("what is told with a journal", errors.splitlines(), told)
+    file.write_text(Setup(top={"worker": 2, "workers": 0}).text())
+    status, text, errors = run(laboratory, "check", str(file))
+    expect("status and answer of a refused one", (status, text), (1, "refused 23 BadValue workers\n"))
+    expect("how many lines are told of it", len(errors.splitlines()), 1)
+    expect("the built-in one", run(laboratory, "check", "-"), (0, f"{answer}\n", ""))
+
+
+@case
+def warnings_of_a_start(laboratory: Laboratory) -> None:
+    """`serve` tells the same, with time and level, and serves."""
+    program = laboratory.start(careless())
+    program.await_listening()
+    expect("what is told", program.warnings(), CARELESS)
+    close(program)
