@@ -1,0 +1,5 @@
+use Rattle.ilp_warnings.specs.Told.{AreWarranted}
+use Rattle.ilp_warnings.proofs.telling.tell_assets.Given as goal
+
+abbrev pub invariant-loop-asset : goal.invariant-loop-asset
+invariant-loop-asset l = AreWarranted l.source l.told.items

@@ -1,0 +1,5 @@
+use Rattle.ilp_warnings.specs.Told.{AreWarranted}
+use Rattle.ilp_warnings.proofs.telling.tell_peers.Given as goal
+
+abbrev pub invariant-loop-peer : goal.invariant-loop-peer
+invariant-loop-peer l = AreWarranted l.source l.told.items

@@ -1,0 +1,5 @@
+use Rattle.ilp_warnings.specs.Told.{AreWarranted}
+use Rattle.ilp_warnings.proofs.telling.tell_routes.Given as goal
+
+abbrev pub invariant-loop-route : goal.invariant-loop-route
+invariant-loop-route l = AreWarranted l.source l.told.items

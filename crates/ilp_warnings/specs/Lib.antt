@@ -1,0 +1,5 @@
+pub mod Meaning
+pub mod Told
+pub use Rattle.ilp_accounts.specs.Configuration
+pub use Rattle.ilp_fields.specs.Fields
+pub use Rattle.ilp_fields.specs.Keys
