@@ -53,7 +53,7 @@ impl fmt::Display for Line<'_> {
             ),
             Warning::NoAddress { field, .. } => write!(
                 f,
-                "`{field}` is no address: it is to be IP:PORT, such as 127.0.0.1:7768, without a name"
+                "`{field}` is no IP:PORT: write an address in digits, such as 127.0.0.1:7768"
             ),
             Warning::ShortToken { field, .. } => {
                 write!(f, "`{field}` is shorter than 16 octets, and may be guessed")
@@ -138,11 +138,11 @@ fn write_unknown<W: fmt::Write>(
     key: &Option<String>,
     meant: Option<Field>,
 ) -> fmt::Result {
+    let whole = whole(place);
     match key {
-        Some(key) => write!(f, "`{key}`")?,
-        None => f.write_str("a field")?,
+        Some(key) => write!(f, "`{key}` is no field of {whole}, and is ignored")?,
+        None => write!(f, "a field that {whole} doesn't have is ignored")?,
     }
-    write!(f, " is no field of {}, and is ignored", whole(place))?;
     match meant {
         Some(field) if is_array(place, field) => write!(f, ": `[[{field}]]` may be meant"),
         Some(field) => write!(f, ": `{field}` may be meant"),
