@@ -3,6 +3,7 @@
 ghost use Rattle.std.specs.Prelude.{◌≡◌, Some, Contains, IfOk, OnOk, IfSome};
 ghost use Rattle.std.specs.List.{list_all};
 ghost use Rattle.toml.specs.View.{table_view};
+ghost use Rattle.ilp_warnings.specs.Complete.{KeepsAll};
 ghost use Rattle.ilp_warnings.specs.Told.{AreWarranted, IsWarranted, IsUnknown, table_at, keys_of, known_at, top_fields, is_plain, is_plain_octet, IsNear};
 
 use crate::known::{known_at, named, top_fields};
@@ -29,7 +30,8 @@ pub(crate) fn tell_fields(
 ) -> Result<(), AllocError>
     requires there { table_at (table_view source.table.now) place ≡ Some (table_view table.now) }
     requires sound { AreWarranted source told.old.items }
-    ensures { OnOk result (AreWarranted source.entry told.new.items) }
+    ensures sound { OnOk result (AreWarranted source.entry told.new.items) }
+    ensures kept { OnOk result (KeepsAll told.old.items told.new.items) }
 {
     for (key, _) in table.iter() {
         tell_field(source, told, place, table, key.as_str())?;
@@ -48,7 +50,8 @@ fn tell_field(
     requires there { table_at (table_view source.table.now) place ≡ Some (table_view table.now) }
     requires has { Contains (keys_of (table_view table.now)) key.now }
     requires sound { AreWarranted source told.old.items }
-    ensures { OnOk result (AreWarranted source.entry told.new.items) }
+    ensures sound { OnOk result (AreWarranted source.entry told.new.items) }
+    ensures kept { OnOk result (KeepsAll told.old.items told.new.items) }
 {
     let _table = table;
     if named(known_at(place), key).is_some() {

@@ -1,8 +1,10 @@
 //! What is told of peers.
 
-ghost use Rattle.std.specs.Prelude.{◌≡◌, ◌≢◌, ◌↔◌, ◌<◌, length, Some, IfSome, OnOk, IsTrue};
-ghost use Rattle.ilp_warnings.specs.Meaning.{HaveSameHost, ReachesAtOnce};
+ghost use Rattle.std.specs.Prelude.{Contains, ◌≡◌, ◌≢◌, ◌↔◌, ◌<◌, length, Some, IfSome, OnOk, IsTrue};
+ghost use Rattle.ilp_warnings.specs.Complete.{KeepsAll, IsPeerTold, AreTokensTold, AreAddressesTold};
+ghost use Rattle.ilp_warnings.specs.Meaning.{IsAddress, IsShort, IsExample, HaveSameHost, ReachesAtOnce};
 ghost use Rattle.ilp_warnings.specs.Told.{AreWarranted, token_at};
+ghost use Rattle.ilp_accounts.specs.Configuration.{peer_at};
 
 use crate::routes::is_unreached;
 use crate::source::Source;
@@ -20,22 +22,37 @@ pub(crate) fn tell_peer(
 ) -> Result<(), AllocError>
     requires known { peer < length source.config.now.peers }
     requires sound { AreWarranted source told.old.items }
-    ensures { OnOk result (AreWarranted source.entry told.new.items) }
+    ensures sound { OnOk result (AreWarranted source.entry told.new.items) }
+    ensures kept { OnOk result (KeepsAll told.old.items told.new.items) }
+    ensures peer { OnOk result (IsPeerTold source.entry.config.now source.entry.targets.now
+        peer told.new.items) }
 {
-    tell_token(source, told, peer, Field::Token, source.config.token(peer))?;
-    tell_token(
-        source,
-        told,
-        peer,
-        Field::OutToken,
-        source.config.out_token(peer),
-    )?;
-    let same = source.config.token(peer) == source.config.out_token(peer);
-    tell(source, told, same, Warning::SameTokens { peer })?;
+    tell_tokens(source, told, peer)?;
     tell_addresses(source, told, peer)?;
-    tell_others(source, told, peer)?;
+    tell_same_host(source, told, peer)?;
+    tell_one_packet(source, told, peer)?;
     let unreached = is_unreached(source.targets, peer);
     tell(source, told, unreached, Warning::Unreached { peer })
+}
+
+// Tells of the tokens of a peer.
+fn tell_tokens(source: Source<'_>, told: &mut Vec<Warning>, peer: u32) -> Result<(), AllocError>
+    requires known { peer < length source.config.now.peers }
+    requires sound { AreWarranted source told.old.items }
+    ensures sound { OnOk result (AreWarranted source.entry told.new.items) }
+    ensures kept { OnOk result (KeepsAll told.old.items told.new.items) }
+    ensures tokens { OnOk result (AreTokensTold source.entry.config.now peer told.new.items) }
+{
+    let token = source.config.token(peer);
+    let out_token = source.config.out_token(peer);
+    tell_token(source, told, peer, Field::Token, token)?;
+    tell_token(source, told, peer, Field::OutToken, out_token)?;
+    tell(
+        source,
+        told,
+        token == out_token,
+        Warning::SameTokens { peer },
+    )
 }
 
 // Tells of one of the tokens of a peer.
@@ -48,7 +65,12 @@ fn tell_token(
 ) -> Result<(), AllocError>
     requires token { token_at source.config.now peer field ≡ Some token.now }
     requires sound { AreWarranted source told.old.items }
-    ensures { OnOk result (AreWarranted source.entry told.new.items) }
+    ensures sound { OnOk result (AreWarranted source.entry told.new.items) }
+    ensures kept { OnOk result (KeepsAll told.old.items told.new.items) }
+    ensures short { OnOk result (IsShort token.now
+        → Contains told.new.items (Warning.ShortToken peer field)) }
+    ensures example { OnOk result (IsExample token.now
+        → Contains told.new.items (Warning.ExampleToken peer field)) }
 {
     let is_short = is_short(token);
     tell(source, told, is_short, Warning::ShortToken { peer, field })?;
@@ -65,29 +87,56 @@ fn tell_token(
 fn tell_addresses(source: Source<'_>, told: &mut Vec<Warning>, peer: u32) -> Result<(), AllocError>
     requires known { peer < length source.config.now.peers }
     requires sound { AreWarranted source told.old.items }
-    ensures { OnOk result (AreWarranted source.entry told.new.items) }
+    ensures sound { OnOk result (AreWarranted source.entry told.new.items) }
+    ensures kept { OnOk result (KeepsAll told.old.items told.new.items) }
+    ensures addresses { OnOk result (AreAddressesTold source.entry.config.now
+        peer told.new.items) }
 {
-    let place = Place::Peer(peer);
-    tell_address(source, told, place, Field::Host, source.config.host(peer))?;
+    let host = source.config.host(peer);
+    tell_address(source, told, Place::Peer(peer), Field::Host, host)?;
+    tell_engine(source, told, peer)
+}
+
+// Tells of the place where the engine of a peer is to be reached.
+fn tell_engine(source: Source<'_>, told: &mut Vec<Warning>, peer: u32) -> Result<(), AllocError>
+    requires known { peer < length source.config.now.peers }
+    requires sound { AreWarranted source told.old.items }
+    ensures sound { OnOk result (AreWarranted source.entry told.new.items) }
+    ensures kept { OnOk result (KeepsAll told.old.items told.new.items) }
+    ensures engine { OnOk result (IfSome (peer_at source.entry.config.now peer).engine
+        (λ text. ¬ IsAddress text
+        → Contains told.new.items (Warning.NoAddress (Place.Peer peer) Field.Engine))) }
+{
     match source.config.engine(peer) {
-        Some(engine) => tell_address(source, told, place, Field::Engine, engine),
+        Some(engine) => tell_address(source, told, Place::Peer(peer), Field::Engine, engine),
         None => Ok(()),
     }
 }
 
-// Tells of the other peers that a peer has something to do with.
-fn tell_others(source: Source<'_>, told: &mut Vec<Warning>, peer: u32) -> Result<(), AllocError>
+// Tells of another peer at the same place.
+fn tell_same_host(source: Source<'_>, told: &mut Vec<Warning>, peer: u32) -> Result<(), AllocError>
     requires known { peer < length source.config.now.peers }
     requires sound { AreWarranted source told.old.items }
-    ensures { OnOk result (AreWarranted source.entry told.new.items) }
+    ensures sound { OnOk result (AreWarranted source.entry told.new.items) }
+    ensures kept { OnOk result (KeepsAll told.old.items told.new.items) }
 {
-    if let Some(other) = same_host_before(source.config, peer) {
-        tell(source, told, true, Warning::SharedHost { peer, other })?;
+    match same_host_before(source.config, peer) {
+        Some(other) => tell(source, told, true, Warning::SharedHost { peer, other }),
+        None => Ok(()),
     }
-    if let Some(sender) = one_packet_of(source.config, peer) {
-        tell(source, told, true, Warning::OnePacket { peer, sender })?;
+}
+
+// Tells of another peer of which one packet reaches the threshold of this one.
+fn tell_one_packet(source: Source<'_>, told: &mut Vec<Warning>, peer: u32) -> Result<(), AllocError>
+    requires known { peer < length source.config.now.peers }
+    requires sound { AreWarranted source told.old.items }
+    ensures sound { OnOk result (AreWarranted source.entry told.new.items) }
+    ensures kept { OnOk result (KeepsAll told.old.items told.new.items) }
+{
+    match one_packet_of(source.config, peer) {
+        Some(sender) => tell(source, told, true, Warning::OnePacket { peer, sender }),
+        None => Ok(()),
     }
-    Ok(())
 }
 
 // The first of the peers before that has the same host and the same path there.

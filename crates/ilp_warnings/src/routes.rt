@@ -5,6 +5,7 @@ ghost use Rattle.toml.specs.View.{view, table_view};
 ghost use Rattle.ilp_assets.specs.Quote.{price_of};
 ghost use Rattle.ilp_fields.specs.Fields.{tables, text_of};
 ghost use Rattle.ilp_accounts.specs.Configuration.{peer_names, route_of, place_named};
+ghost use Rattle.ilp_warnings.specs.Complete.{KeepsAll, IsRouteTold};
 ghost use Rattle.ilp_warnings.specs.Told.{AreWarranted};
 ghost use Rattle.ilp_warnings.specs.Meaning.{IsUnreached, IsUnpriced, CanSend};
 
@@ -71,7 +72,10 @@ pub(crate) fn tell_route(
     requires known { peer < length source.config.now.peers }
     requires leads { slice_get source.targets.now route ≡ Some peer }
     requires sound { AreWarranted source told.old.items }
-    ensures { OnOk result (AreWarranted source.entry told.new.items) }
+    ensures sound { OnOk result (AreWarranted source.entry told.new.items) }
+    ensures kept { OnOk result (KeepsAll told.old.items told.new.items) }
+    ensures route { OnOk result (IsRouteTold source.entry.config.now source.entry.targets.now
+        route told.new.items) }
 {
     tell(
         source,

@@ -1,11 +1,13 @@
 //! All that is told of a configuration, in order.
-ghost use Rattle.std.specs.Prelude.{◌≡◌, ◌<◌, All, length, map, Some, IfOk, OnOk, IsTrue};
+ghost use Rattle.std.specs.Prelude.{Contains, ◌≡◌, ◌<◌, All, length, map, Some, IfOk, OnOk, IsTrue};
 ghost use Rattle.toml.specs.Data.{Members};
 ghost use Rattle.toml.specs.View.{view, table_view};
 ghost use Rattle.ilp_fields.specs.Fields.{elements_of};
 ghost use Rattle.ilp_accounts.specs.Configuration.{configuration};
 ghost use Rattle.ilp_accounts.specs.Faults.{IsToml};
-ghost use Rattle.ilp_warnings.specs.Meaning.{targets_of};
+ghost use Rattle.ilp_accounts.specs.Limits.{most_routes};
+ghost use Rattle.ilp_warnings.specs.Complete.{KeepsAll, ArePeersTold, AreRoutesTold, IsComplete};
+ghost use Rattle.ilp_warnings.specs.Meaning.{IsAddress, targets_of};
 ghost use Rattle.ilp_warnings.specs.Told.{Warrants, IsWarranted, AreWarranted, IsAt, address_at};
 
 use crate::addresses::is_address;
@@ -31,6 +33,8 @@ const MAX_TABLES: usize = 4096;
 pub fn warnings(alloc: Global, octets: &[u8], config: &Config) -> Result<Vec<Warning>, AllocError>
     ensures sound { (t : Members) → IsToml octets.now t → configuration t ≡ config.now
         → IfOk result (λ told. All (Warrants t config.now (targets_of config.now)) told.items) }
+    ensures complete { (t : Members) → IsToml octets.now t → configuration t ≡ config.now
+        → IfOk result (λ told. IsComplete config.now (targets_of config.now) told.items) }
 {
     match toml::table_from_slice(alloc, octets) {
         Ok(table) => warnings_of(alloc, &table, config),
@@ -49,6 +53,8 @@ fn warnings_of(alloc: Global, table: &Table, config: &Config) -> Result<Vec<Warn
     ensures sound { configuration (table_view table.now) ≡ config.now
         → IfOk result (λ told.
         All (Warrants (table_view table.now) config.now (targets_of config.now)) told.items) }
+    ensures complete { configuration (table_view table.now) ≡ config.now
+        → IfOk result (λ told. IsComplete config.now (targets_of config.now) told.items) }
 {
     let targets = targets_of(alloc, config, tables_in(table, Field::Route))?;
     let source = Source {
@@ -63,7 +69,9 @@ fn warnings_of(alloc: Global, table: &Table, config: &Config) -> Result<Vec<Warn
 // All that is told.
 fn all_told(source: Source<'_>) -> Result<Vec<Warning>, AllocError>
     requires { All (λ peer. peer < length source.config.now.peers) source.targets.now }
-    ensures { IfOk result (λ told. AreWarranted source.entry told.items) }
+    ensures sound { IfOk result (λ told. AreWarranted source.entry told.items) }
+    ensures complete { IfOk result (λ told.
+        IsComplete source.entry.config.now source.entry.targets.now told.items) }
 {
     let mut told = Vec::new(source.alloc);
     tell_fields(source, &mut told, Place::Top, source.table)?;
@@ -78,7 +86,8 @@ fn all_told(source: Source<'_>) -> Result<Vec<Warning>, AllocError>
 // Tells of all assets.
 fn tell_assets(source: Source<'_>, told: &mut Vec<Warning>) -> Result<(), AllocError>
     requires { AreWarranted source told.old.items }
-    ensures { OnOk result (AreWarranted source.entry told.new.items) }
+    ensures sound { OnOk result (AreWarranted source.entry told.new.items) }
+    ensures kept { OnOk result (KeepsAll told.old.items told.new.items) }
 {
     let values = tables_in(source.table, Field::Asset);
     for asset in 0..count_of(values) {
@@ -95,7 +104,8 @@ fn tell_assets(source: Source<'_>, told: &mut Vec<Warning>) -> Result<(), AllocE
 // Tells of all prices.
 fn tell_prices(source: Source<'_>, told: &mut Vec<Warning>) -> Result<(), AllocError>
     requires { AreWarranted source told.old.items }
-    ensures { OnOk result (AreWarranted source.entry told.new.items) }
+    ensures sound { OnOk result (AreWarranted source.entry told.new.items) }
+    ensures kept { OnOk result (KeepsAll told.old.items told.new.items) }
 {
     let values = tables_in(source.table, Field::Price);
     for price in 0..count_of(values) {
@@ -112,7 +122,10 @@ fn tell_prices(source: Source<'_>, told: &mut Vec<Warning>) -> Result<(), AllocE
 // Tells of all peers.
 fn tell_peers(source: Source<'_>, told: &mut Vec<Warning>) -> Result<(), AllocError>
     requires { AreWarranted source told.old.items }
-    ensures { OnOk result (AreWarranted source.entry told.new.items) }
+    ensures sound { OnOk result (AreWarranted source.entry told.new.items) }
+    ensures kept { OnOk result (KeepsAll told.old.items told.new.items) }
+    ensures peers { OnOk result (ArePeersTold source.entry.config.now source.entry.targets.now
+        (length source.entry.config.now.peers) told.new.items) }
 {
     let values = tables_in(source.table, Field::Peer);
     for peer in 0..source.config.peers() {
@@ -126,7 +139,10 @@ fn tell_peers(source: Source<'_>, told: &mut Vec<Warning>) -> Result<(), AllocEr
 fn tell_routes(source: Source<'_>, told: &mut Vec<Warning>) -> Result<(), AllocError>
     requires known { All (λ peer. peer < length source.config.now.peers) source.targets.now }
     requires sound { AreWarranted source told.old.items }
-    ensures { OnOk result (AreWarranted source.entry told.new.items) }
+    ensures sound { OnOk result (AreWarranted source.entry told.new.items) }
+    ensures kept { OnOk result (KeepsAll told.old.items told.new.items) }
+    ensures routes { OnOk result (AreRoutesTold source.entry.config.now source.entry.targets.now
+        most_routes told.new.items) }
 {
     let values = tables_in(source.table, Field::Route);
     for route in 0..source.targets.len().min(MAX_TABLES) as u32 {
@@ -155,7 +171,8 @@ fn tell_table(
 ) -> Result<(), AllocError>
     requires place { IsAt source place value }
     requires sound { AreWarranted source told.old.items }
-    ensures { OnOk result (AreWarranted source.entry told.new.items) }
+    ensures sound { OnOk result (AreWarranted source.entry told.new.items) }
+    ensures kept { OnOk result (KeepsAll told.old.items told.new.items) }
 {
     let Some(value) = value else {
         return Ok(());
@@ -175,7 +192,9 @@ pub(crate) fn tell(
 ) -> Result<(), AllocError>
     requires so { IsTrue is_so → IsWarranted source warning }
     requires sound { AreWarranted source told.old.items }
-    ensures { OnOk result (AreWarranted source.entry told.new.items) }
+    ensures sound { OnOk result (AreWarranted source.entry told.new.items) }
+    ensures kept { OnOk result (KeepsAll told.old.items told.new.items) }
+    ensures told { OnOk result (IsTrue is_so → Contains told.new.items warning) }
 {
     let _source = source;
     if is_so {
@@ -194,7 +213,10 @@ pub(crate) fn tell_address(
 ) -> Result<(), AllocError>
     requires text { address_at source.config.now place field ≡ Some text.now }
     requires sound { AreWarranted source told.old.items }
-    ensures { OnOk result (AreWarranted source.entry told.new.items) }
+    ensures sound { OnOk result (AreWarranted source.entry told.new.items) }
+    ensures kept { OnOk result (KeepsAll told.old.items told.new.items) }
+    ensures told { OnOk result (¬ IsAddress text.now
+        → Contains told.new.items (Warning.NoAddress place field)) }
 {
     let is_wrong = !is_address(text);
     tell(source, told, is_wrong, Warning::NoAddress { place, field })

@@ -1,6 +1,7 @@
 //! What is told of the settings at the top.
 
 ghost use Rattle.std.specs.Prelude.{OnOk};
+ghost use Rattle.ilp_warnings.specs.Complete.{KeepsAll, AreTopTold};
 ghost use Rattle.ilp_warnings.specs.Told.{AreWarranted};
 
 use crate::addresses::{is_open, is_shared};
@@ -13,7 +14,9 @@ use std::alloc::AllocError;
 /// Tells of the settings.
 pub(crate) fn tell_top(source: Source<'_>, told: &mut Vec<Warning>) -> Result<(), AllocError>
     requires { AreWarranted source told.old.items }
-    ensures { OnOk result (AreWarranted source.entry told.new.items) }
+    ensures sound { OnOk result (AreWarranted source.entry told.new.items) }
+    ensures kept { OnOk result (KeepsAll told.old.items told.new.items) }
+    ensures top { OnOk result (AreTopTold source.entry.config.now told.new.items) }
 {
     let config = source.config;
     let listen = config.listen();
