@@ -1,10 +1,9 @@
 //! What is told of peers.
-
 ghost use Rattle.std.specs.Prelude.{Contains, ◌≡◌, ◌≢◌, ◌↔◌, ◌<◌, length, Some, IfSome, OnOk, IsTrue};
+ghost use Rattle.ilp_accounts.specs.Configuration.{peer_at};
 ghost use Rattle.ilp_warnings.specs.Complete.{KeepsAll, IsPeerTold, AreTokensTold, AreAddressesTold};
 ghost use Rattle.ilp_warnings.specs.Meaning.{IsAddress, IsShort, IsExample, HaveSameHost, ReachesAtOnce};
 ghost use Rattle.ilp_warnings.specs.Told.{AreWarranted, token_at};
-ghost use Rattle.ilp_accounts.specs.Configuration.{peer_at};
 
 use crate::routes::is_unreached;
 use crate::source::Source;

@@ -1,6 +1,6 @@
 //! What is told of routes.
 
-ghost use Rattle.std.specs.Prelude.{◌≡◌, ◌↔◌, ◌<◌, ◌≤◌, All, length, map, Contains, slice_get, Some, IfOk, OnOk, IfSome, IsTrue, IsSome};
+ghost use Rattle.std.specs.Prelude.{◌≡◌, ◌↔◌, ◌<◌, All, length, map, slice_get, Some, IfOk, OnOk, IfSome, IsTrue, IsSome};
 ghost use Rattle.toml.specs.View.{view, table_view};
 ghost use Rattle.ilp_assets.specs.Quote.{price_of};
 ghost use Rattle.ilp_fields.specs.Fields.{tables, text_of};

@@ -1,8 +1,7 @@
 //! All that is told of a configuration, in order.
-ghost use Rattle.std.specs.Prelude.{Contains, ◌≡◌, ◌<◌, All, length, map, Some, IfOk, OnOk, IsTrue};
+ghost use Rattle.std.specs.Prelude.{Contains, ◌≡◌, ◌<◌, All, length, Some, IfOk, OnOk, IsTrue};
 ghost use Rattle.toml.specs.Data.{Members};
-ghost use Rattle.toml.specs.View.{view, table_view};
-ghost use Rattle.ilp_fields.specs.Fields.{elements_of};
+ghost use Rattle.toml.specs.View.{table_view};
 ghost use Rattle.ilp_accounts.specs.Configuration.{configuration};
 ghost use Rattle.ilp_accounts.specs.Faults.{IsToml};
 ghost use Rattle.ilp_accounts.specs.Limits.{most_routes};
@@ -48,7 +47,6 @@ pub fn warnings(alloc: Global, octets: &[u8], config: &Config) -> Result<Vec<War
 }
 
 // What is told of the configuration that this table stands for.
-#[tactic(auto, using(crate::proofs::Targets::targets_seen))]
 fn warnings_of(alloc: Global, table: &Table, config: &Config) -> Result<Vec<Warning>, AllocError>
     ensures sound { configuration (table_view table.now) ≡ config.now
         → IfOk result (λ told.
