@@ -1,5 +1,4 @@
 //! Texts that are to name addresses.
-
 ghost use Rattle.std.specs.Prelude.{◌≡◌, ◌↔◌, ◌≢◌, false, IsTrue};
 ghost use Rattle.std.specs.Net.Socket.{socket_port};
 ghost use Rattle.ilp_warnings.specs.Meaning.{IsAddress, IsOpen, IsClosed, IsShared};

@@ -1,5 +1,4 @@
 //! Which fields are known where.
-
 ghost use Rattle.std.specs.Prelude.{◌≡◌, Contains, IfNone, IfSome};
 ghost use Rattle.ilp_fields.specs.Keys.{key};
 ghost use Rattle.ilp_warnings.specs.Told.{known_at, top_fields, IsNoneOf};

@@ -1,5 +1,4 @@
 //! What is told of routes.
-
 ghost use Rattle.std.specs.Prelude.{◌≡◌, ◌↔◌, ◌<◌, All, length, map, slice_get, Some, IfOk, OnOk, IfSome, IsTrue, IsSome};
 ghost use Rattle.toml.specs.View.{view, table_view};
 ghost use Rattle.ilp_assets.specs.Quote.{price_of};

@@ -1,5 +1,4 @@
 //! Tokens that others may guess.
-
 ghost use Rattle.std.specs.Prelude.{◌↔◌, IsTrue};
 ghost use Rattle.ilp_warnings.specs.Meaning.{IsShort, IsExample};
 

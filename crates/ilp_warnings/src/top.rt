@@ -1,5 +1,4 @@
 //! What is told of the settings at the top.
-
 ghost use Rattle.std.specs.Prelude.{OnOk};
 ghost use Rattle.ilp_warnings.specs.Complete.{KeepsAll, AreTopTold};
 ghost use Rattle.ilp_warnings.specs.Told.{AreWarranted};
