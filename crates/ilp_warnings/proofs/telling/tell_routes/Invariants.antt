@@ -1,0 +1,8 @@
+use Rattle.ilp_warnings.specs.Told.{AreWarranted}
+use Rattle.ilp_warnings.specs.Complete.{KeepsAll, AreRoutesTold}
+use Rattle.ilp_warnings.proofs.telling.tell_routes.Given as goal
+
+abbrev pub invariant-loop-route : goal.invariant-loop-route
+invariant-loop-route l =
+    AreWarranted l.source l.told.items × KeepsAll l.initial.told.items l.told.items
+    × AreRoutesTold l.source.config.now l.source.targets.now l.route l.told.items

@@ -1,0 +1,128 @@
+-- What holds where a warning is told of a configuration, and of the table that it was read from.
+use Rattle.std.specs.Prelude.{◌≡◌, ◌≢◌, ℕ, ◌<◌, ◌≤◌, Bool, ◌&&◌, ◌||◌, ◌==◌, nat_le, nat_eq, if◌then◌else◌, List, [], ◌∷◌, length, slice_get, All, Contains, Option, Some, None, option_map, option_and_then, IfSome, IsSomeAnd, string_bytes}
+use Rattle.std.specs.List.{list_all}
+use Rattle.std.specs.Str.{chars}
+use Rattle.strsim.specs.Edits.{levenshtein_row}
+use Rattle.toml.specs.Data.{Members, no_members, member, as_table}
+use Rattle.toml.specs.View.{view, table_view}
+use Rattle.toml.specs.declared.value.Value.{Value}
+use denote.Ref.{Bor}
+use Rattle.ilp_fields.specs.declared.fault.Field.{Field}
+use Rattle.ilp_fields.specs.declared.fault.Field.TheVariants as field
+use Rattle.ilp_fields.specs.Forms.{is_digit, is_capital, is_small}
+use Rattle.ilp_fields.specs.Fields.{elements_of}
+use Rattle.ilp_fields.specs.Keys as keys
+use Rattle.ilp_accounts.specs.Configuration.{Configuration, peer_at}
+use Rattle.ilp_warnings.specs.declared.warning.Place.{Place}
+use Rattle.ilp_warnings.specs.declared.warning.Place.TheVariants.{Top, Asset, Price, Peer, Route}
+use Rattle.ilp_warnings.specs.declared.warning.Warning.{Warning}
+use Rattle.ilp_warnings.specs.declared.warning.Warning.TheVariants.{Unknown, Displaced, NoAddress, OpenEngines, SharedListen, OneWorker, ShortHolds, NoRoutes, ShortToken, ExampleToken, SameTokens, SharedHost, OnePacket, Unreached, Unpriced}
+use Rattle.ilp_warnings.specs.declared.source.Source.{Source}
+use Rattle.ilp_warnings.specs.Meaning.{IsAddress, IsOpen, IsShared, IsShort, IsExample, HaveSameHost, ReachesAtOnce, IsUnreached, IsUnpriced}
+
+-- ---- fields that are not known
+
+-- the fields of the top that are no arrays
+abbrev pub top_fields : List Field
+top_fields = field.Address ∷ field.Run ∷ field.Listen ∷ field.EngineListen ∷ field.Path ∷ field.Workers ∷ field.Journal ∷ field.WindowMs ∷ field.MaxHoldMs ∷ field.SweepMs ∷ field.SettleMs ∷ []
+
+-- the fields and arrays that are known at a place
+abbrev pub known_at : Place → List Field
+known_at Top = field.Address ∷ field.Run ∷ field.Listen ∷ field.EngineListen ∷ field.Path ∷ field.Workers ∷ field.Journal ∷ field.WindowMs ∷ field.MaxHoldMs ∷ field.SweepMs ∷ field.SettleMs ∷ field.Asset ∷ field.Price ∷ field.Peer ∷ field.Route ∷ []
+known_at (Asset n) = field.Code ∷ field.Scale ∷ []
+known_at (Price n) = field.From ∷ field.To ∷ field.P ∷ field.Q ∷ []
+known_at (Peer n) = field.Name ∷ field.Asset ∷ field.Token ∷ field.OutToken ∷ field.Host ∷ field.OutPath ∷ field.Least ∷ field.FeePpm ∷ field.MaxPacket ∷ field.Engine ∷ field.Threshold ∷ field.SettleTo ∷ field.SettleMax ∷ []
+known_at (Route n) = field.Prefix ∷ field.Peer ∷ []
+
+-- none of these fields has the key
+abbrev pub IsNoneOf : List Field → List ℕ → Type 0
+IsNoneOf fields key = All (λ f. keys.key f ≢ key) fields
+
+-- the table of this number of an array
+abbrev pub element : Field → Members → ℕ → Option Members
+element array t n = option_and_then as_table (slice_get (elements_of array t) n)
+
+-- the table at a place
+abbrev pub table_at : Members → Place → Option Members
+table_at t Top = Some t
+table_at t (Asset n) = element field.Asset t n
+table_at t (Price n) = element field.Price t n
+table_at t (Peer n) = element field.Peer t n
+table_at t (Route n) = element field.Route t n
+
+-- the keys of a table, in order
+abbrev pub keys_of : Members → List (List ℕ)
+keys_of no_members = []
+keys_of (member key value rest) = key ∷ keys_of rest
+
+-- the table at the place has a field of this key, which is not known there
+pub record IsUnknown (t : Members) (place : Place) (key : List ℕ) : Type 0 where
+  pub members : Members
+  pub there : table_at t place ≡ Some members
+  pub has : Contains (keys_of members) key
+  pub unknown : IsNoneOf (known_at place) key
+
+-- A-Z a-z 0-9 _ -
+abbrev pub is_plain_octet : ℕ → Bool
+is_plain_octet octet = (((is_capital octet || is_small octet) || is_digit octet) || octet == 95) || octet == 45
+
+-- what can't spoil a line
+abbrev pub is_plain : List ℕ → Bool
+is_plain key = nat_le (length key) 64 && list_all is_plain_octet key
+
+-- a key as it is told
+abbrev pub told_key : List ℕ → Option (List ℕ)
+told_key key = if is_plain key then Some key else None
+
+-- A few edits lead from the key to that of the field.
+abbrev pub IsNear : List ℕ → Field → Type 0
+IsNear key f = levenshtein_row nat_eq (chars key) (chars (keys.key f)) (length (chars (keys.key f))) ≤ 2
+
+-- a field that is known at a place, and near to a key
+abbrev pub IsMeant : Place → List ℕ → Field → Type 0
+IsMeant place key f = Contains (known_at place) f × IsNear key f
+
+-- ---- all warnings
+
+-- the text of a field that is to be IP:PORT
+abbrev pub address_at : Configuration → Place → Field → Option (List ℕ)
+address_at C Top field.Listen = Some C.settings.listen
+address_at C Top field.EngineListen = Some C.settings.engine_listen
+address_at C (Peer n) field.Host = Some (peer_at C n).host
+address_at C (Peer n) field.Engine = (peer_at C n).engine
+address_at C _ _ = None
+
+-- the text of a field that is a token
+abbrev pub token_at : Configuration → ℕ → Field → Option (List ℕ)
+token_at C peer field.Token = Some (peer_at C peer).token
+token_at C peer field.OutToken = Some (peer_at C peer).out_token
+token_at C peer _ = None
+
+-- A warning is so: of a configuration, the table that it was read from, and the peers to which its routes lead.
+abbrev pub Warrants : Members → Configuration → List ℕ → Warning → Type 0
+Warrants t C targets (Unknown place shown meant) = (key : List ℕ) × (IsUnknown t place key × (option_map string_bytes shown ≡ told_key key) × IfSome meant (IsMeant place key))
+Warrants t C targets (Displaced place f) = IsUnknown t place (keys.key f) × Contains top_fields f
+Warrants t C targets (NoAddress place f) = IsSomeAnd (address_at C place f) (λ text. ¬ IsAddress text)
+Warrants t C targets OpenEngines = IsOpen C.settings.engine_listen
+Warrants t C targets SharedListen = IsShared C.settings.listen C.settings.engine_listen
+Warrants t C targets OneWorker = C.settings.workers ≡ 1
+Warrants t C targets ShortHolds = C.settings.max_hold_ms ≤ C.settings.window_ms
+Warrants t C targets NoRoutes = C.routes ≡ []
+Warrants t C targets (ShortToken peer f) = IsSomeAnd (token_at C peer f) IsShort
+Warrants t C targets (ExampleToken peer f) = IsSomeAnd (token_at C peer f) IsExample
+Warrants t C targets (SameTokens peer) = (peer_at C peer).token ≡ (peer_at C peer).out_token
+Warrants t C targets (SharedHost peer other) = (other < peer) × HaveSameHost C peer other
+Warrants t C targets (OnePacket peer sender) = (sender ≢ peer) × ReachesAtOnce C sender peer
+Warrants t C targets (Unreached peer) = IsUnreached targets peer
+Warrants t C targets (Unpriced route peer) = (slice_get targets route ≡ Some peer) × IsUnpriced C peer
+
+-- what is told is so
+abbrev pub IsWarranted : Source → Warning → Type 0
+IsWarranted source warning = Warrants (table_view source.table.now) source.config.now source.targets.now warning
+
+abbrev pub AreWarranted : Source → List Warning → Type 0
+AreWarranted source told = All (IsWarranted source) told
+
+-- the value that stands at a place, and none where nothing stands there
+abbrev pub IsAt : Source → Place → Option (Bor Value) → Type 0
+IsAt source place value = IfSome value (λ v. table_at (table_view source.table.now) place ≡ as_table (view v.now))

@@ -1,0 +1,125 @@
+//! Fields that are not known where they stand.
+ghost use Rattle.std.specs.Prelude.{◌≡◌, Some, Contains, IfOk, OnOk, IfSome};
+ghost use Rattle.std.specs.List.{list_all};
+ghost use Rattle.toml.specs.View.{table_view};
+ghost use Rattle.ilp_warnings.specs.Complete.{KeepsAll};
+ghost use Rattle.ilp_warnings.specs.Told.{AreWarranted, IsWarranted, IsUnknown, table_at, keys_of, known_at, top_fields, is_plain, is_plain_octet, IsNear};
+
+use crate::known::{known_at, named, top_fields};
+use crate::source::Source;
+use crate::telling::tell;
+use crate::warning::{Place, Warning};
+use ilp_accounts::Field;
+use std::alloc::{AllocError, Global};
+use strsim::levenshtein;
+use toml::Table;
+
+// A longer key is not told.
+const MAX_KEY: usize = 64;
+
+// How many edits lead to a near key at most.
+const MAX_EDITS: usize = 2;
+
+/// Tells each field of a table that is not known at its place.
+pub(crate) fn tell_fields(
+    source: Source<'_>,
+    told: &mut Vec<Warning>,
+    place: Place,
+    table: &Table,
+) -> Result<(), AllocError>
+    requires there { table_at (table_view source.table.now) place ≡ Some (table_view table.now) }
+    requires sound { AreWarranted source told.old.items }
+    ensures sound { OnOk result (AreWarranted source.entry told.new.items) }
+    ensures kept { OnOk result (KeepsAll told.old.items told.new.items) }
+{
+    for (key, _) in table.iter() {
+        tell_field(source, told, place, table, key.as_str())?;
+    }
+    Ok(())
+}
+
+// Tells the field of this key, where it is not known at its place.
+fn tell_field(
+    source: Source<'_>,
+    told: &mut Vec<Warning>,
+    place: Place,
+    table: &Table,
+    key: &str,
+) -> Result<(), AllocError>
+    requires there { table_at (table_view source.table.now) place ≡ Some (table_view table.now) }
+    requires has { Contains (keys_of (table_view table.now)) key.now }
+    requires sound { AreWarranted source told.old.items }
+    ensures sound { OnOk result (AreWarranted source.entry told.new.items) }
+    ensures kept { OnOk result (KeepsAll told.old.items told.new.items) }
+{
+    let _table = table;
+    if named(known_at(place), key).is_some() {
+        return Ok(());
+    }
+    let warning = unknown(source, place, key)?;
+    tell(source, told, true, warning)
+}
+
+// What is told of a field that is not known at its place.
+fn unknown(source: Source<'_>, place: Place, key: &str) -> Result<Warning, AllocError>
+    requires { IsUnknown (table_view source.table.now) place key.now }
+    ensures { IfOk result (IsWarranted source.entry) }
+{
+    if let Some(field) = named(top_fields(), key) {
+        return Ok(Warning::Displaced { place, field });
+    }
+    if !is_plain(key.as_bytes()) {
+        return Ok(Warning::Unknown {
+            place,
+            key: None,
+            meant: None,
+        });
+    }
+    let meant = nearest(source.alloc, known_at(place), key)?;
+    Ok(Warning::Unknown {
+        place,
+        key: Some(String::from_str(source.alloc, key)?),
+        meant,
+    })
+}
+
+// Whether a key has nothing that could spoil a line.
+fn is_plain(key: &[u8]) -> bool
+    ensures { result ≡ is_plain key.now }
+{
+    key.len() <= MAX_KEY && are_plain_octets(key)
+}
+
+fn are_plain_octets(octets: &[u8]) -> bool
+    ensures { result ≡ list_all is_plain_octet octets.now }
+{
+    octets.iter().all(|octet| is_plain_octet(*octet))
+}
+
+fn is_plain_octet(octet: u8) -> bool
+    ensures { result ≡ is_plain_octet octet }
+{
+    octet.is_ascii_uppercase()
+        || octet.is_ascii_lowercase()
+        || octet.is_ascii_digit()
+        || octet == b'_'
+        || octet == b'-'
+}
+
+// The field whose key is nearest to this one, if it is near: a few edits lead to it, and they leave
+// something of the key.
+fn nearest(alloc: Global, fields: &[Field], key: &str) -> Result<Option<Field>, AllocError>
+    ensures { IfOk result (λ nearest. IfSome nearest
+        (λ f. Contains fields.now f × IsNear key.now f)) }
+{
+    let mut nearest = None;
+    let mut enough = key.len().min(MAX_EDITS + 1);
+    for field in fields {
+        let edits = levenshtein(alloc, key, field.key())?;
+        if edits < enough {
+            enough = edits;
+            nearest = Some(*field);
+        }
+    }
+    Ok(nearest)
+}

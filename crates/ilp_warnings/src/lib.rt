@@ -1,0 +1,18 @@
+//! What a configuration allows and probably doesn't mean, as lines for a person.
+#![tactic(auto)]
+
+mod addresses;
+mod fields;
+mod known;
+mod line;
+mod peers;
+mod routes;
+mod source;
+mod telling;
+mod tokens;
+mod top;
+mod values;
+mod warning;
+
+pub use telling::warnings;
+pub use warning::{Place, Warning};

@@ -1,0 +1,171 @@
+//! A warning as a line for a person.
+
+use crate::warning::{Place, Warning};
+use ilp_accounts::{Config, Field};
+use std::alloc::{AllocError, Global};
+use std::fmt;
+
+impl Warning {
+    /// The warning as one line without its end: its place in the configuration that it was told of,
+    /// and what is to be looked at. It has no token, and no key that could spoil it.
+    pub fn line(&self, alloc: Global, config: &Config) -> Result<String, AllocError> {
+        let line = Line {
+            warning: self,
+            config,
+        };
+        format!(in alloc; "{line}")
+    }
+
+    // Where it is told.
+    fn place(&self) -> Place {
+        match self {
+            Warning::Unknown { place, .. }
+            | Warning::Displaced { place, .. }
+            | Warning::NoAddress { place, .. } => *place,
+            Warning::ShortToken { peer, .. }
+            | Warning::ExampleToken { peer, .. }
+            | Warning::SameTokens { peer }
+            | Warning::SharedHost { peer, .. }
+            | Warning::OnePacket { peer, .. }
+            | Warning::Unreached { peer } => Place::Peer(*peer),
+            Warning::Unpriced { route, .. } => Place::Route(*route),
+            _ => Place::Top,
+        }
+    }
+}
+
+// A warning of a configuration.
+#[derive(Clone, Copy)]
+struct Line<'a> {
+    warning: &'a Warning,
+    config: &'a Config,
+}
+
+impl fmt::Display for Line<'_> {
+    fn fmt<W: fmt::Write>(&self, f: &mut fmt::Formatter<W>) -> fmt::Result {
+        write_place(f, self.config, self.warning.place())?;
+        f.write_str(": ")?;
+        match self.warning {
+            Warning::Unknown { place, key, meant } => write_unknown(f, *place, key, *meant),
+            Warning::Displaced { field, .. } => write!(
+                f,
+                "`{field}` is a field of the top: it belongs before the first table"
+            ),
+            Warning::NoAddress { field, .. } => write!(
+                f,
+                "`{field}` is no IP:PORT: write an address in digits, such as 127.0.0.1:7768"
+            ),
+            Warning::ShortToken { field, .. } => {
+                write!(f, "`{field}` is shorter than 16 octets, and may be guessed")
+            }
+            Warning::ExampleToken { field, .. } => write!(
+                f,
+                "`{field}` begins with REPLACE: put one of its own in its place"
+            ),
+            Warning::SharedHost { other, .. } => {
+                f.write_str("`host` and `out_path` are those of ")?;
+                write_place(f, self.config, Place::Peer(*other))
+            }
+            Warning::OnePacket { sender, .. } => {
+                f.write_str("one packet of ")?;
+                write_place(f, self.config, Place::Peer(*sender))?;
+                f.write_str(" can take the balance from `settle_to` to `threshold`")
+            }
+            Warning::Unpriced { peer, .. } => {
+                f.write_str("no other peer's asset has a price in that of ")?;
+                write_place(f, self.config, Place::Peer(*peer))?;
+                f.write_str(", so no packet can take it")
+            }
+            plain => f.write_str(text(plain)),
+        }
+    }
+}
+
+// What is told of the others, which have nothing to fill in.
+fn text(warning: &Warning) -> &'static str {
+    match warning {
+        Warning::OpenEngines => {
+            "`engine_listen` is no loopback address: whoever reaches it can credit peers and close the connector"
+        }
+        Warning::SharedListen =>
+            "`listen` and `engine_listen` are one address, and only one side can have it",
+        Warning::OneWorker =>
+            "`workers` is 1: while a packet waits for a peer, all else waits for that",
+        Warning::ShortHolds => {
+            "`max_hold_ms` is not above `window_ms`: a next connector with this window refuses each packet"
+        }
+        Warning::NoRoutes => "there is no [[route]], so each packet is refused",
+        Warning::SameTokens { .. } =>
+            "`token` and `out_token` are the same: use one for each direction",
+        Warning::Unreached { .. } => "no route leads to it: it can send, and nothing is sent to it",
+        _ => "",
+    }
+}
+
+// Writes a place: a table by its number, from 1, and an asset or a peer by its name too.
+fn write_place<W: fmt::Write>(
+    f: &mut fmt::Formatter<W>,
+    config: &Config,
+    place: Place,
+) -> fmt::Result {
+    match place {
+        Place::Top => f.write_str("at the top"),
+        Place::Asset(asset) => {
+            let number = u64::from(asset) + 1;
+            write!(f, "[[asset]] {number}")?;
+            match config.assets().asset(asset) {
+                Some(asset) => write!(f, " \"{}/{}\"", asset.code, asset.scale),
+                None => Ok(()),
+            }
+        }
+        Place::Price(price) => write!(f, "[[price]] {}", u64::from(price) + 1),
+        Place::Peer(peer) => {
+            let number = u64::from(peer) + 1;
+            write!(f, "[[peer]] {number}")?;
+            if peer < config.peers() {
+                write!(f, " \"{}\"", config.name(peer))?;
+            }
+            Ok(())
+        }
+        Place::Route(route) => write!(f, "[[route]] {}", u64::from(route) + 1),
+    }
+}
+
+// Writes that a field is not known, and which one may be meant.
+fn write_unknown<W: fmt::Write>(
+    f: &mut fmt::Formatter<W>,
+    place: Place,
+    key: &Option<String>,
+    meant: Option<Field>,
+) -> fmt::Result {
+    let whole = whole(place);
+    match key {
+        Some(key) => write!(f, "`{key}` is no field of {whole}, and is ignored")?,
+        None => write!(f, "a field that {whole} doesn't have is ignored")?,
+    }
+    match meant {
+        Some(field) if is_array(place, field) => write!(f, ": `[[{field}]]` may be meant"),
+        Some(field) => write!(f, ": `{field}` may be meant"),
+        None => Ok(()),
+    }
+}
+
+// Whether a field of this place is an array of tables.
+fn is_array(place: Place, field: Field) -> bool {
+    place == Place::Top
+        && matches!(
+            field,
+            Field::Asset | Field::Price | Field::Peer | Field::Route
+        )
+}
+
+// What has a field at a place.
+fn whole(place: Place) -> &'static str {
+    match place {
+        Place::Top => "the top",
+        Place::Asset(_) => "an asset",
+        Place::Price(_) => "a price",
+        Place::Peer(_) => "a peer",
+        Place::Route(_) => "a route",
+    }
+}
