@@ -16,8 +16,8 @@ CARELESS = ["at the top: `worker` is no field of the top, and is ignored: `worke
 READABLE = "the file has tokens, and others may read it: chmod o-r"
 
 # A Reject of the code F02 by test.hub with the message `no route`, and one with a message that is no text.
-REJECT = "0e18463032" + "08" + b"test.hub".hex() + "08" + b"no route".hex() + "00"
-UNTOLD = "0e11463032" + "08" + b"test.hub".hex() + "01" + "0a" + "00"
+REJECT = "0e16463032" + "08" + b"test.hub".hex() + "08" + b"no route".hex() + "00"
+UNTOLD = "0e0f463032" + "08" + b"test.hub".hex() + "01" + "0a" + "00"
 
 
 def run(laboratory: Laboratory, *words: str, script: str = "") -> tuple[int, str, str]:
