@@ -12,7 +12,8 @@ arguments are not understood. A NAME is one of these:
 
 - check: `connector check -` says want of memory.
 - carry: so does `connector check - journal` over a journal with a hold, a credit and a settlement.
-- replay: `connector replay -` prints a front of its text, of whole lines, and then want of memory.
+- replay: `connector replay -` prints a front of its text, of whole lines, and then want of memory; or all
+  of it, where memory is denied as its bad lines are looked for.
 - http: of two equal requests one is told as want of memory.
 - packet, settlement, message, engine, report, settler, page: a scene of test_scenes in which
   something comes twice or more. One of these is answered as is due where memory is denied, and the
@@ -106,10 +107,14 @@ SCRIPT = [
 
 def connector(command: str, text: list[str], given: str = "", journal: str | None = None) -> Program:
     """The connector, which prints this text, or a front of it and then want of memory. Where a journal is
-    given, it is the command's second argument."""
+    given, it is the command's second argument. Behind the text of a script its bad lines are looked for, which
+    is for standard error alone."""
     def judge(run: Run, _: Run) -> str | None:
-        if not run.denied and (run.status, run.lines) == (0, text):
-            return None
+        if (run.status, run.lines) == (0, text):
+            if not run.denied:
+                return None
+            if command == "replay":
+                return "want of memory behind the whole text"
         *front, last = run.lines or [""]
         if run.status != 1 or last != REFUSED or front != text[:len(front)]:
             raise Differs(f"status {run.status}, {run.lines}")
