@@ -127,7 +127,10 @@ def connector(command: str, text: list[str], given: str = "", journal: str | Non
 # ---- requests
 
 ROW = (ROOT / "crates/test_http/data/requests.txt").read_text().splitlines()[0]
-READ, SHORT = f"{ROW}: /ilp, 3 values, a body of 69", f"{ROW}: memory is short"
+# The line of it where it is read, and what that begins with where memory is denied: each time that it is read,
+# or where that ends otherwise as what follows changes.
+READ = (ROOT / "crates/test_http/stdout").read_text().splitlines()[0]
+SHORT, OTHERWISE = f"{ROW}: memory is short", READ.removesuffix(", whatever follows") + ", and something else "
 
 
 def judge_requests(run: Run, _: Run) -> str | None:
@@ -138,7 +141,8 @@ def judge_requests(run: Run, _: Run) -> str | None:
     others = [line for line in told if not line.startswith("POST")]
     if len(told) == len(run.lines) and run.status == 1 and told == [READ] * len(told):
         return OWN
-    if sorted(whole) == sorted([READ, SHORT]) and not others:
+    short = [line for line in whole if line.startswith((SHORT, OTHERWISE))]
+    if len(whole) == 2 and len(short) == 1 and READ in whole and not others:
         return "a request was refused for want of memory"
     if whole == [READ, READ] and len(others) < 2:
         return "a request in pieces was" if others else None
