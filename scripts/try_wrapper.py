@@ -340,8 +340,10 @@ def another_has_the_address(bench: Bench, wrapped: Wrapped) -> None:
     other.configuration.write_text(bench.configuration.read_text())
     second = Wrapped(other, [])
     try:
-        second.await_that("its mark", lambda: other.mark.exists() or second.process.poll() is not None)
-        second.signal()
+        # Its connector is refused soon, so it may have ended by itself before the signal.
+        second.await_that("its beginning", lambda: os.listdir(other.reports) or second.process.poll() is not None)
+        with contextlib.suppress(ProcessLookupError):
+            second.signal()
         expect("the exit status of the second", second.status(), 1)
         expect("its new files", [name.rpartition(".")[2] for name in other.new_files()], ["failed"])
     finally:
