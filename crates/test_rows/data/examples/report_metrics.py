@@ -121,6 +121,8 @@ def read_lines(octets: bytes) -> list[Line]:
         raise NoReport(f"it has more than {MOST_OCTETS} octets")
     if not octets.isascii():
         raise NoReport("it has an octet that is no ASCII")
+    if not octets:
+        raise NoReport("nothing came: see that the connector runs")
     if not octets.endswith(b"\n"):
         raise NoReport("it does not end with a whole line")
     texts = octets.decode("ascii").split("\n")[:-1]
@@ -325,7 +327,7 @@ def refusal(octets: bytes) -> str:
     >>> refusal(sample())
     'none'
     >>> refusal(b"")
-    'it does not end with a whole line'
+    'nothing came: see that the connector runs'
     >>> refusal(sample()[:-1])
     'it does not end with a whole line'
     >>> refusal(sample()[:-61])
