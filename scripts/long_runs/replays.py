@@ -1,5 +1,7 @@
-"""Random scripts, which `connector replay` and the model run; both are to print the same."""
+"""Random scripts, which `connector replay` and the model run; both are to print the same, and standard error is
+to tell of the bad lines alone."""
 import random
+import re
 import subprocess
 import tempfile
 from collections import Counter
@@ -82,23 +84,37 @@ def plans(binary: Path, seed: int, steps: int) -> Iterator[Plan]:
 
 # ---- both sides
 
+BAD = "bad line\n"
+
+
 def modelled(configuration: Configuration, lines: list[bytes]) -> tuple[list[str], Counter[str]]:
-    """What the model prints of each line, and the kinds of that."""
+    """What the model prints of each line, with the number of a bad one, and the kinds of that."""
     script = Script(configuration)
     texts = [script.run(line) for line in lines]
-    return texts, script.kinds + script.book.notes
+    numbered = [f"bad line {number}\n" if text == BAD else text for number, text in enumerate(texts, start=1)]
+    return numbered, script.kinds + script.book.notes
+
+
+def with_numbers(text: str, told: list[str]) -> str:
+    """A printed text, with the numbers of bad lines that standard error tells; what else it tells is put behind
+    that."""
+    found = [re.fullmatch(r"line (\d+): \S.*", line) for line in told]
+    numbers = iter(match[1] for match in found if match is not None)
+    text = re.sub("^bad line$", lambda _: f"bad line {next(numbers, '?')}", text, flags=re.MULTILINE)
+    more = [f"line {number}" for number in numbers] + [line for line, match in zip(told, found) if match is None]
+    return text + (f"[standard error: {more!r}]\n" if more else "")
 
 
 def printed(binary: Path, configuration: Path, lines: list[bytes]) -> str:
-    """What the program prints; a fault of it is told behind that."""
+    """What the program prints, as the model does; a fault of it is told behind that."""
     try:
         done = subprocess.run([binary, "replay", configuration], input=b"\n".join(lines),
                               capture_output=True, timeout=WITHIN_SECONDS, check=False)
     except subprocess.TimeoutExpired:
         return f"[it did not end within {WITHIN_SECONDS} seconds]\n"
-    text = done.stdout.decode("latin-1")
-    if done.returncode != 0 or done.stderr:
-        text += f"[exit status {done.returncode}, standard error {done.stderr!r}]\n"
+    text = with_numbers(done.stdout.decode("latin-1"), done.stderr.decode("latin-1").splitlines())
+    if done.returncode != 0:
+        text += f"[exit status {done.returncode}]\n"
     return text
 
 
