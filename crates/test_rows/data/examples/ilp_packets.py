@@ -4,6 +4,7 @@ prepare.py and receiver.py use it. It needs Python 3.9 and nothing else.
 """
 from __future__ import annotations
 
+import argparse
 import datetime
 import hashlib
 import re
@@ -22,6 +23,17 @@ MILLISECOND = datetime.timedelta(milliseconds=1)
 
 class BadPacket(ValueError):
     """Octets that are no packet, or a field that none can have."""
+
+
+def preimage_of(text: str) -> bytes:
+    """The 32 octets that an argument of a program names."""
+    try:
+        octets = bytes.fromhex(text)
+    except ValueError:
+        octets = b""
+    if len(octets) != 32:
+        raise argparse.ArgumentTypeError("a preimage is 64 hexadecimal digits")
+    return octets
 
 
 def digest(preimage: bytes) -> bytes:

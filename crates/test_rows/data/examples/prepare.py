@@ -21,20 +21,9 @@ import time
 # Tests read this folder, so nothing is left in it.
 sys.dont_write_bytecode = True
 
-from ilp_packets import BadPacket, Fulfill, Prepare, Reject, digest, read_packet  # noqa: E402
+from ilp_packets import BadPacket, Fulfill, Prepare, Reject, digest, preimage_of, read_packet  # noqa: E402
 
 FULFILLED, NOT_FULFILLED, NOT_UNDERSTOOD = 0, 1, 2
-
-
-def preimage_of(text: str) -> bytes:
-    """The 32 octets that an argument names."""
-    try:
-        octets = bytes.fromhex(text)
-    except ValueError:
-        octets = b""
-    if len(octets) != 32:
-        raise argparse.ArgumentTypeError("a preimage is 64 hexadecimal digits")
-    return octets
 
 
 def seconds_of(text: str) -> float:

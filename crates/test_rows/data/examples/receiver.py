@@ -22,7 +22,8 @@ from dataclasses import dataclass
 sys.dont_write_bytecode = True
 
 from http_serving import Request, Response, serve, tell  # noqa: E402
-from ilp_packets import BadPacket, Fulfill, Packet, Prepare, Reject, digest, read_packet  # noqa: E402
+from ilp_packets import (BadPacket, Fulfill, Packet, Prepare, Reject, digest, preimage_of,  # noqa: E402
+                         read_packet)
 
 
 @dataclass(frozen=True)
@@ -70,17 +71,6 @@ def tell_of(prepare: Prepare, reply: Packet) -> None:
     """The line of a packet."""
     what = f"rejected {reply.code}" if isinstance(reply, Reject) else "fulfilled"
     tell(f"{what} {prepare.amount} to {prepare.destination}")
-
-
-def preimage_of(text: str) -> bytes:
-    """The 32 octets that a text names."""
-    try:
-        octets = bytes.fromhex(text)
-    except ValueError:
-        octets = b""
-    if len(octets) != 32:
-        raise argparse.ArgumentTypeError("a preimage is 64 hexadecimal digits")
-    return octets
 
 
 def preimages_in(file: str) -> list[bytes]:
