@@ -29,7 +29,11 @@ impl Warning {
             | Warning::OnePacket { peer, .. }
             | Warning::Unreached { peer } => Place::Peer(*peer),
             Warning::Unpriced { route, .. } => Place::Route(*route),
-            _ => Place::Top,
+            Warning::OpenEngines
+            | Warning::SharedListen
+            | Warning::OneWorker
+            | Warning::ShortHolds
+            | Warning::NoRoutes => Place::Top,
         }
     }
 }
@@ -81,7 +85,7 @@ impl fmt::Display for Line<'_> {
     }
 }
 
-// What is told of the others, which have nothing to fill in.
+// What is told of those that have nothing to fill in. `fmt` tells of the others by itself.
 fn text(warning: &Warning) -> &'static str {
     match warning {
         Warning::OpenEngines => {
@@ -98,7 +102,14 @@ fn text(warning: &Warning) -> &'static str {
         Warning::SameTokens { .. } =>
             "`token` and `out_token` are the same: use one for each direction",
         Warning::Unreached { .. } => "no route leads to it: it can send, and nothing is sent to it",
-        _ => "",
+        Warning::Unknown { .. }
+        | Warning::Displaced { .. }
+        | Warning::NoAddress { .. }
+        | Warning::ShortToken { .. }
+        | Warning::ExampleToken { .. }
+        | Warning::SharedHost { .. }
+        | Warning::OnePacket { .. }
+        | Warning::Unpriced { .. } => "",
     }
 }
 
