@@ -97,12 +97,12 @@ module _ (assets : List PlainAsset) (before : List PlainPeer) (t : Members) (non
         asset = omega (arith, position_from-bound (same_asset (fields_of t).asset) 0 assets known);
         token = text_formed form.Token field.Token t (passed checks fields_pass 2);
         out_token = text_formed form.Token field.OutToken t (passed checks fields_pass 3);
-        host = text_formed form.Place field.Host t (passed checks fields_pass 4);
+        host = text_formed form.SocketAddress field.Host t (passed checks fields_pass 4);
         out_path = text_formed_or form.Path field.OutPath t (codes "/ilp") refl (passed checks fields_pass 5);
         least = not_above (pos 0) (fields_of t).least (when-None _ BadLevels (passed levels levels_pass 2));
         fee_ppm = (number_ranged_or 0 million field.FeePpm t 0 (omega arith, omega arith) (passed checks fields_pass 7)).1;
         max_packet = max_packet_of field.MaxPacket t (passed checks fields_pass 8);
-        engine = text_formed_if form.Place field.Engine t (passed checks fields_pass 9);
+        engine = text_formed_if form.SocketAddress field.Engine t (passed checks fields_pass 9);
         levels = levels_ordered (peer_of assets t) (fields_of t).threshold (fields_of t).settle_to (fields_of t).settle_max with_engine ordered;
         settle_max = levels_limited (fields_of t).threshold (fields_of t).settle_to (fields_of t).settle_max (max_settlement_of field.SettleMax t (passed checks fields_pass 12));
       }

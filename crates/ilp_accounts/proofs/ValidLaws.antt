@@ -36,8 +36,8 @@ are_settings t none =
     record {
       address = text_formed form.Address field.Address t (passed checks none 0);
       run = text_formed form.Run field.Run t (passed checks none 1);
-      listen = text_formed_or form.Place field.Listen t (codes "127.0.0.1:7768") refl (passed checks none 2);
-      engine_listen = text_formed_or form.Place field.EngineListen t (codes "127.0.0.1:7769") refl (passed checks none 3);
+      listen = text_formed_or form.SocketAddress field.Listen t (codes "127.0.0.1:7768") refl (passed checks none 2);
+      engine_listen = text_formed_or form.SocketAddress field.EngineListen t (codes "127.0.0.1:7769") refl (passed checks none 3);
       path = text_formed_or form.Path field.Path t (codes "/ilp") refl (passed checks none 4);
       workers = number_ranged_or 1 most_workers field.Workers t 4 (omega arith, omega arith) (passed checks none 5);
       journal = number_ranged_or least_journal most_journal field.Journal t 65536 (omega arith, omega arith) (passed checks none 6);

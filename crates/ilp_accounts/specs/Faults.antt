@@ -23,8 +23,8 @@ abbrev pub settings_checks : Members → List (Option ConfigFault)
 settings_checks t =
     required (is_text form.Address) field.Address t
     ∷ required (is_text form.Run) field.Run t
-    ∷ optional (is_text form.Place) field.Listen t
-    ∷ optional (is_text form.Place) field.EngineListen t
+    ∷ optional (is_text form.SocketAddress) field.Listen t
+    ∷ optional (is_text form.SocketAddress) field.EngineListen t
     ∷ optional (is_text form.Path) field.Path t
     ∷ optional (is_natural 1 most_workers) field.Workers t
     ∷ optional (is_natural least_journal most_journal) field.Journal t
@@ -88,12 +88,12 @@ fields_checks t =
     ∷ required is_asset field.Asset t
     ∷ required (is_text form.Token) field.Token t
     ∷ required (is_text form.Token) field.OutToken t
-    ∷ required (is_text form.Place) field.Host t
+    ∷ required (is_text form.SocketAddress) field.Host t
     ∷ optional (is_text form.Path) field.OutPath t
     ∷ required is_integer field.Least t
     ∷ optional (is_natural 0 million) field.FeePpm t
     ∷ optional (is_natural 0 most_written) field.MaxPacket t
-    ∷ optional (is_text form.Place) field.Engine t
+    ∷ optional (is_text form.SocketAddress) field.Engine t
     ∷ optional is_integer field.Threshold t
     ∷ optional is_integer field.SettleTo t
     ∷ optional (is_natural 1 most_written) field.SettleMax t

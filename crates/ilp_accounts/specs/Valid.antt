@@ -27,8 +27,8 @@ IsWithin least most n = (least ≤ n) × (n ≤ most)
 pub record AreSettings (s : PlainSettings) : Type 0 where
   pub address : HasForm form.Address s.address
   pub run : HasForm form.Run s.run
-  pub listen : HasForm form.Place s.listen
-  pub engine_listen : HasForm form.Place s.engine_listen
+  pub listen : HasForm form.SocketAddress s.listen
+  pub engine_listen : HasForm form.SocketAddress s.engine_listen
   pub path : HasForm form.Path s.path
   pub workers : IsWithin 1 most_workers s.workers
   pub journal : IsWithin least_journal most_journal s.journal
@@ -70,12 +70,12 @@ pub record IsPeer (assets : ℕ) (p : PlainPeer) : Type 0 where
   pub asset : p.asset < assets
   pub token : HasForm form.Token p.token
   pub out_token : HasForm form.Token p.out_token
-  pub host : HasForm form.Place p.host
+  pub host : HasForm form.SocketAddress p.host
   pub out_path : HasForm form.Path p.out_path
   pub least : p.least ≤ℤ pos 0
   pub fee_ppm : p.fee_ppm ≤ million
   pub max_packet : IsMaxPacket p.max_packet
-  pub engine : IfSome p.engine (HasForm form.Place)
+  pub engine : IfSome p.engine (HasForm form.SocketAddress)
   pub levels : IfSome p.levels (AreOrdered p)
   pub settle_max : IfSome p.levels (λ levels. IsMaxSettlement levels.settle_max)
 

@@ -73,12 +73,12 @@ pub(crate) fn fields_of(table: &Table) -> Result<PeerFields<'_>, ConfigFault>
     let asset = required_asset(table, Field::Asset)?;
     let token = required_text(table, Field::Token, Form::Token)?;
     let out_token = required_text(table, Field::OutToken, Form::Token)?;
-    let host = required_text(table, Field::Host, Form::Place)?;
+    let host = required_text(table, Field::Host, Form::SocketAddress)?;
     let out_path = defaulted_text(table, Field::OutPath, Form::Path, "/ilp")?;
     let least = required_integer(table, Field::Least)?;
     let fee_ppm = defaulted_number(table, Field::FeePpm, 0, 1_000_000, 0)?;
     let max_packet = defaulted_amount(table, Field::MaxPacket, MAX_WRITTEN, u64::MAX)?;
-    let engine = optional_text(table, Field::Engine, Form::Place)?;
+    let engine = optional_text(table, Field::Engine, Form::SocketAddress)?;
     let threshold = optional_integer(table, Field::Threshold)?;
     let settle_to = optional_integer(table, Field::SettleTo)?;
     let settle_max = optional_amount(table, Field::SettleMax, 1, MAX_WRITTEN)?;

@@ -23,7 +23,7 @@ pub(crate) enum Array {
 
 /// A place in a configuration.
 #[derive(Clone, Copy)]
-pub(crate) enum Place<'a> {
+pub(crate) enum FaultPlace<'a> {
     /// Outside of the tables of all arrays.
     Top,
     /// The table of this number, counted from 1.
@@ -34,12 +34,12 @@ pub(crate) enum Place<'a> {
     },
 }
 
-impl Place<'_> {
+impl FaultPlace<'_> {
     /// The array that it lies in, unless it is at the top.
     pub(crate) fn array(self) -> Option<Array> {
         match self {
-            Place::Top => None,
-            Place::Table { array, .. } => Some(array),
+            FaultPlace::Top => None,
+            FaultPlace::Table { array, .. } => Some(array),
         }
     }
 }
@@ -55,11 +55,11 @@ impl fmt::Display for Array {
     }
 }
 
-impl fmt::Display for Place<'_> {
+impl fmt::Display for FaultPlace<'_> {
     fn fmt<W: fmt::Write>(&self, f: &mut fmt::Formatter<W>) -> fmt::Result {
         match self {
-            Place::Top => f.write_str("at the top"),
-            Place::Table {
+            FaultPlace::Top => f.write_str("at the top"),
+            FaultPlace::Table {
                 array,
                 number,
                 table,
@@ -99,12 +99,12 @@ pub(crate) fn place_of(
     alloc: Global,
     table: &Table,
     fault: ConfigFault,
-) -> Result<Place<'_>, AllocError> {
+) -> Result<FaultPlace<'_>, AllocError> {
     let Ok(arrays) = arrays_of(table) else {
-        return Ok(Place::Top);
+        return Ok(FaultPlace::Top);
     };
     if fault_of(alloc, arrays)? != Some(fault) {
-        return Ok(Place::Top);
+        return Ok(FaultPlace::Top);
     }
     let count = least_count(alloc, arrays, fault)?;
     Ok(last_of(front_of(arrays, count)))
@@ -194,18 +194,18 @@ fn first_of(values: &[Value], count: usize) -> (&[Value], usize)
 }
 
 // The place of the last table.
-fn last_of(arrays: Arrays<'_>) -> Place<'_> {
+fn last_of(arrays: Arrays<'_>) -> FaultPlace<'_> {
     last_in(Array::Route, arrays.routes)
         .or(last_in(Array::Peer, arrays.peers))
         .or(last_in(Array::Price, arrays.prices))
         .or(last_in(Array::Asset, arrays.assets))
-        .unwrap_or(Place::Top)
+        .unwrap_or(FaultPlace::Top)
 }
 
 // The place of an array's last table.
-fn last_in(array: Array, values: &[Value]) -> Option<Place<'_>> {
+fn last_in(array: Array, values: &[Value]) -> Option<FaultPlace<'_>> {
     let table = values.last()?.as_table()?;
-    Some(Place::Table {
+    Some(FaultPlace::Table {
         array,
         number: values.len(),
         table,

@@ -39,8 +39,13 @@ pub(crate) fn settings_of(table: &Table) -> Result<Settings<&str>, ConfigFault>
 {
     let address = required_text(table, Field::Address, Form::Address)?;
     let run = required_text(table, Field::Run, Form::Run)?;
-    let listen = defaulted_text(table, Field::Listen, Form::Place, "127.0.0.1:7768")?;
-    let engine_listen = defaulted_text(table, Field::EngineListen, Form::Place, "127.0.0.1:7769")?;
+    let listen = defaulted_text(table, Field::Listen, Form::SocketAddress, "127.0.0.1:7768")?;
+    let engine_listen = defaulted_text(
+        table,
+        Field::EngineListen,
+        Form::SocketAddress,
+        "127.0.0.1:7769",
+    )?;
     let path = defaulted_text(table, Field::Path, Form::Path, "/ilp")?;
     let workers = defaulted_number(table, Field::Workers, 1, 64, 4)?;
     let journal = defaulted_number(table, Field::Journal, 2, 16_777_216, 65_536)?;

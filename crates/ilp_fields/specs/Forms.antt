@@ -46,7 +46,7 @@ is_prefix text = ((length text == 0 || is_scheme text) || is_address text) && no
 abbrev pub admits : Form → List ℕ → Bool
 admits form.Address text = is_address text
 admits form.Run text = is_within 1 32 (length text) && list_all is_run_octet text
-admits form.Place text = is_within 1 64 (length text)
+admits form.SocketAddress text = is_within 1 64 (length text)
 admits form.Path text = is_within 1 128 (length text) && (slice_index text 0 == 47 && list_all is_visible_octet text)
 admits form.Code text = is_within 1 12 (length text) && list_all is_code_octet text
 admits form.Name text = is_within 1 16 (length text) && list_all is_name_octet text

@@ -13,7 +13,7 @@ pub enum Form {
     /// 1 to 32 letters, digits and `-`.
     Run,
     /// 1 to 64 octets; whether they name a place is found when it is used.
-    Place,
+    SocketAddress,
     /// `/` and visible ASCII, at most 128 octets.
     Path,
     /// 1 to 12 capital letters and digits.
@@ -35,7 +35,7 @@ impl Form {
         match self {
             Form::Address => is_address(octets),
             Form::Run => has_length(octets, 1, 32) && are_run_octets(octets),
-            Form::Place => has_length(octets, 1, 64),
+            Form::SocketAddress => has_length(octets, 1, 64),
             Form::Path => has_length(octets, 1, 128) && is_path(octets),
             Form::Code => has_length(octets, 1, 12) && are_code_octets(octets),
             Form::Name => has_length(octets, 1, 16) && are_name_octets(octets),

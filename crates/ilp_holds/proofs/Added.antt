@@ -5,7 +5,7 @@ use Rattle.std.proofs.lemmas.Bool.{cases_eq}
 use Rattle.std.proofs.lemmas.List.{ext_get_or, get_or-map, get_or_append_left, get_or_push, length-map, length_push}
 use Rattle.std.proofs.lemmas.List.Edits.{length-insert, get_or-insert_at}
 use Rattle.ilp_holds.specs.declared.due.Due.{Due}
-use Rattle.ilp_holds.specs.declared.index.Place.{Place}
+use Rattle.ilp_holds.specs.declared.index.IndexRow.{IndexRow}
 use Rattle.ilp_holds.specs.Due.{no_due, due}
 use Rattle.ilp_holds.specs.Heap.{IsHeap, IsHeapBut}
 use Rattle.ilp_holds.specs.Members.{IsAdded}
@@ -13,11 +13,11 @@ use Rattle.ilp_holds.specs.Index.{no_row, row, IsMissingAt, IsIndexed, LeadsTo, 
 use Rattle.ilp_holds.proofs.HeapSteps.{opened}
 use Rattle.ilp_holds.proofs.Skips.{skip, skip_cases, skip_reflects, skip_within, skipped_to, get_or-insert}
 
-module _ (heap : List Due) (index : List Place) (to : ℕ) (new : Due) (ok : IsIndexed heap index) (missing : IsMissingAt index new.number to) where
+module _ (heap : List Due) (index : List IndexRow) (to : ℕ) (new : Due) (ok : IsIndexed heap index) (missing : IsMissingAt index new.number to) where
   abbrev after : List Due
   after = heap ++ new ∷ []
 
-  abbrev rows : List Place
+  abbrev rows : List IndexRow
   rows = insert index to (record { number = new.number; at = length heap })
 
   longer : length rows ≡ length index + 1
@@ -73,7 +73,7 @@ module _ (heap : List Due) (index : List Place) (to : ℕ) (new : Due) (ok : IsI
   ]
 
   leads_new : LeadsTo (insert index to (record { number = new.number; at = length heap })) to (length heap)
-  leads_new = (let w = missing.within in omega (arith, longer), ap (λ (q : Place). q.at) new_row)
+  leads_new = (let w = missing.within in omega (arith, longer), ap (λ (q : IndexRow). q.at) new_row)
 
   indexed : IsIndexed (heap ++ new ∷ []) (insert index to (record { number = new.number; at = length heap }))
   indexed = record {
@@ -81,11 +81,11 @@ module _ (heap : List Due) (index : List Place) (to : ℕ) (new : Due) (ok : IsI
     within = λ j h. rw length_after (leads j h).0;
     named = λ j h. (leads j h).1;
     complete = λ k h. elim (cases_eq k (length heap)) [
-      | inl e ↦ (to, let w = missing.within in omega (arith, longer), ap (λ (q : Place). q.at) new_row ∙ sym e)
+      | inl e ↦ (to, let w = missing.within in omega (arith, longer), ap (λ (q : IndexRow). q.at) new_row ∙ sym e)
       | inr n ↦
           let p = ok.complete k (omega (arith, length_after)) in
           let s = skip_within to p.0 in
-          (skip to p.0, let h' = p.1 in let t = s.1 in omega (arith, longer), ap (λ (q : Place). q.at) (old_row p.0) ∙ p.2)
+          (skip to p.0, let h' = p.1 in let t = s.1 in omega (arith, longer), ap (λ (q : IndexRow). q.at) (old_row p.0) ∙ p.2)
     ];
   }
 
@@ -109,5 +109,5 @@ module _ (heap : List Due) (index : List Place) (to : ℕ) (new : Due) (ok : IsI
       (l', old_due k l'))
 
   -- what the steps of `add` leave
-  pub added : (now : List Due) (index_now : List Place) → IsHeap heap → now ≡ heap ++ new ∷ [] → index_now ≡ insert index to (record { number = new.number; at = length heap }) → IsAdded heap index to new now index_now (length heap)
+  pub added : (now : List Due) (index_now : List IndexRow) → IsHeap heap → now ≡ heap ++ new ∷ [] → index_now ≡ insert index to (record { number = new.number; at = length heap }) → IsAdded heap index to new now index_now (length heap)
   added now index_now order is are = rw (is, are) (record { indexed = indexed; almost = almost order; leads = leads_new; joined = joined })

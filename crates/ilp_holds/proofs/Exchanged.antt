@@ -5,20 +5,20 @@ use Rattle.std.proofs.lemmas.Bool.{cases_eq}
 use Rattle.std.proofs.lemmas.List.{ext_get_or, get_or-map, length-map}
 use Rattle.std.proofs.lemmas.List.Edits.{Swapped, swapped_from_swap, length-swap}
 use Rattle.ilp_holds.specs.declared.due.Due.{Due}
-use Rattle.ilp_holds.specs.declared.index.Place.{Place}
+use Rattle.ilp_holds.specs.declared.index.IndexRow.{IndexRow}
 use Rattle.ilp_holds.specs.Due.{no_due, due}
 use Rattle.ilp_holds.specs.Index.{no_row, row, IsRising, IsFoundAt, IsIndexed, LeadsTo, moved, holds}
 use Rattle.ilp_holds.proofs.Rows.{one_row, moved-same, moved-other, noted, number-moved, placed, place_within}
 
 -- numbers still rise once rows are moved
-pub rising_moved : (index : List Place) (number at : ℕ) → IsRising index → IsRising (map (moved number at) index)
+pub rising_moved : (index : List IndexRow) (number at : ℕ) → IsRising index → IsRising (map (moved number at) index)
 rising_moved index number at rising = λ i j lt l.
     let l' : j < length index = omega (arith, length-map index (moved number at)) in
-    let is = λ (k : ℕ) (h : k < length index). ap (λ (q : Place). q.number) (get_or-map (moved number at) index k no_row no_row h) ∙ number-moved number at (row index k) in
+    let is = λ (k : ℕ) (h : k < length index). ap (λ (q : IndexRow). q.number) (get_or-map (moved number at) index k no_row no_row h) ∙ number-moved number at (row index k) in
     rw (is i (omega arith), is j l') (rising i j lt l')
 
 -- no two places of the heap have one number
-pub one_place : (heap : List Due) (index : List Place) → IsIndexed heap index → (k m : ℕ) → k < length heap → m < length heap → (due heap k).number ≡ (due heap m).number → k ≡ m
+pub one_place : (heap : List Due) (index : List IndexRow) → IsIndexed heap index → (k m : ℕ) → k < length heap → m < length heap → (due heap k).number ≡ (due heap m).number → k ≡ m
 one_place heap index ok k m a b e =
     let p = ok.complete k a in
     let q = ok.complete m b in
@@ -28,10 +28,10 @@ one_place heap index ok k m a b e =
     sym p.2 ∙ ap (λ x. (row index x).at) same ∙ q.2
 
 -- the row that has the number of the hold at a place leads there
-pub found_leads : (heap : List Due) (index : List Place) (i at : ℕ) → IsIndexed heap index → at < length heap → IsFoundAt index (due heap at).number i → LeadsTo index i at
+pub found_leads : (heap : List Due) (index : List IndexRow) (i at : ℕ) → IsIndexed heap index → at < length heap → IsFoundAt index (due heap at).number i → LeadsTo index i at
 found_leads heap index i at ok l found = (found.0, one_place heap index ok (row index i).at at (ok.within i found.0) l (ok.named i found.0 ∙ found.1))
 
-module _ (heap after : List Due) (index notes moves : List Place) (r a b : ℕ) (leads_to : LeadsTo index r a) (b_in : b < length heap) (ok : IsIndexed heap index)
+module _ (heap after : List Due) (index notes moves : List IndexRow) (r a b : ℕ) (leads_to : LeadsTo index r a) (b_in : b < length heap) (ok : IsIndexed heap index)
     (is : after ≡ swap heap a b) (noted_a : notes ≡ map (moved (due after a).number a) index) (set_b : moves ≡ set notes r (placed (row notes r) b)) where
   a_in : a < length heap
   a_in = place_within heap index r a ok leads_to
@@ -46,7 +46,7 @@ module _ (heap after : List Due) (index notes moves : List Place) (r a b : ℕ) 
   found : IsFoundAt notes (due after b).number r
   found = rw noted_a (
     rw (length-map index (moved (due after a).number a)) leads_to.0,
-    ap (λ (q : Place). q.number) (get_or-map (moved (due after a).number a) index r no_row no_row leads_to.0) ∙ number-moved (due after a).number a (row index r) ∙ number_b,
+    ap (λ (q : IndexRow). q.number) (get_or-map (moved (due after a).number a) index r no_row no_row leads_to.0) ∙ number-moved (due after a).number a (row index r) ∙ number_b,
   )
 
   follows : moves ≡ map (moved (due after b).number b) (map (moved (due after a).number a) index)
@@ -63,17 +63,17 @@ module _ (heap after : List Due) (index notes moves : List Place) (r a b : ℕ) 
       ∙ ap (moved (due after b).number b) (get_or-map (moved (due after a).number a) index i no_row no_row l))
 
   number_moved : (i : ℕ) → i < length index → (row moves i).number ≡ (row index i).number
-  number_moved i l = ap (λ (q : Place). q.number) (row_moved i l) ∙ number-moved _ _ (moved (due after a).number a (row index i)) ∙ number-moved _ _ (row index i)
+  number_moved i l = ap (λ (q : IndexRow). q.number) (row_moved i l) ∙ number-moved _ _ (moved (due after a).number a (row index i)) ∙ number-moved _ _ (row index i)
 
   -- where the holds' rows point to then
   at_b : (i : ℕ) → i < length index → (row index i).number ≡ (due after b).number → (row moves i).at ≡ b
-  at_b i l e = ap (λ (q : Place). q.at) (row_moved i l ∙ moved-same _ _ _ (number-moved _ _ (row index i) ∙ e))
+  at_b i l e = ap (λ (q : IndexRow). q.at) (row_moved i l ∙ moved-same _ _ _ (number-moved _ _ (row index i) ∙ e))
 
   at_a : (i : ℕ) → i < length index → (row index i).number ≢ (due after b).number → (row index i).number ≡ (due after a).number → (row moves i).at ≡ a
-  at_a i l n e = ap (λ (q : Place). q.at) (row_moved i l ∙ moved-other _ _ _ (λ f. n (sym (number-moved _ _ (row index i)) ∙ f)) ∙ moved-same _ _ (row index i) e)
+  at_a i l n e = ap (λ (q : IndexRow). q.at) (row_moved i l ∙ moved-other _ _ _ (λ f. n (sym (number-moved _ _ (row index i)) ∙ f)) ∙ moved-same _ _ (row index i) e)
 
   at_other : (i : ℕ) → i < length index → (row index i).number ≢ (due after b).number → (row index i).number ≢ (due after a).number → (row moves i).at ≡ (row index i).at
-  at_other i l n m = ap (λ (q : Place). q.at) (row_moved i l ∙ moved-other _ _ _ (λ f. n (sym (number-moved _ _ (row index i)) ∙ f)) ∙ moved-other _ _ (row index i) m)
+  at_other i l n m = ap (λ (q : IndexRow). q.at) (row_moved i l ∙ moved-other _ _ _ (λ f. n (sym (number-moved _ _ (row index i)) ∙ f)) ∙ moved-other _ _ (row index i) m)
 
   -- the row that points to a place has the number of the hold there
   from_a : (i : ℕ) → i < length index → (row index i).number ≡ (due after b).number → (row index i).at ≡ a

@@ -5,11 +5,11 @@ ghost use Rattle.ilp_holds.specs.Heap.{IsHeap, IsHeapBut, IsUnderParent, IsFirst
 ghost use Rattle.ilp_holds.specs.Index.{IsIndexed, LeadsTo, holds};
 
 use crate::due::Due;
-use crate::index::{Place, note, search};
+use crate::index::{IndexRow, note, search};
 
 /// Moves the hold at this place of the heap, which is that of this row of the index, up or down as
 /// far as the heap's order wants.
-pub(crate) fn reorder(heap: &mut [Due], index: &mut [Place], row: usize, at: usize)
+pub(crate) fn reorder(heap: &mut [Due], index: &mut [IndexRow], row: usize, at: usize)
     requires leads { LeadsTo index.old row at }
     requires indexed { IsIndexed heap.old index.old }
     requires almost { IsHeapBut heap.old at }
@@ -22,7 +22,7 @@ pub(crate) fn reorder(heap: &mut [Due], index: &mut [Place], row: usize, at: usi
 }
 
 /// As `reorder`, where the row is not known. Past the end there is no hold to move.
-pub(crate) fn reorder_at(heap: &mut [Due], index: &mut [Place], at: usize)
+pub(crate) fn reorder_at(heap: &mut [Due], index: &mut [IndexRow], at: usize)
     requires indexed { IsIndexed heap.old index.old }
     requires almost { IsHeapBut heap.old at }
     ensures indexed { IsIndexed heap.new index.new }
@@ -38,7 +38,7 @@ pub(crate) fn reorder_at(heap: &mut [Due], index: &mut [Place], at: usize)
 }
 
 // Up, until its parent is not after it. Tells where it is then.
-fn rise(heap: &mut [Due], index: &mut [Place], row: usize, mut at: usize) -> usize
+fn rise(heap: &mut [Due], index: &mut [IndexRow], row: usize, mut at: usize) -> usize
     requires leads { LeadsTo index.old row at }
     requires indexed { IsIndexed heap.old index.old }
     requires almost { IsHeapBut heap.old at }
@@ -70,7 +70,7 @@ fn is_before_parent(heap: &[Due], at: usize) -> bool
 }
 
 // Down, until no child is before it.
-fn sink(heap: &mut [Due], index: &mut [Place], row: usize, mut at: usize)
+fn sink(heap: &mut [Due], index: &mut [IndexRow], row: usize, mut at: usize)
     requires leads { LeadsTo index.old row at }
     requires indexed { IsIndexed heap.old index.old }
     requires almost { IsHeapBut heap.old at }
@@ -119,7 +119,13 @@ fn first_child(heap: &[Due], at: usize) -> Option<usize>
 
 /// Exchanges the hold at a place of the heap, which is that of this row, with another one. Of these
 /// two only the other one is searched in the index.
-pub(crate) fn exchange(heap: &mut [Due], index: &mut [Place], row: usize, at: usize, other: usize)
+pub(crate) fn exchange(
+    heap: &mut [Due],
+    index: &mut [IndexRow],
+    row: usize,
+    at: usize,
+    other: usize,
+)
     requires leads { LeadsTo index.old row at }
     requires within { other < length heap.old }
     requires indexed { IsIndexed heap.old index.old }

@@ -5,7 +5,7 @@ ghost use Rattle.ilp_holds.specs.Due.{IsNoLater};
 
 use crate::due::Due;
 use crate::heap::{reorder, reorder_at};
-use crate::index::{Place, search};
+use crate::index::{IndexRow, search};
 use crate::members::{add, take_out};
 use std::alloc::{AllocError, Allocator, Global};
 use std::marker::Model;
@@ -19,7 +19,7 @@ pub struct HoldTable<A: Allocator = Global> {
     // A binary heap: none comes before the one above it, so the next one due stands first.
     heap: Vec<Due, A>,
     // Where in the heap each one stands, in the order of their numbers.
-    index: Vec<Place, A>,
+    index: Vec<IndexRow, A>,
     // For so many more, both have room.
     spare: usize,
 }

@@ -6,14 +6,14 @@ ghost use Rattle.ilp_holds.specs.Members.{IsAdded, IsTakenOut};
 
 use crate::due::Due;
 use crate::heap::exchange;
-use crate::index::Place;
+use crate::index::IndexRow;
 use std::alloc::Allocator;
 
 /// Adds a hold as the last of the heap, and before this row of the index its own. Tells where in the
 /// heap it stands, which need not be in order there.
 pub(crate) fn add<A: Allocator>(
     heap: &mut Vec<Due, A>,
-    index: &mut Vec<Place, A>,
+    index: &mut Vec<IndexRow, A>,
     row: usize,
     due: Due,
 ) -> usize
@@ -34,7 +34,7 @@ pub(crate) fn add<A: Allocator>(
     let at = heap.len();
     let number = due.number;
     heap.push_reserved(due);
-    let Ok(()) = index.insert(row, Place { number, at }) else {
+    let Ok(()) = index.insert(row, IndexRow { number, at }) else {
         unreachable!();
     };
     at
@@ -44,7 +44,7 @@ pub(crate) fn add<A: Allocator>(
 /// which need not be in order there.
 pub(crate) fn take_out<A: Allocator>(
     heap: &mut Vec<Due, A>,
-    index: &mut Vec<Place, A>,
+    index: &mut Vec<IndexRow, A>,
     row: usize,
 ) -> usize
     requires row { row < length index.old.items }

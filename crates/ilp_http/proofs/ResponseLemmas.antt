@@ -16,7 +16,7 @@ use Rattle.ilp_http.specs.Placed.{IsHeadOf, IsHeadAt, IsPlacedAt, EndsAt, StaysB
 use Rattle.ilp_http.specs.ResponseAnswer.{IsResponseFault}
 use Rattle.ilp_http.specs.declared.framing.Framing.{Framing}
 use Rattle.ilp_http.specs.declared.framing.Framing.TheVariants.{Coded, Unannounced, Octets, Unreadable, TooLong}
-use Rattle.ilp_http.specs.declared.response_octets.Place.{Place}
+use Rattle.ilp_http.specs.declared.response_octets.ResponseLayout.{ResponseLayout}
 use Rattle.ilp_http.specs.declared.response.ResponseFault.{ResponseFault}
 use Rattle.ilp_http.proofs.FrontLemmas.{take_more_behind}
 
@@ -224,7 +224,7 @@ bad-never octets never more =
 -- ---- at the end of the input
 
 -- what holds whatever follows, holds where nothing does
-pub IsPlacedAt-now : (octets : List ℕ) (place : Place) → ((more : List ℕ) → IsPlacedAt (octets ++ more) octets place) → IsPlacedAt octets octets place
+pub IsPlacedAt-now : (octets : List ℕ) (place : ResponseLayout) → ((more : List ℕ) → IsPlacedAt (octets ++ more) octets place) → IsPlacedAt octets octets place
 IsPlacedAt-now octets place holds = subst (λ all. IsPlacedAt all octets place) (append-nil octets) (holds [])
 
 pub IsBad-now : (octets : List ℕ) → ((more : List ℕ) → IsBad (octets ++ more)) → IsBad octets

@@ -4,7 +4,7 @@ use Rattle.httparse.specs.Grammar.{ResponseHead, print_response, status_code}
 use Rattle.httparse.specs.declared.spans.ResponseSpans.{ResponseSpans}
 use Rattle.ilp_http.specs.Response.{BeginsWithStatus, framing_in, IsResponse, EndsShort, EndsOpen, IsBad, IsTooLong}
 use Rattle.ilp_http.specs.declared.framing.Framing.{Framing}
-use Rattle.ilp_http.specs.declared.response_octets.Place.{Place}
+use Rattle.ilp_http.specs.declared.response_octets.ResponseLayout.{ResponseLayout}
 use Rattle.ilp_http.specs.declared.response_octets.ResponseFinding.{ResponseFinding}
 use Rattle.ilp_http.specs.declared.response_octets.ResponseFinding.TheVariants.{Whole, Unfinished, ToEnd, Bad, TooLong}
 use Rattle.ilp_http.specs.declared.response.ResponseFault.{ResponseFault}
@@ -22,11 +22,11 @@ abbrev pub IsHeadOf : List ℕ → ResponseSpans → Framing → Type 0
 IsHeadOf octets spans body = (head : ResponseHead) × IsHeadAt octets spans body head
 
 -- the body lies in the octets
-abbrev pub IsWithin : List ℕ → Place → Type 0
+abbrev pub IsWithin : List ℕ → ResponseLayout → Type 0
 IsWithin octets place = place.start + place.body ≤ length octets
 
 -- these octets, which are all of an input, are the response whose body lies there in those
-abbrev pub IsPlacedAt : List ℕ → List ℕ → Place → Type 0
+abbrev pub IsPlacedAt : List ℕ → List ℕ → ResponseLayout → Type 0
 IsPlacedAt all octets place = IsResponse all place.code (slice_range octets place.start (place.start + place.body))
 
 -- more octets are needed, and there is room for one
@@ -46,7 +46,7 @@ IsFinding octets Bad = (more : List ℕ) → IsBad (octets ++ more)
 IsFinding octets TooLong = (more : List ℕ) → IsTooLong (octets ++ more)
 
 -- what octets are that are all of an input
-abbrev pub EndsAt : List ℕ → Result Place ResponseFault → Type 0
+abbrev pub EndsAt : List ℕ → Result ResponseLayout ResponseFault → Type 0
 EndsAt octets (Ok place) = IsPlacedAt octets octets place
 EndsAt octets (Err Fault.Bad) = EndsShort octets ⊎ IsBad octets
 EndsAt octets (Err Fault.TooLong) = IsTooLong octets

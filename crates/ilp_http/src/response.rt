@@ -9,7 +9,7 @@ ghost use Rattle.ilp_http.specs.ResponseAnswer.{IsResponseAnswer, AnswersInTime,
 
 use crate::buffer::{Buffer, ROOM};
 use crate::limits::MOST_READS;
-use crate::response_octets::{Place, ResponseFinding, examine_response};
+use crate::response_octets::{ResponseFinding, ResponseLayout, examine_response};
 use ilp_io::Source;
 use thiserror::Error;
 
@@ -41,7 +41,7 @@ pub enum ResponseFault {
 }
 
 /// What the octets of an input that has ended are.
-fn at_end(octets: &[u8]) -> Result<Place, ResponseFault>
+fn at_end(octets: &[u8]) -> Result<ResponseLayout, ResponseFault>
     ensures within { IfOk result (IsWithin octets.now) }
     ensures answer { EndsAt octets.now result }
 {
@@ -59,7 +59,7 @@ fn at_end(octets: &[u8]) -> Result<Place, ResponseFault>
 fn fill_response<S: Source>(
     source: &mut S,
     octets: &mut [u8],
-) -> Result<(usize, Place), ResponseFault>
+) -> Result<(usize, ResponseLayout), ResponseFault>
     requires { length octets.old ≡ ROOM }
     ensures filled { IfOk result (λ found. found.0 ≤ ROOM) }
     ensures within { IfOk result (λ found. IsWithin (take found.0 octets.new) found.1) }

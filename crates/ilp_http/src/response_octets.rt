@@ -14,7 +14,7 @@ const MOST_FIELDS: usize = 5_461;
 
 /// The status of a response, and where its body is.
 #[derive(Clone, Copy, Debug)]
-pub(crate) struct Place {
+pub(crate) struct ResponseLayout {
     pub code: u16,
     pub start: usize,
     pub body: usize,
@@ -23,11 +23,11 @@ pub(crate) struct Place {
 /// What an examination of octets finds.
 #[derive(Clone, Copy, Debug)]
 pub(crate) enum ResponseFinding {
-    Whole(Place),
+    Whole(ResponseLayout),
     /// No response yet. It is no use to look again before there are so many octets.
     Unfinished(usize),
     /// A response if the input ends here; with so many octets its body is too long.
-    ToEnd(Place, usize),
+    ToEnd(ResponseLayout, usize),
     Bad,
     TooLong,
 }
@@ -40,17 +40,17 @@ fn finding_by(octets: &[u8], head: &ResponseSpans, framing: Framing) -> Response
     let (code, start) = (head.code, head.len);
     let came = octets.len() - start;
     match framing {
-        Framing::Coded => ResponseFinding::Whole(Place {
+        Framing::Coded => ResponseFinding::Whole(ResponseLayout {
             code,
             start,
             body: 0,
         }),
         Framing::Octets(body) if came < body => ResponseFinding::Unfinished(start + body),
-        Framing::Octets(body) => ResponseFinding::Whole(Place { code, start, body }),
+        Framing::Octets(body) => ResponseFinding::Whole(ResponseLayout { code, start, body }),
         Framing::Unannounced if came > BODY_LIMIT => ResponseFinding::TooLong,
         Framing::Unannounced => {
             let body = came;
-            ResponseFinding::ToEnd(Place { code, start, body }, start + BODY_LIMIT + 1)
+            ResponseFinding::ToEnd(ResponseLayout { code, start, body }, start + BODY_LIMIT + 1)
         }
         Framing::Unreadable => ResponseFinding::Bad,
         Framing::TooLong => ResponseFinding::TooLong,

@@ -56,7 +56,10 @@ fn read_texts(rt: &impl Abort, table: &Table) {
         optional_text(table, Field::Name, Form::Name),
         Ok(Some("alice"))
     );
-    assert_eq!(rt; optional_text(table, Field::Engine, Form::Place), Ok(None));
+    assert_eq!(rt;
+        optional_text(table, Field::Engine, Form::SocketAddress),
+        Ok(None)
+    );
     assert_eq!(rt;
         defaulted_text(table, Field::Path, Form::Path, "/ilp"),
         Ok("/ilp")
