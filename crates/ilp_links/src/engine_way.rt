@@ -1,6 +1,6 @@
 //! The way to the settlement engines.
 ghost use Rattle.std.specs.Prelude.{◌+◌, ◌<◌, ◌≤◌, length, IfSome};
-ghost use Rattle.ilp_server.specs.declared.quantity.TheConstants.{LONGEST_QUANTITY};
+ghost use Rattle.ilp_settlement.specs.declared.printed.TheConstants.{LONGEST_QUANTITY};
 
 use crate::calling::call_hurried;
 use crate::hurry::Hurry;
@@ -10,9 +10,10 @@ use ilp_http::{Buffer, Outgoing, Response};
 use ilp_notices::Notices;
 use ilp_oer::Octets;
 use ilp_server::{
-    LONGEST_QUANTITY, account_head, account_text, has_account, message_head, message_reply,
-    messages_target, put_quantity, settlement_head, settlement_reply, settlements_target,
+    account_head, account_text, has_account, message_head, message_reply, messages_target,
+    settlement_head, settlement_reply, settlements_target,
 };
+use ilp_settlement::{LONGEST_QUANTITY, put_quantity};
 use ilp_workers::{EngineLink, EngineReply, LinkFault};
 use std::alloc::{AllocError, Allocator};
 use std::io::Eprint;

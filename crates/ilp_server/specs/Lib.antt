@@ -1,4 +1,3 @@
-pub mod Found
 pub mod Targets
 pub mod Fields
 pub mod Statuses
@@ -8,3 +7,4 @@ pub mod Replies
 pub mod Serving
 pub mod Connection
 pub mod Work
+pub use Rattle.ilp_order.specs.Found

@@ -7,7 +7,6 @@ mod exchange;
 mod fields;
 mod handled;
 pub mod laws;
-mod quantity;
 mod replies;
 mod requests;
 mod served;
@@ -21,7 +20,6 @@ pub use answering::answer_connection;
 pub use exchange::{PostFault, post};
 pub use fields::{key_of, sender_of};
 pub use handled::{ConnectionFault, Handled};
-pub use quantity::{LONGEST_QUANTITY, put_quantity};
 pub use replies::{has_account, message_reply, packet_reply, settlement_reply};
 pub use requests::{
     account_head, account_text, message_head, messages_target, packet_head, settlement_head,
