@@ -3,6 +3,19 @@
 //! The first line is `ilp-journal 1`, the last one `end` with the number of entries, and between them
 //! stands a line for each entry. Peers are named by their names, so a text is read by a
 //! configuration.
+//!
+//! # What is proved
+//!
+//! - `put_journal` writes exactly the text of a journal by a configuration (`specs/Text.antt`,
+//!   `journal_text`). Where a write fails or takes no octet it wrote a front of the text, and not
+//!   all of it. It has no allocator.
+//! - `JournalText::begin` and `next` read a text, an entry at a time (`specs/Reading.antt`): what
+//!   is answered is the entry of the next line, which can stand in a text of the configuration; at
+//!   the end line, none; and else the number of a line that no text has there. `next` takes memory
+//!   for a credit's key alone.
+//! - `one_journal`: by a valid configuration no text stands for two journals. `one_first_bad_line`:
+//!   a text that stands for one has no bad line, and no text has two first bad lines.
+//! - `laws`: worked texts, with each kind of entry and each cause.
 #![tactic(auto)]
 
 mod entry;
