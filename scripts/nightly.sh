@@ -48,6 +48,7 @@ benchmarks() {
 }
 
 run layers python3 scripts/drawing/layers.py --check
+run map python3 scripts/check_map.py
 run watching python3 scripts/check_watching.py
 run demonstration "python3 curl" scripts/demo.sh
 run cases python3 scripts/check.py "$program"
