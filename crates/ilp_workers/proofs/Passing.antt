@@ -7,12 +7,12 @@ use Rattle.ilp_book.specs.declared.calls.Outcome.{Outcome}
 use Rattle.ilp_book.specs.declared.fault.NotOpen.{NotOpen}
 use Rattle.ilp_desk.specs.declared.record.Record.{Record}
 use Rattle.ilp_desk.specs.Portion.{Portion, holding}
-use Rattle.ilp_workers.specs.declared.links.LinkFault.{LinkFault}
+use Rattle.ilp_link_traits.specs.declared.links.LinkFault.{LinkFault}
 use Rattle.ilp_workers.specs.declared.rejects.LocalReject.TheVariants as local
 use Rattle.ilp_workers.specs.declared.reply_effect.ReplyEffect.{ReplyEffect}
 use Rattle.ilp_workers.specs.declared.reply_effect.Told.{Told}
 use Rattle.ilp_workers.specs.declared.reply_effect.Told.TheVariants.{Passed, Rejected}
-use Rattle.ilp_workers.specs.Links.{Sending, ToEngine, came_of}
+use Rattle.ilp_link_traits.specs.Links.{Sending, ToEngine, came_of}
 use Rattle.ilp_workers.specs.Worker.{PlainWorker, worker}
 use Rattle.ilp_workers.specs.Forwarding.{Order, IsHolding, IsSentOn, IsEnded, IsSent, IsTold, Ends, effect_of}
 

@@ -19,7 +19,7 @@ use Rattle.ilp_desk.specs.Portion.{Portion, portion, Holding}
 use Rattle.ilp_desk.specs.Session.{IsSession}
 use Rattle.ilp_workers.specs.declared.reply_effect.ReplyEffect.{ReplyEffect}
 use Rattle.ilp_workers.specs.declared.reply_effect.Told.{Told}
-use Rattle.ilp_workers.specs.Links.{Tells}
+use Rattle.ilp_link_traits.specs.Links.{Tells}
 use Rattle.ilp_workers.specs.Forwarding.{Order, IsHeldAt, IsAnsweredAt, IsOnItsWay, within_years, entry_of, count_of, Ends, IsEnded}
 
 -- ---- how many entries were booked

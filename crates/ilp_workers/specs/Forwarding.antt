@@ -32,7 +32,7 @@ use Rattle.ilp_workers.specs.declared.rejects.LocalReject.TheVariants as local
 use Rattle.ilp_workers.specs.declared.reply_effect.ReplyEffect.{ReplyEffect}
 use Rattle.ilp_workers.specs.declared.reply_effect.Told.{Told}
 use Rattle.ilp_workers.specs.declared.reply_effect.Told.TheVariants.{Passed, Rejected}
-use Rattle.ilp_workers.specs.Links.{Tells, Sending, sending}
+use Rattle.ilp_link_traits.specs.Links.{Tells, Sending, sending}
 use Rattle.ilp_workers.specs.Rejects.{local_reject, reject_of_fault}
 use Rattle.ilp_workers.specs.Worker.{PlainWorker}
 

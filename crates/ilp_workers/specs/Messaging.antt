@@ -11,7 +11,7 @@ use Rattle.ilp_workers.specs.declared.rejects.LocalReject.{LocalReject}
 use Rattle.ilp_workers.specs.declared.rejects.LocalReject.TheVariants as local
 use Rattle.ilp_workers.specs.declared.messaging.MessageFault.{MessageFault}
 use Rattle.ilp_workers.specs.declared.messaging.MessageFault.TheVariants as message_fault
-use Rattle.ilp_workers.specs.Links.{Tells, Sending, sending, ToEngine, messaging, messaged}
+use Rattle.ilp_link_traits.specs.Links.{Tells, Sending, sending, ToEngine, messaging, messaged}
 use Rattle.ilp_workers.specs.Rejects.{local_reject}
 use Rattle.ilp_workers.specs.Worker.{PlainWorker}
 use Rattle.ilp_workers.specs.Forwarding.{within_years}

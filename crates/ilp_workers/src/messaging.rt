@@ -3,12 +3,12 @@ ghost use Rattle.std.specs.Prelude.{◌≡◌, ◌≤◌, [], length, Some, opti
 ghost use Rattle.ilp_terms.specs.Expiry.{IsMoment};
 ghost use Rattle.ilp_packet.specs.Packet.{most_payload, plain_prepare, prepare, fulfill, Spells};
 ghost use Rattle.ilp_book.specs.Configured.{IsKnown};
-ghost use Rattle.ilp_workers.specs.Links.{came_of};
+ghost use Rattle.ilp_link_traits.specs.Links.{came_of};
 ghost use Rattle.ilp_workers.specs.Worker.{worker, reply_of};
 ghost use Rattle.ilp_workers.specs.Forwarding.{within_years};
 ghost use Rattle.ilp_workers.specs.Messaging.{IsForEngine, message_refusal, engine_answer, answered_with, zero_fulfill, longest_fulfill, IsEngineAnswer, IsMessaged, message_expiry, message_prepare, peer_answer_of, Messages};
 
-use crate::links::{Clock, EngineLink, LinkFault, Uplink};
+use ilp_link_traits::{Clock, EngineLink, LinkFault, Uplink};
 use crate::parts::Parts;
 use crate::rejects::LocalReject;
 use crate::reply::Buffer;

@@ -6,12 +6,12 @@ ghost use Rattle.ilp_book.specs.Configured.{IsKnown};
 ghost use Rattle.ilp_workers.specs.Rejects.{longest_local_reject};
 ghost use Rattle.ilp_desk.specs.Desk.{PlainDesk};
 ghost use Rattle.ilp_desk.specs.Portion.{holding};
-ghost use Rattle.ilp_workers.specs.declared.links.LinkFault.{LinkFault};
-ghost use Rattle.ilp_workers.specs.Links.{came_of};
+ghost use Rattle.ilp_link_traits.specs.declared.links.LinkFault.{LinkFault};
+ghost use Rattle.ilp_link_traits.specs.Links.{came_of};
 ghost use Rattle.ilp_workers.specs.Worker.{reply_of};
 ghost use Rattle.ilp_workers.specs.Forwarding.{order, onward, IsHoldRefusal, IsHolding, IsSentOn, IsEnded, IsTold, effect_of, end_of, record_of_end};
 
-use crate::links::{Clock, EngineLink, Uplink};
+use ilp_link_traits::{Clock, EngineLink, Uplink};
 use crate::rejects::{LONGEST_LOCAL_REJECT, LocalReject, put_local_reject};
 use crate::reply::Buffer;
 use crate::reply_effect::{ReplyEffect, Told, effect_by};

@@ -1,9 +1,9 @@
 //! What a peer's reply comes to.
 ghost use Rattle.std.specs.Prelude.{◌≡◌};
-ghost use Rattle.ilp_workers.specs.Links.{came_of};
+ghost use Rattle.ilp_link_traits.specs.Links.{came_of};
 ghost use Rattle.ilp_workers.specs.Forwarding.{effect_of, effect_of_none, effect_of_fulfill};
 
-use crate::links::LinkFault;
+use ilp_link_traits::LinkFault;
 use crate::rejects::LocalReject;
 use ilp_book::PeerReply;
 use ilp_desk::Verdict;

@@ -11,7 +11,7 @@ ghost use Rattle.ilp_workers.specs.Messaging.{peer_answer_of, Messages};
 ghost use Rattle.ilp_workers.specs.Forwarding.{order, IsForwardedBy};
 ghost use Rattle.ilp_workers.specs.Arrivals.{arrival, IsBad, Forwards};
 
-use crate::links::{Clock, EngineLink, Uplink};
+use ilp_link_traits::{Clock, EngineLink, Uplink};
 use crate::messaging::{MessageFault, is_for_engine, peer_answer_in};
 use crate::parts::Parts;
 use crate::rejects::LONGEST_LOCAL_REJECT;

@@ -1,0 +1,4 @@
+pub mod Targets
+pub mod Requests
+pub mod Exchange
+pub mod Replies
