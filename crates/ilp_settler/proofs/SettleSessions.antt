@@ -11,9 +11,10 @@ use Rattle.ilp_book.specs.SettleStep.{ask_checked, ask_booked, ask_growth, ask_s
 use Rattle.ilp_desk.specs.Desk.{PlainDesk}
 use Rattle.ilp_desk.specs.Portion.{Portion, Holding}
 use Rattle.ilp_settler.specs.declared.turn.Turn.{Turn}
-use Rattle.ilp_workers.specs.Links.{Tells}
+use Rattle.ilp_link_traits.specs.declared.links.EngineReply.{EngineReply}
+use Rattle.ilp_link_traits.specs.Links.{Tells}
 use Rattle.ilp_settler.specs.Settler.{IsAskedAt, asks_of, IsAsking, IsClosedAt, closings_of, kept_of_close, turn_of_close, IsClosing}
-use Rattle.ilp_workers.proofs.Sessions.{raised_by, count_in, booked_more}
+use Rattle.ilp_desk.proofs.Raising.{raised_by, count_in, booked_more}
 
 -- ---- steps
 
@@ -54,11 +55,11 @@ asking_by desk peer moments moments' before after now reply asked at =
     }
 
 -- a book was told what the engine said, at a moment that the clock gave, and what is kept of it
-pub closing_by : (desk : PlainDesk) (peer : ℕ) (a : Asked) (accepted : Bool) (moments moments' : Option (List ℤ)) (before after : Holding) (later : ℤ) (reply : Result ℕ NotOpen) (turn : Turn)
+pub closing_by : (desk : PlainDesk) (peer : ℕ) (a : Asked) (said : EngineReply) (accepted : Bool) (moments moments' : Option (List ℤ)) (before after : Holding) (later : ℤ) (reply : Result ℕ NotOpen) (turn : Turn)
     → Tells moments later moments' → IsClosedAt desk a.number accepted later before.share after.share reply
-    → after.records ≡ before.records ++ kept_of_close peer a accepted reply → turn ≡ turn_of_close a accepted reply
-    → IsClosing desk peer a accepted moments moments' before after turn
-closing_by desk peer a accepted moments moments' before after later reply turn asked at is turn_is =
+    → after.records ≡ before.records ++ kept_of_close peer a accepted reply → turn ≡ turn_of_close a said reply
+    → IsClosing desk peer a said accepted moments moments' before after turn
+closing_by desk peer a said accepted moments moments' before after later reply turn asked at is turn_is =
     let old = at.0 in
     let made = close_step old (by before.share.actor later) a.number (verdict_of accepted) in
     let does : Does old at.1 reply made = at.3 in

@@ -15,11 +15,11 @@ use Rattle.ilp_desk.specs.declared.record.Recorded.TheVariants as recorded
 use Rattle.ilp_desk.specs.Desk.{PlainDesk}
 use Rattle.ilp_desk.specs.Portion.{Portion, portion, Holding, holding}
 use Rattle.ilp_desk.specs.Session.{IsReplyAt, IsLookAt}
-use Rattle.ilp_workers.specs.declared.links.EngineReply.{EngineReply}
-use Rattle.ilp_workers.specs.declared.links.EngineReply.TheVariants.{Accepted, Refused, Unknown}
+use Rattle.ilp_link_traits.specs.declared.links.EngineReply.{EngineReply}
+use Rattle.ilp_link_traits.specs.declared.links.EngineReply.TheVariants.{Accepted, Refused, Unknown}
 use Rattle.ilp_settler.specs.declared.turn.Turn.{Turn}
 use Rattle.ilp_settler.specs.declared.turn.Turn.TheVariants.{NoAccount, Idle, Kept, Closed}
-use Rattle.ilp_workers.specs.Links.{Tells, ToEngine, asked, asking, settled, settling}
+use Rattle.ilp_link_traits.specs.Links.{Tells, ToEngine, asked, asking, settled, settling}
 
 -- its share, the records of what it booked, what its links tell (the moments of its clock, and what engines were handed), and,
 -- by the peers' places, whose engines are known to have the account, and which settlement the engine was asked for last
@@ -126,8 +126,8 @@ settlement_told C peer a said = settled (settling peer (key_text C a.number) a.a
 -- whether a settlement is closed as accepted or as refused by what the engine said, or not at all
 abbrev pub verdict_by : EngineReply → Option Bool
 verdict_by Accepted = Some true
-verdict_by Refused = Some false
-verdict_by Unknown = None
+verdict_by (Refused status) = Some false
+verdict_by (Unknown status) = None
 
 -- ---- closing
 
@@ -151,29 +151,29 @@ kept_of_close peer a accepted (Ok entry) = record_of_close peer a accepted entry
 kept_of_close peer a accepted (Err fault) = []
 
 -- what a turn comes to by a closing: where nothing was open any more, the settlement stays as it is
-abbrev pub turn_of_close : Asked → Bool → Result ℕ NotOpen → Turn
-turn_of_close a accepted (Ok entry) = Closed a.number accepted
-turn_of_close a accepted (Err fault) = Kept a.number
+abbrev pub turn_of_close : Asked → EngineReply → Result ℕ NotOpen → Turn
+turn_of_close a said (Ok entry) = Closed a.number a.amount said
+turn_of_close a said (Err fault) = Kept a.number a.amount said
 
 -- What the engine said is told to a book, at a moment that the clock gives, and share and records are raised by that.
-pub record IsClosing (desk : PlainDesk) (peer : ℕ) (a : Asked) (accepted : Bool) (moments moments' : Option (List ℤ)) (before after : Holding) (turn : Turn) : Type 0 where
+pub record IsClosing (desk : PlainDesk) (peer : ℕ) (a : Asked) (said : EngineReply) (accepted : Bool) (moments moments' : Option (List ℤ)) (before after : Holding) (turn : Turn) : Type 0 where
   pub later : ℤ
   pub reply : Result ℕ NotOpen
   pub asked : Tells moments later moments'
   pub booked : IsClosedAt desk a.number accepted later before.share after.share reply
   pub raised : after.share ≡ portion before.share.actor (before.share.entries + closings_of reply)
   pub records : after.records ≡ before.records ++ kept_of_close peer a accepted reply
-  pub turn_is : turn ≡ turn_of_close a accepted reply
+  pub turn_is : turn ≡ turn_of_close a said reply
 
 -- Nothing was said that a book is told.
-pub record IsLeftOpen (a : Asked) (moments moments' : Option (List ℤ)) (before after : Holding) (turn : Turn) : Type 0 where
+pub record IsLeftOpen (a : Asked) (said : EngineReply) (moments moments' : Option (List ℤ)) (before after : Holding) (turn : Turn) : Type 0 where
   pub asked : moments' ≡ moments
   pub same : after ≡ before
-  pub turn_is : turn ≡ Kept a.number
+  pub turn_is : turn ≡ Kept a.number a.amount said
 
-abbrev pub ClosesBy : PlainDesk → ℕ → Asked → Option Bool → Option (List ℤ) → Option (List ℤ) → Holding → Holding → Turn → Type 0
-ClosesBy desk peer a None moments moments' before after turn = IsLeftOpen a moments moments' before after turn
-ClosesBy desk peer a (Some accepted) moments moments' before after turn = IsClosing desk peer a accepted moments moments' before after turn
+abbrev pub ClosesBy : PlainDesk → ℕ → Asked → EngineReply → Option Bool → Option (List ℤ) → Option (List ℤ) → Holding → Holding → Turn → Type 0
+ClosesBy desk peer a said None moments moments' before after turn = IsLeftOpen a said moments moments' before after turn
+ClosesBy desk peer a said (Some accepted) moments moments' before after turn = IsClosing desk peer a said accepted moments moments' before after turn
 
 -- ---- turns
 
@@ -197,7 +197,7 @@ pub record IsIdle (before after : PlainSettler) (engine : Option (List ToEngine)
 pub record IsSettling (desk : PlainDesk) (peer : ℕ) (before after : PlainSettler) (engine : Option (List ToEngine)) (a : Asked) (share : Portion) (moments : Option (List ℤ)) (told : Turn) : Type 0 where
   pub said : EngineReply
   pub handed : Tells engine (settlement_told desk.config peer a said) after.engine
-  pub closed : ClosesBy desk peer a (verdict_by said) moments after.moments (holding share before.records) (holding after.share after.records) told
+  pub closed : ClosesBy desk peer a said (verdict_by said) moments after.moments (holding share before.records) (holding after.share after.records) told
   pub tried : after.tried ≡ with_tried before.tried peer a.number
 
 -- an open settlement is taken up where one was found; else the turn tells why none was asked for

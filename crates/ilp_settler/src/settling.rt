@@ -3,15 +3,15 @@ ghost use Rattle.std.specs.Prelude.{◌≡◌, ◌<◌, ◌≤◌, Ok, true, fal
 ghost use Rattle.ilp_accounts.specs.Limits.{most_peers};
 ghost use Rattle.ilp_book.specs.Configured.{IsKnown};
 ghost use Rattle.ilp_desk.specs.Portion.{holding};
-ghost use Rattle.ilp_workers.specs.declared.links.EngineReply.{EngineReply};
-ghost use Rattle.ilp_workers.specs.Links.{Tells};
+ghost use Rattle.ilp_link_traits.specs.declared.links.EngineReply.{EngineReply};
+ghost use Rattle.ilp_link_traits.specs.Links.{Tells};
 ghost use Rattle.ilp_settler.specs.Settler.{settler, longest_key, key_text, knows_account, with_account, account_told, HasAccount, last_tried, with_tried, IsAsking, IsChoosing, IsTakingUp, settlement_told, verdict_by, IsClosing, ClosesBy, record_of_close, Turns};
 
 use crate::turn::Turn;
 use ilp_accounts::Config;
 use ilp_book::{AskFault, Asked};
 use ilp_desk::{Desk, End, Naming, Record, Recorded, Share};
-use ilp_workers::{Clock, EngineLink, EngineReply};
+use ilp_link_traits::{Clock, EngineLink, EngineReply};
 use itoa::Buffer;
 use std::alloc::{AllocError, Allocator, Global};
 use std::sync::Wait;
@@ -160,17 +160,19 @@ impl<J: Naming, C: Clock + Drop, E: EngineLink + Drop, A: Allocator> SettlerPart
         ensures settled { (said : EngineReply)
             × Tells (E.told self.old.engine) (settlement_told J.desk.config peer asked said)
             (E.told self.new.engine)
-            × ClosesBy J.desk peer asked (verdict_by said) (C.told self.old.clock)
+            × ClosesBy J.desk peer asked said (verdict_by said) (C.told self.old.clock)
             (C.told self.new.clock) (holding self.old.share self.old.records.items)
             (holding self.new.share self.new.records.items) result }
         ensures accounts { self.new.accounts ≡ self.old.accounts }
         ensures tried { self.new.tried ≡ with_tried self.old.tried peer asked.number }
     {
-        match self.settle(desk.config(), peer, asked) {
-            EngineReply::Accepted => self.close(rt, desk, peer, asked, true),
-            EngineReply::Refused => self.close(rt, desk, peer, asked, false),
-            EngineReply::Unknown => Turn::Kept {
+        let said = self.settle(desk.config(), peer, asked);
+        match verdict_by(said) {
+            Some(accepted) => self.close(rt, desk, peer, asked, said, accepted),
+            None => Turn::Kept {
                 number: asked.number,
+                amount: asked.amount,
+                said,
             },
         }
     }
@@ -182,24 +184,33 @@ impl<J: Naming, C: Clock + Drop, E: EngineLink + Drop, A: Allocator> SettlerPart
         desk: &Desk<J>,
         peer: u32,
         asked: Asked,
+        said: EngineReply,
         accepted: bool,
     ) -> Turn
         requires room { vec_len self.old.records < vec_capacity self.old.records }
-        ensures closed { IsClosing J.desk peer asked accepted (C.told self.old.clock)
+        ensures closed { IsClosing J.desk peer asked said accepted (C.told self.old.clock)
             (C.told self.new.clock) (holding self.old.share self.old.records.items)
             (holding self.new.share self.new.records.items) result }
         ensures accounts { self.new.accounts ≡ self.old.accounts }
         ensures tried { self.new.tried ≡ self.old.tried }
         ensures engine { self.new.engine ≡ self.old.engine }
     {
-        let number = asked.number;
+        let Asked { number, amount } = asked;
         let later = self.clock.now();
         let Ok(entry) = desk.settle_close(rt, &mut self.share, number, accepted, later) else {
-            return Turn::Kept { number };
+            return Turn::Kept {
+                number,
+                amount,
+                said,
+            };
         };
         self.records
             .push_reserved(record_of(peer, asked, accepted, entry));
-        Turn::Closed { number, accepted }
+        Turn::Closed {
+            number,
+            amount,
+            said,
+        }
     }
 }
 
@@ -210,6 +221,17 @@ impl<J: Naming, C: Clock + Drop, E: EngineLink + Drop> SettlerParts<J, C, E, Glo
     {
         let SettlerParts { share, records, .. } = self;
         End::new(share, records)
+    }
+}
+
+// Whether a settlement is closed as accepted or as refused by what its engine said, or not at all.
+fn verdict_by(said: EngineReply) -> Option<bool>
+    ensures { result ≡ verdict_by said }
+{
+    match said {
+        EngineReply::Accepted => Some(true),
+        EngineReply::Refused { .. } => Some(false),
+        EngineReply::Unknown { .. } => None,
     }
 }
 

@@ -9,15 +9,15 @@ ghost use Rattle.ilp_desk.specs.Portion.{holding};
 ghost use Rattle.ilp_link_traits.specs.declared.links.LinkFault.{LinkFault};
 ghost use Rattle.ilp_link_traits.specs.Links.{came_of};
 ghost use Rattle.ilp_workers.specs.Worker.{reply_of};
-ghost use Rattle.ilp_workers.specs.Forwarding.{order, onward, IsHoldRefusal, IsHolding, IsSentOn, IsEnded, IsTold, effect_of, end_of, record_of_end};
+ghost use Rattle.ilp_workers.specs.Forwarding.{order, onward, IsHoldRefusal, IsHolding, IsSentOn, IsEnded, IsTold, late, effect_of, end_of, record_of_end};
 
-use ilp_link_traits::{Clock, EngineLink, Uplink};
-use crate::rejects::{LONGEST_LOCAL_REJECT, LocalReject, put_local_reject};
+use crate::rejects::{LONGEST_LOCAL_REJECT, LocalReject, ToldReject, put_local_reject};
 use crate::reply::Buffer;
 use crate::reply_effect::{ReplyEffect, Told, effect_by};
 use ilp_accounts::Config;
 use ilp_book::{Held, Outcome};
 use ilp_desk::{AnsweredHold, Desk, End, Naming, Record, Recorded, Share, Verdict};
+use ilp_link_traits::{Clock, EngineLink, LinkFault, ReplyKind, Uplink};
 use ilp_oer::Octets;
 use ilp_packet::{Prepare, write_prepare};
 use std::alloc::{AllocError, Allocator, Global};
@@ -102,7 +102,7 @@ impl<J: Naming, C: Clock + Drop, U: Uplink + Drop, E: EngineLink + Drop, A: Allo
         self.outgoing.reserve(len)
     }
 
-    // Hands the Prepare on, and waits for what comes back.
+    // Hands the Prepare on, waits for what comes back, and has the link learn what that is.
     pub(crate) fn send_on(&mut self, packet: &Prepare<'_>, held: &Held) -> ReplyEffect
         requires packet { IsPrepare (onward (plain_prepare packet.now) held.now) }
         requires cleared { self.old.outgoing.octets ≡ [] }
@@ -133,7 +133,9 @@ impl<J: Naming, C: Clock + Drop, U: Uplink + Drop, E: EngineLink + Drop, A: Allo
             held.deadline,
             &mut self.incoming,
         );
-        effect_by(packet.condition, came, self.incoming.as_slice())
+        let effect = effect_by(packet.condition, came, self.incoming.as_slice());
+        note_reply(&mut self.uplink, held.to, came, effect.kind());
+        effect
     }
 
     // Has the desk book what came back, and keeps the record of how the hold ended by that.
@@ -156,17 +158,11 @@ impl<J: Naming, C: Clock + Drop, U: Uplink + Drop, E: EngineLink + Drop, A: Allo
         let later = self.clock.now();
         let answer = effect.answer;
         let Ok(outcome) = desk.answer(rt, &mut self.share, held.number, answer, later) else {
-            return Answered {
-                told: Told::Rejected(LocalReject::TransferTimedOut),
-                entry: None,
-            };
+            return Answered::late(None);
         };
         let (entry, verdict) = end_of(outcome);
         if !same(verdict, effect.verdict) {
-            return Answered {
-                told: Told::Rejected(LocalReject::TransferTimedOut),
-                entry: Some(entry),
-            };
+            return Answered::late(Some(entry));
         }
         self.records
             .push_reserved(record_of(from, packet, held, verdict, entry));
@@ -187,8 +183,9 @@ impl<J: Naming, C: Clock + Drop, U: Uplink + Drop, E: EngineLink + Drop, A: Allo
         ensures links { (self.new.uplink ≡ self.old.uplink) × (self.new.engine ≡ self.old.engine) }
     {
         self.reply_in = match told {
-            Told::Passed => Buffer::Incoming,
-            Told::Rejected(why) => {
+            Told::Fulfill => Buffer::Incoming,
+            Told::Reject(ToldReject::Peer { .. }) => Buffer::Incoming,
+            Told::Reject(ToldReject::Own(why)) => {
                 put_local_reject(&mut self.rejected, config, why);
                 Buffer::Rejected
             }
@@ -233,6 +230,33 @@ impl<J: Naming, C: Clock + Drop, U: Uplink + Drop, E: EngineLink + Drop> Parts<J
 pub(crate) struct Answered {
     pub(crate) told: Told,
     pub(crate) entry: Option<u32>,
+}
+
+impl Answered {
+    // Time ran out before what came back was booked.
+    fn late(entry: Option<u32>) -> Answered
+        ensures told { result.told ≡ late }
+        ensures entry { result.entry ≡ entry }
+    {
+        Answered {
+            told: Told::Reject(ToldReject::Own(LocalReject::TransferTimedOut)),
+            entry,
+        }
+    }
+}
+
+// Has the link learn what the reply is that it brought, if it brought one.
+pub(crate) fn note_reply<U: Uplink>(
+    uplink: &mut U,
+    from: u32,
+    came: Result<(), LinkFault>,
+    kind: ReplyKind,
+)
+    ensures { U.told uplink.new ≡ U.told uplink.old }
+{
+    if came.is_ok() {
+        uplink.note_reply(from, kind);
+    }
 }
 
 // How a hold ended, and the number of the entry that says so.
