@@ -19,12 +19,12 @@ use Rattle.ilp_terms.specs.Condition.{meets}
 use Rattle.ilp_book.specs.Book.{PlainBook, By, moment_at, entry_by, with_entry, pushed}
 use Rattle.ilp_book.specs.Open.{earlier, numbered_hold, earliest_from, earliest}
 use Rattle.ilp_book.specs.Lawful.{IsLawful, KeepsRule}
-use Rattle.ilp_book.specs.AnswerStep.{preimage_of, verdict, ending, outcome_of, answer_booked, answer_step, due, expire_booked, expire_step}
+use Rattle.ilp_book.specs.AnswerStep.{preimage_of, judged_reply, ending, outcome_of, answer_booked, answer_step, due, expire_booked, expire_step}
 use Rattle.ilp_book.proofs.LawfulGrowth.{Admits, lawful_push, limits_now}
 use Rattle.ilp_order.proofs.RefusalLemmas.{chosen, is_none_at, is_some_at, some_same, ok_same}
 use Rattle.ilp_book.proofs.InTime.{in_time, calm}
 
--- ---- verdicts
+-- ---- replies that are judged
 
 -- A preimage is good and not late. A cause is Late where it is late, and another where it is not; no reply makes it Restart.
 abbrev Tells : Bool → (List ℕ → Bool) → Result (List ℕ) Cause → Type 0
@@ -32,24 +32,24 @@ Tells late good (Ok preimage) = (good preimage ≡ true) × (late ≡ false)
 Tells true good (Err c) = c ≡ cause.Late
 Tells false good (Err c) = (c ≢ cause.Late) × (c ≢ cause.Restart)
 
--- a verdict in terms of its tests
-verdict_tests : (late : Bool) (reply : PeerReply) (good : List ℕ → Bool) (v : Result (List ℕ) Cause)
+-- a judged reply in terms of its tests
+reply_tests : (late : Bool) (reply : PeerReply) (good : List ℕ → Bool) (v : Result (List ℕ) Cause)
     → (refuse_if late cause.Late >>= λ _. preimage_of reply >>= λ preimage. refuse_if (not (good preimage)) cause.WrongPreimage >>= λ _. Ok preimage) ≡ v
     → Tells late good v
-verdict_tests true reply good v e = subst (Tells true good) e refl
-verdict_tests false (peer_reply.Fulfill preimage) good v e = of_test (good preimage) refl e
+reply_tests true reply good v e = subst (Tells true good) e refl
+reply_tests false (peer_reply.Fulfill preimage) good v e = of_test (good preimage) refl e
   where
     of_test : (b : Bool) → good preimage ≡ b → (refuse_if (not b) cause.WrongPreimage >>= λ _. Ok preimage) ≡ v → Tells false good v
     of_test true g e = subst (Tells false good) e (g, refl)
     of_test false g e = subst (Tells false good) e (λ e. cc, λ e. cc)
-verdict_tests false peer_reply.BadFulfill good v e = subst (Tells false good) e (λ e. cc, λ e. cc)
-verdict_tests false (peer_reply.Reject code) good v e = subst (Tells false good) e (λ e. cc, λ e. cc)
-verdict_tests false peer_reply.NoReply good v e = subst (Tells false good) e (λ e. cc, λ e. cc)
+reply_tests false peer_reply.BadFulfill good v e = subst (Tells false good) e (λ e. cc, λ e. cc)
+reply_tests false (peer_reply.Reject code) good v e = subst (Tells false good) e (λ e. cc, λ e. cc)
+reply_tests false peer_reply.NoReply good v e = subst (Tells false good) e (λ e. cc, λ e. cc)
 
 -- an answer of an open hold keeps its rule
-answer_rule : (C : Configuration) (base : ℕ) (j : Entries) (n : ℕ) (m : ℤ) (h : Hold) (reply : PeerReply) → open_hold_at j n ≡ Some h → KeepsRule C base j m (ending n (verdict h m reply))
-unfolding verdict
-answer_rule C base j n m h reply is = of (verdict h m reply) (verdict_tests (int_le h.deadline m) reply (meets h.condition) (verdict h m reply) refl)
+answer_rule : (C : Configuration) (base : ℕ) (j : Entries) (n : ℕ) (m : ℤ) (h : Hold) (reply : PeerReply) → open_hold_at j n ≡ Some h → KeepsRule C base j m (ending n (judged_reply h m reply))
+unfolding judged_reply
+answer_rule C base j n m h reply is = of (judged_reply h m reply) (reply_tests (int_le h.deadline m) reply (meets h.condition) (judged_reply h m reply) refl)
   where
     late : (a b : ℤ) → int_le a b ≡ true → a ≤ℤ b
     late a b e = omega (arith, ints)
@@ -98,23 +98,23 @@ answer_admitted book caller n (Err c) lawful rule =
 
 -- the entry of an answer keeps the book lawful
 pub answer_keeps : (book : PlainBook) (caller : By) (n : ℕ) (reply : PeerReply) (h : Hold) → IsLawful book → open_hold_at book.entries n ≡ Some h
-    → IsLawful (pushed book (entry_by book caller (ending n (verdict h (moment_at book.entries caller.now) reply))))
+    → IsLawful (pushed book (entry_by book caller (ending n (judged_reply h (moment_at book.entries caller.now) reply))))
 answer_keeps book caller n reply h lawful is =
     let m = moment_at book.entries caller.now in
-    lawful_push book _ lawful (answer_admitted book caller n (verdict h m reply) lawful (answer_rule book.config book.base book.entries n m h reply is))
+    lawful_push book _ lawful (answer_admitted book caller n (judged_reply h m reply) lawful (answer_rule book.config book.base book.entries n m h reply is))
 
--- the entry of an answer keeps the book lawful, where its moment and its verdict are known by equations
+-- the entry of an answer keeps the book lawful, where its moment and how its reply is judged are known by equations
 pub answer_keeps_at : (book : PlainBook) (caller : By) (n : ℕ) (reply : PeerReply) (h : Hold) (m : ℤ) (v : Result (List ℕ) Cause) → IsLawful book → open_hold_at book.entries n ≡ Some h
-    → m ≡ moment_at book.entries caller.now → v ≡ verdict h m reply → IsLawful (pushed book (record { moment = m; actor = caller.actor; what = ending n v }))
+    → m ≡ moment_at book.entries caller.now → v ≡ judged_reply h m reply → IsLawful (pushed book (record { moment = m; actor = caller.actor; what = ending n v }))
 answer_keeps_at book caller n reply h m v lawful is at_moment said =
     let Keeps : ℤ → Result (List ℕ) Cause → Type 0 = λ t r. IsLawful (pushed book (record { moment = t; actor = caller.actor; what = ending n r })) in
-    subst (Keeps m) (sym said) (subst (λ t. Keeps t (verdict h t reply)) (sym at_moment) (answer_keeps book caller n reply h lawful is))
+    subst (Keeps m) (sym said) (subst (λ t. Keeps t (judged_reply h t reply)) (sym at_moment) (answer_keeps book caller n reply h lawful is))
 
 pub answer_lawful : (book : PlainBook) (caller : By) (n : ℕ) (reply : PeerReply) → IsLawful book → IsLawful (with_entry book (answer_step book caller n reply).entry)
 unfolding answer_step
 answer_lawful book caller n reply lawful = of (open_hold_at book.entries n) (λ h. answer_keeps book caller n reply h lawful)
   where
-    of : (o : Option Hold) → ((h : Hold) → o ≡ Some h → IsLawful (pushed book (entry_by book caller (ending n (verdict h (moment_at book.entries caller.now) reply)))))
+    of : (o : Option Hold) → ((h : Hold) → o ≡ Some h → IsLawful (pushed book (entry_by book caller (ending n (judged_reply h (moment_at book.entries caller.now) reply)))))
         → IsLawful (with_entry book (answer_booked book caller n reply o).entry)
     of None keeps = lawful
     of (Some h) keeps = keeps h refl
@@ -205,7 +205,7 @@ outcome_books_one book caller n reply told = of (open_hold_at book.entries n)
         → (e : Entry) × ((answer_booked book caller n reply o).entry ≡ Some e) × (entry_told told ≡ length book.entries)
     of None e = absurd cc
     of (Some h) e =
-        let v = verdict h (moment_at book.entries caller.now) reply in
+        let v = judged_reply h (moment_at book.entries caller.now) reply in
         (entry_by book caller (ending n v), refl, numbered v (ok_same _ _ e))
 
 -- an answer of a hold that is not open books nothing

@@ -7,7 +7,7 @@ use Rattle.ilp_accounts.specs.Configuration.{Configuration}
 use Rattle.ilp_accounts.specs.Valid.{IsValid}
 use Rattle.ilp_journal.specs.declared.entry.Hold.{Hold}
 use Rattle.ilp_journal.specs.declared.entry.What.TheVariants as what
-use Rattle.ilp_journal.specs.Places.{EachAfter}
+use Rattle.ilp_order.specs.Places.{EachAfter}
 use Rattle.ilp_journal.specs.Journal.{Entries, IsBase, last_moment, open_hold_at}
 use Rattle.ilp_journal_text.proofs.OneText as text
 use Rattle.ilp_book.specs.declared.fault.CarryFault.{CarryFault}

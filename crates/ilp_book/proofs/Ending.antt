@@ -15,11 +15,11 @@ use Rattle.ilp_journal.specs.declared.entry.What.TheVariants as what
 use Rattle.ilp_journal.specs.declared.entry.Cause.{Cause}
 use Rattle.ilp_journal.specs.declared.entry.Cause.TheVariants.{Late, Restart}
 use Rattle.ilp_journal.specs.declared.entry.Hold.{Hold}
-use Rattle.ilp_journal.specs.Places.{Each}
+use Rattle.ilp_order.specs.Places.{Each}
 use Rattle.ilp_journal.specs.Journal.{Entries, AnswersOnce, IsBase, hold_at, answer_of, answered, is_number, is_unanswered, open_hold_at, last_moment}
 use Rattle.ilp_journal.proofs.Naming.{hold_at-push}
 use Rattle.ilp_journal.proofs.Growth.{open_hold_at-push}
-use Rattle.ilp_journal.proofs.Sums.{Each-push}
+use Rattle.ilp_order.proofs.Sums.{Each-push}
 use Rattle.ilp_book.specs.Book.{PlainBook, pushed, extended, with_entries}
 use Rattle.ilp_book.specs.Carried.{end_of, ended_by_start, ends_of_open}
 use Rattle.ilp_book.specs.Judging.{behind_all}

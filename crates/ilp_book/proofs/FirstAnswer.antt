@@ -11,7 +11,7 @@ use Rattle.ilp_journal.specs.Journal.{Entries, answered, answer_of, is_number, i
 use Rattle.ilp_journal.proofs.Naming.{answer_of-push, answer_of-append}
 use Rattle.ilp_book.specs.declared.calls.PeerReply.{PeerReply}
 use Rattle.ilp_book.specs.Book.{PlainBook, By, says, moment_at, entry_by, extended, with_entry, pushed}
-use Rattle.ilp_book.specs.AnswerStep.{ending, answer_booked, answer_step, due, expire_booked, expire_step, verdict, IsOverBy}
+use Rattle.ilp_book.specs.AnswerStep.{ending, answer_booked, answer_step, due, expire_booked, expire_step, judged_reply, IsOverBy}
 use Rattle.ilp_order.proofs.RefusalLemmas.{some_same, is_none_at, is_some_at}
 use Rattle.ilp_book.proofs.AnswerSteps.{open_stands, due_facts}
 
@@ -66,7 +66,7 @@ pub first_answer : (book : PlainBook) (caller : By) (n : ℕ) (h : Hold) (reply 
     → IsOverBy (with_entry book (answer_step book caller n reply).entry) n (length book.entries)
 unfolding answer_step
 first_answer book caller n h reply open_hold =
-    let v = verdict h (moment_at book.entries caller.now) reply in
+    let v = judged_reply h (moment_at book.entries caller.now) reply in
     let e : Entry = entry_by book caller (ending n v) in
     subst (λ o. IsOverBy (with_entry book (answer_booked book caller n reply o).entry) n (length book.entries)) (sym open_hold)
     (over (pushed book e) n (length book.entries) (answered_by book.entries n e (open_stands book.entries n h open_hold).0 (names_it n v)))

@@ -13,7 +13,7 @@ use Rattle.ilp_journal.specs.declared.entry.What.TheVariants as what
 use Rattle.ilp_journal.specs.declared.entry.Ask.{Ask}
 use Rattle.ilp_journal.specs.Journal.{Entries, opening, closing, open_count, open_asks}
 use Rattle.ilp_journal.specs.Balance.{balance, rise, fall}
-use Rattle.ilp_journal.proofs.Sums.{Each-parts}
+use Rattle.ilp_order.proofs.Sums.{Each-parts}
 use Rattle.ilp_journal.proofs.Growth.{balance-push, open_count-push}
 use Rattle.ilp_book.specs.Book.{PlainBook, has_room, pushed}
 use Rattle.ilp_book.specs.Configured.{IsKnown}

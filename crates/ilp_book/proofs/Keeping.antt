@@ -12,9 +12,9 @@ use Rattle.ilp_journal.specs.declared.entry.What.{What}
 use Rattle.ilp_journal.specs.declared.entry.What.TheVariants as what
 use Rattle.ilp_journal.specs.Booked.{Booked}
 use Rattle.ilp_journal.specs.declared.entry.Hold.{Hold}
-use Rattle.ilp_journal.specs.Places.{Each}
+use Rattle.ilp_order.specs.Places.{Each}
 use Rattle.ilp_journal.specs.Journal.{Entries, AnswersHold, ClosesAsk, AnswersOnce, ClosesOnce, as_hold, is_unanswered, open_hold_at, open_count, opening, closing, last_moment}
-use Rattle.ilp_journal.proofs.Sums.{Each-parts}
+use Rattle.ilp_order.proofs.Sums.{Each-parts}
 use Rattle.ilp_journal.proofs.Growth.{open_count-push}
 use Rattle.ilp_journal.proofs.Closers.{AnswersHold-once, ClosesAsk-once}
 use Rattle.ilp_holds.specs.Table.{Table}

@@ -8,9 +8,9 @@ use Rattle.ilp_accounts.specs.Configuration.{Configuration}
 use Rattle.ilp_journal.specs.declared.entry.Entry.{Entry}
 use Rattle.ilp_journal.specs.declared.entry.What.{What}
 use Rattle.ilp_journal.specs.declared.entry.Credited.{Credited}
-use Rattle.ilp_journal.specs.Places.{first_from, Each}
+use Rattle.ilp_order.specs.Places.{first_from, Each}
 use Rattle.ilp_journal.specs.Journal.{Entries}
-use Rattle.ilp_journal.proofs.Sums.{by_push, Each-parts}
+use Rattle.ilp_order.proofs.Sums.{by_push, Each-parts}
 use Rattle.ilp_journal.proofs.Naming.{stands_at-push}
 use Rattle.ilp_book.specs.Book.{PlainBook}
 use Rattle.ilp_book.specs.Open.{as_credit, credit_at, has_key, kept_at}

@@ -7,14 +7,14 @@ use Rattle.ilp_assets.specs.Quote.{most}
 use Rattle.ilp_accounts.specs.Configuration.{peer_at}
 use Rattle.ilp_accounts.specs.Valid.{IsValid}
 use Rattle.ilp_journal.specs.declared.entry.Entry.{Entry}
-use Rattle.ilp_journal.specs.Places.{Each}
+use Rattle.ilp_order.specs.Places.{Each}
 use Rattle.ilp_journal.specs.declared.entry.What.{What}
 use Rattle.ilp_journal.specs.declared.entry.What.TheVariants as what
 use Rattle.ilp_journal.specs.declared.entry.Cause.TheVariants.{Restart}
 use Rattle.ilp_journal.specs.Journal.{Entries, of_hold, open_count, open_asks, opening, closing, last_moment}
 use Rattle.ilp_journal.specs.Balance.{balance, rise, fall}
 use Rattle.ilp_journal.specs.TrialBalance.{total_in, total_out, amount_in, amount_out}
-use Rattle.ilp_journal.proofs.Sums.{by_push, Each-push, Each-parts, Each-each}
+use Rattle.ilp_order.proofs.Sums.{by_push, Each-push, Each-parts, Each-each}
 use Rattle.ilp_journal.proofs.Growth.{balance-push, open_count-push}
 use Rattle.ilp_journal.proofs.BooksGrowth.{total_in-push, total_out-push, total_in-raised, total_out-raised}
 use Rattle.ilp_book.specs.Configured.{IsKnown, peer_assets}

@@ -5,8 +5,8 @@ use Rattle.std.proofs.lemmas.Bool.{ltb-true}
 use Rattle.ilp_journal.specs.declared.entry.Entry.{Entry}
 use Rattle.ilp_journal.specs.declared.entry.What.{What}
 use Rattle.ilp_journal.specs.declared.entry.Ask.{Ask}
-use Rattle.ilp_journal.specs.Places.{sum_from, first_from}
-use Rattle.ilp_journal.specs.Journal.{Entries, ask_at, as_ask, is_unclosed, open_asks, paid_to, is_ask_of, first_open_ask}
+use Rattle.ilp_order.specs.Places.{sum_from, first_from}
+use Rattle.ilp_journal.specs.Journal.{Entries, ask_at, as_ask, is_unclosed, open_asks, paid_to, is_ask_of, is_behind, next_open_number, next_open_ask}
 use Rattle.ilp_book.specs.declared.fault.AskFault.{AskFault}
 use Rattle.ilp_book.specs.declared.fault.AskFault.TheVariants as ask_fault
 use Rattle.ilp_book.specs.Lawful.{most_open_asks}
@@ -34,56 +34,58 @@ sum_from-none test f n (x ∷ xs) none e =
     parts true t e = absurd cc
     parts false t e = (t, e)
 
--- where no open settlement of a peer is found it has none open
-none_open : (j : Entries) (peer : ℕ) → first_open_ask j peer ≡ None → open_asks j peer ≡ 0
-unfolding open_asks
-none_open j peer e =
-    sum_from-none is_its _ 0 j (λ k d failed. uncounted (as_ask d.what) (is_unclosed j k) failed) (of (first_from is_its 0 j) refl e)
+-- the settlement that comes next is there
+pub next_stands : (j : Entries) (peer : ℕ) (after : Option ℕ) (n : ℕ) → next_open_number j peer after ≡ Some n → IsSome (ask_at j n)
+next_stands j peer after n is =
+    let f = first_found (λ k (d : Entry). (is_ask_of peer d.what && is_unclosed j k) && is_behind after k) 0 n j is in
+    let place : f.0 ≡ n = omega (arith, f.2) in
+    subst (λ k. IsSome (ask_at j k)) place (rw f.3 (is_ask f.1.what (is_unclosed j n) (is_behind after n) f.4))
   where
-    is_its : ℕ → Entry → Bool
-    is_its n d = is_ask_of peer d.what && is_unclosed j n
-
-    uncounted : (o : Option Ask) (b : Bool) → (unwrap_or (option_map (λ (a : Ask). a.peer == peer) o) false && b) ≡ false → cond b (unwrap_or (option_map (paid_to peer) o) 0) 0 ≡ 0
-    uncounted None true failed = refl
-    uncounted None false failed = refl
-    uncounted (Some a) false failed = refl
-    uncounted (Some a) true failed = of_peer (a.peer == peer) failed
+    is_ask : (w : What) (b c : Bool) → ((is_ask_of peer w && b) && c) ≡ true → IsSome (as_ask w)
+    is_ask w b c t = at (as_ask w) t
       where
-        of_peer : (b : Bool) → (b && true) ≡ false → ◌≡◌ {A = ℕ} (cond b 1 0) 0
-        of_peer true failed = cc
-        of_peer false failed = refl
-
-    is_ask : (w : What) (b : Bool) → (is_ask_of peer w && b) ≡ true → IsSome (as_ask w)
-    is_ask w b t = at (as_ask w) t
-      where
-        at : (o : Option Ask) → (unwrap_or (option_map (λ (a : Ask). a.peer == peer) o) false && b) ≡ true → IsSome o
+        at : (o : Option Ask) → ((unwrap_or (option_map (λ (a : Ask). a.peer == peer) o) false && b) && c) ≡ true → IsSome o
         at None t = cc
         at (Some a) t = refl
 
-    stands : (n : ℕ) → first_from is_its 0 j ≡ Some n → IsSome (ask_at j n)
-    stands n is =
-        let f = first_found is_its 0 n j is in
-        let place : f.0 ≡ n = omega (arith, f.2) in
-        subst (λ k. IsSome (ask_at j k)) place (rw f.3 (is_ask f.1.what (is_unclosed j n) f.4))
-
-    of : (o : Option ℕ) → first_from is_its 0 j ≡ o → option_and_then {U = ℕ × Ask} (λ n. option_map (λ (a : Ask). (n, a)) (ask_at j n)) o ≡ None → first_from is_its 0 j ≡ None
+-- where no number is found behind another, no settlement is
+pub none_next : (j : Entries) (peer : ℕ) (after : Option ℕ) → next_open_ask j peer after ≡ None → next_open_number j peer after ≡ None
+none_next j peer after e = of (next_open_number j peer after) refl e
+  where
+    of : (o : Option ℕ) → next_open_number j peer after ≡ o → option_and_then {U = ℕ × Ask} (λ n. option_map (λ (a : Ask). (n, a)) (ask_at j n)) o ≡ None → next_open_number j peer after ≡ None
     of None is e = is
-    of (Some n) is e = absurd (none (ask_at j n) (stands n is) e)
+    of (Some n) is e = absurd (none (ask_at j n) (next_stands j peer after n is) e)
       where
         none : (o : Option Ask) → IsSome o → option_map {U = ℕ × Ask} (λ (a : Ask). (n, a)) o ≡ None → ⊥
         none None s e = cc
         none (Some c) s e = cc
 
+-- where no open settlement of a peer is found it has none open
+none_open : (j : Entries) (peer : ℕ) → next_open_ask j peer None ≡ None → open_asks j peer ≡ 0
+unfolding open_asks
+none_open j peer e =
+    sum_from-none (λ k (d : Entry). (is_ask_of peer d.what && is_unclosed j k) && is_behind None k) _ 0 j (λ k d failed. uncounted (as_ask d.what) (is_unclosed j k) failed) (none_next j peer None e)
+  where
+    uncounted : (o : Option Ask) (b : Bool) → ((unwrap_or (option_map (λ (a : Ask). a.peer == peer) o) false && b) && true) ≡ false → cond b (unwrap_or (option_map (paid_to peer) o) 0) 0 ≡ 0
+    uncounted None true failed = refl
+    uncounted None false failed = refl
+    uncounted (Some a) false failed = refl
+    uncounted (Some a) true failed = of_peer (a.peer == peer) failed
+      where
+        of_peer : (b : Bool) → ((b && true) && true) ≡ false → ◌≡◌ {A = ℕ} (cond b 1 0) 0
+        of_peer true failed = cc
+        of_peer false failed = refl
+
 -- where none is told to be open fewer are open than may be
 pub few_open : (j : Entries) (peer : ℕ) → still_open j peer ≡ None → open_asks j peer < most_open_asks
 few_open j peer e = of_test (nat_lt (open_asks j peer) most_open_asks) refl e
   where
-    of_test : (b : Bool) → nat_lt (open_asks j peer) most_open_asks ≡ b → cond b None (option_map (λ (x : ℕ × Ask). ask_fault.StillOpen x.0 x.1.amount) (first_open_ask j peer)) ≡ None
+    of_test : (b : Bool) → nat_lt (open_asks j peer) most_open_asks ≡ b → cond b None (option_map (λ (x : ℕ × Ask). ask_fault.StillOpen x.0 x.1.amount) (next_open_ask j peer None)) ≡ None
         → open_asks j peer < most_open_asks
     of_test true t e = ltb-true _ _ t
-    of_test false t e = of (first_open_ask j peer) refl e
+    of_test false t e = of (next_open_ask j peer None) refl e
       where
-        of : (o : Option (ℕ × Ask)) → first_open_ask j peer ≡ o → option_map (λ (x : ℕ × Ask). ask_fault.StillOpen x.0 x.1.amount) o ≡ None → open_asks j peer < most_open_asks
+        of : (o : Option (ℕ × Ask)) → next_open_ask j peer None ≡ o → option_map (λ (x : ℕ × Ask). ask_fault.StillOpen x.0 x.1.amount) o ≡ None → open_asks j peer < most_open_asks
         of None is e = omega (arith, none_open j peer is)
         of (Some x) is e = cc
 
@@ -93,8 +95,8 @@ told_open o = option_map (λ (x : ℕ × Ask). ask_fault.StillOpen x.0 x.1.amoun
 
 -- where fewer are open than may be, none is told
 pub none_told : (j : Entries) (peer : ℕ) → nat_lt (open_asks j peer) most_open_asks ≡ true → still_open j peer ≡ None
-none_told j peer few = ap (λ b. cond b None (told_open (first_open_ask j peer))) few
+none_told j peer few = ap (λ b. cond b None (told_open (next_open_ask j peer None))) few
 
 -- else the first that is open is told
-pub first_told : (j : Entries) (peer : ℕ) → nat_lt (open_asks j peer) most_open_asks ≡ false → still_open j peer ≡ told_open (first_open_ask j peer)
-first_told j peer full = ap (λ b. cond b None (told_open (first_open_ask j peer))) full
+pub first_told : (j : Entries) (peer : ℕ) → nat_lt (open_asks j peer) most_open_asks ≡ false → still_open j peer ≡ told_open (next_open_ask j peer None)
+first_told j peer full = ap (λ b. cond b None (told_open (next_open_ask j peer None))) full

@@ -7,7 +7,7 @@ use Rattle.ilp_tallies.specs.Tallies.{PlainTallies, AreTallies, MovesBase}
 use Rattle.ilp_journal.specs.Booked.{Booked}
 use Rattle.ilp_journal.specs.declared.entry.What.{What}
 use Rattle.ilp_journal.specs.declared.entry.What.TheVariants as what
-use Rattle.ilp_journal.specs.Places.{EachAfter}
+use Rattle.ilp_order.specs.Places.{EachAfter}
 use Rattle.ilp_journal.specs.Journal.{Entries}
 use Rattle.ilp_tallies.proofs.Rebasing.{total_in-none, total_out-none}
 use Rattle.ilp_book.specs.Book.{PlainBook, with_entries, with_base, pushed}

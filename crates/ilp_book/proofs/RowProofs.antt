@@ -6,12 +6,12 @@ use Rattle.ilp_journal.specs.TrialBalance.{total_in, total_out}
 use Rattle.ilp_terms.specs.Condition.{meets}
 use Rattle.ilp_journal.specs.Journal.{open_holds, open_asks}
 use Rattle.ilp_book.specs.HoldStep.{hold_terms, hold_fitted, hold_checked, hold_step}
-use Rattle.ilp_book.specs.AnswerStep.{verdict, answer_step, expire_step}
+use Rattle.ilp_book.specs.AnswerStep.{judged_reply, answer_step, expire_step}
 use Rattle.ilp_book.specs.SettleStep.{credit_checked, credit_step, ask_checked, ask_step, close_step}
 use Rattle.ilp_book.specs.Rows.{PaidRow, LateRow, ReleasedRow, ExpiredRow, LeastRow, TermsRow, TotalRow, FullRow, OlderRow, CreditedRow, SettledRow, PartsRow, CarriedRow}
 
 pub paid_row : (c : List ℕ) → meets c (replicate 32 0) ≡ true → PaidRow c
-unfolding quote balance total_in total_out open_holds hold_terms hold_fitted hold_checked hold_step verdict answer_step
+unfolding quote balance total_in total_out open_holds hold_terms hold_fitted hold_checked hold_step judged_reply answer_step
 paid_row c met = record {
   replies = rw met refl;
   alice_has = rw met refl;
@@ -22,11 +22,11 @@ paid_row c met = record {
 }
 
 pub late_row : (c : List ℕ) → meets c (replicate 32 0) ≡ true → LateRow c
-unfolding quote balance total_in total_out hold_terms hold_fitted hold_checked hold_step verdict answer_step
+unfolding quote balance total_in total_out hold_terms hold_fitted hold_checked hold_step judged_reply answer_step
 late_row c met = record { before = rw met refl; from_then_on = refl }
 
 pub released_row : (c : List ℕ) → ReleasedRow c
-unfolding quote balance total_in total_out hold_terms hold_fitted hold_checked hold_step verdict answer_step
+unfolding quote balance total_in total_out hold_terms hold_fitted hold_checked hold_step judged_reply answer_step
 released_row c = record {
   wrong = λ unmet. rw unmet refl;
   known_wrong = refl;

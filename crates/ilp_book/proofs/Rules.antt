@@ -7,9 +7,9 @@ use Rattle.ilp_journal.specs.declared.entry.What.{What}
 use Rattle.ilp_journal.specs.declared.entry.What.TheVariants as what
 use Rattle.ilp_journal.specs.declared.entry.Hold.{Hold}
 use Rattle.ilp_journal.specs.declared.entry.Credited.{Credited}
-use Rattle.ilp_journal.specs.Places.{Each}
+use Rattle.ilp_order.specs.Places.{Each}
 use Rattle.ilp_journal.specs.Journal.{Entries, AnswersOnce, ClosesOnce, answered, closed, hold_at, ask_at, answer_of, closing_of, is_unanswered, is_unclosed, open_hold_at, open_ask_at}
-use Rattle.ilp_journal.proofs.Sums.{Each-each}
+use Rattle.ilp_order.proofs.Sums.{Each-each}
 use Rattle.ilp_order.proofs.RefusalLemmas.{is_none_at, some_same}
 use Rattle.ilp_book.specs.Book.{PlainBook}
 use Rattle.ilp_book.specs.Lawful.{IsLawful, KeepsRule, KeepsRuleOf, IsFreshCredit}

@@ -28,7 +28,9 @@ use Rattle.ilp_book.specs.Configured.{IsKnown}
 use Rattle.ilp_book.specs.Book.{PlainBook, By, Does, Growth, granted, denied, entry_by, has_room, moment_at, pushed, with_entry}
 use Rattle.ilp_book.specs.Open.{as_credit, credit_at, has_key, kept_at}
 use Rattle.ilp_book.specs.Lawful.{IsLawful, IsWithinLimits, IsInTime, IsFreshCredit, IsDueAsk, owed_above}
-use Rattle.ilp_book.specs.SettleStep.{Payment, EngineVerdict, accepted, rejected, closing_of_verdict, amount_of, credit_of, kept, credit_fresh, credit_checked, credit_booked, credit_step, still_open, due_amount, ask_fitted, ask_checked, ask_booked, ask_step, close_booked, close_step}
+use Rattle.ilp_settlement.specs.declared.verdict.EngineVerdict.{EngineVerdict}
+use Rattle.ilp_settlement.specs.declared.verdict.EngineVerdict.TheVariants as engine
+use Rattle.ilp_book.specs.SettleStep.{Payment, closing_of_verdict, amount_of, credit_of, kept, credit_fresh, credit_checked, credit_booked, credit_step, still_open, due_amount, ask_fitted, ask_checked, ask_booked, ask_step, close_booked, close_step}
 use Rattle.ilp_book.proofs.Known.{peer_valid, covered}
 use Rattle.ilp_book.proofs.LawfulGrowth.{Admits, at_most, lawful_push, limits_now}
 use Rattle.ilp_order.proofs.RefusalLemmas.{refused_not, none_refused, found, ok_same, some_same, not_true, chosen, is_some_at}
@@ -46,9 +48,9 @@ close_keeps book caller n verdict a lawful is = of verdict
     stands = is_some_at (open_ask_at book.entries n) a is
 
     of : (v : EngineVerdict) → IsLawful (pushed book (entry_by book caller (closing_of_verdict n v)))
-    of accepted = let r = (limits_now book lawful).room in lawful_push book _ lawful (calm book (entry_by book caller (what.Confirmed n)) lawful stands
+    of engine.Accepted = let r = (limits_now book lawful).room in lawful_push book _ lawful (calm book (entry_by book caller (what.Confirmed n)) lawful stands
         (in_time book caller (what.Confirmed n) lawful) (λ _. refl) (λ _. refl) (omega (arith, r)))
-    of rejected = let r = (limits_now book lawful).room in lawful_push book _ lawful (calm book (entry_by book caller (what.Undone n)) lawful stands
+    of engine.Refused = let r = (limits_now book lawful).room in lawful_push book _ lawful (calm book (entry_by book caller (what.Undone n)) lawful stands
         (in_time book caller (what.Undone n) lawful) (λ _. refl) (λ _. refl) (omega (arith, r)))
 
 -- the same, where its moment and what it says are known by equations

@@ -13,11 +13,13 @@ use Rattle.ilp_journal.specs.declared.entry.Ask.{Ask}
 use Rattle.ilp_journal.specs.declared.entry.Credited.{Credited}
 use Rattle.ilp_journal.specs.Journal.{Entries, ask_at, closed, closing_of, is_number, is_unclosed, open_ask_at}
 use Rattle.ilp_journal.proofs.Naming.{closing_of-push}
-use Rattle.ilp_journal.proofs.Sums.{first_from-append, slice_get-append, slice_get-push}
+use Rattle.ilp_order.proofs.Sums.{first_from-append, slice_get-append, slice_get-push}
 use Rattle.ilp_book.specs.declared.fault.CreditFault.TheVariants as credit_fault
 use Rattle.ilp_book.specs.Book.{PlainBook, By, says, entry_by, extended, with_entry, pushed}
 use Rattle.ilp_book.specs.Open.{as_credit, credit_at, has_key, kept_at}
-use Rattle.ilp_book.specs.SettleStep.{payment, EngineVerdict, accepted, rejected, closing_of_verdict, amount_of, kept, credit_kept, credit_booked, credit_fresh, credit_checked, credit_step, close_booked, close_step, IsClosedBy, IsKeptBy}
+use Rattle.ilp_settlement.specs.declared.verdict.EngineVerdict.{EngineVerdict}
+use Rattle.ilp_settlement.specs.declared.verdict.EngineVerdict.TheVariants as engine
+use Rattle.ilp_book.specs.SettleStep.{payment, closing_of_verdict, amount_of, kept, credit_kept, credit_booked, credit_fresh, credit_checked, credit_step, close_booked, close_step, IsClosedBy, IsKeptBy}
 
 -- what is found first stays the first
 stays_first : {X : Type 0} (o p : Option X) (k : X) → o ≡ Some k → option_or o p ≡ Some k
@@ -30,8 +32,8 @@ closing_stays : (j more : Entries) (n k : ℕ) → closing_of j n ≡ Some k →
 closing_stays j more n k e = first_from-append (λ _ (d : Entry). is_number n (closed d.what)) 0 j more ∙ stays_first (closing_of j n) _ k e
 
 closes_it : (n : ℕ) (v : EngineVerdict) → is_number n (closed (closing_of_verdict n v)) ≡ true
-closes_it n accepted = eq-eqb n n refl
-closes_it n rejected = eq-eqb n n refl
+closes_it n engine.Accepted = eq-eqb n n refl
+closes_it n engine.Refused = eq-eqb n n refl
 
 -- an entry that names a settlement without a closing is its closing
 closed_by_last : (j : Entries) (n : ℕ) (e : Entry) → is_unclosed j n ≡ true → is_number n (closed e.what) ≡ true → closing_of (j ++ e ∷ []) n ≡ Some (length j)

@@ -16,9 +16,9 @@ use Rattle.ilp_journal.specs.declared.entry.What.{What}
 use Rattle.ilp_journal.specs.declared.entry.What.TheVariants as what
 use Rattle.ilp_journal.specs.declared.entry.Hold.{Hold}
 use Rattle.ilp_journal.specs.declared.entry.Credited.{Credited}
-use Rattle.ilp_journal.specs.Places.{Each}
+use Rattle.ilp_order.specs.Places.{Each}
 use Rattle.ilp_journal.specs.Journal.{Entries, AnswersOnce, as_hold, answered, is_number, hold_at, open_hold_at}
-use Rattle.ilp_journal.proofs.Sums.{first_from-append}
+use Rattle.ilp_order.proofs.Sums.{first_from-append}
 use Rattle.ilp_journal.proofs.Growth.{open_hold_at-push}
 use Rattle.ilp_holds.specs.Due.{IsNoLater}
 use Rattle.ilp_holds.specs.Table.{Table}

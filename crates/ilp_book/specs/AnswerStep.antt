@@ -24,14 +24,14 @@ preimage_of (peer_reply.Reject code) = Err (cause.Peer code)
 preimage_of peer_reply.NoReply = Err cause.NoReply
 
 -- the preimage that fulfills the hold at the moment m, or the cause of its release: lateness is seen first
-unfoldable pub verdict : Hold → ℤ → PeerReply → Result (List ℕ) Cause
-verdict h m reply = do
+unfoldable pub judged_reply : Hold → ℤ → PeerReply → Result (List ℕ) Cause
+judged_reply h m reply = do
   _ ← refuse_if (int_le h.deadline m) cause.Late
   preimage ← preimage_of reply
   _ ← refuse_if (not (meets h.condition preimage)) cause.WrongPreimage
   Ok preimage
 
--- what is booked of a verdict on the hold n
+-- what is booked of a reply for the hold n that is judged
 abbrev pub ending : ℕ → Result (List ℕ) Cause → What
 ending n (Ok preimage) = what.Fulfilled n preimage
 ending n (Err c) = what.Released n c
@@ -45,8 +45,8 @@ outcome_of number (Err c) = outcome.Released number c
 abbrev pub answer_booked : PlainBook → By → ℕ → PeerReply → Option Hold → Made (Result Outcome NotOpen)
 answer_booked book caller n reply None = says (Err (record { closer = answer_of book.entries n }))
 answer_booked book caller n reply (Some h) =
-    let v = verdict h (moment_at book.entries caller.now) reply in
-    books book caller (Ok (outcome_of (length book.entries) v)) (ending n v)
+    let judged = judged_reply h (moment_at book.entries caller.now) reply in
+    books book caller (Ok (outcome_of (length book.entries) judged)) (ending n judged)
 
 -- what came back for the hold n
 unfoldable pub answer_step : PlainBook → By → ℕ → PeerReply → Made (Result Outcome NotOpen)

@@ -14,7 +14,7 @@ use Rattle.ilp_journal.specs.declared.entry.Cause.TheVariants.{Late, Restart}
 use Rattle.ilp_journal.specs.declared.entry.Hold.{Hold}
 use Rattle.ilp_journal.specs.declared.entry.Ask.{Ask}
 use Rattle.ilp_journal.specs.declared.entry.Credited.{Credited}
-use Rattle.ilp_journal.specs.Places.{Each}
+use Rattle.ilp_order.specs.Places.{Each}
 use Rattle.ilp_journal.specs.Keys.{IsKey}
 use Rattle.ilp_journal.specs.Journal.{Entries, open_hold_at, open_ask_at, last_moment, open_count, open_asks}
 use Rattle.ilp_journal.specs.Balance.{balance}

@@ -6,7 +6,7 @@ use Rattle.ilp_journal.specs.declared.entry.What.{What}
 use Rattle.ilp_journal.specs.declared.entry.What.TheVariants as what
 use Rattle.ilp_journal.specs.declared.entry.Hold.{Hold}
 use Rattle.ilp_journal.specs.declared.entry.Credited.{Credited}
-use Rattle.ilp_journal.specs.Places.{first_from}
+use Rattle.ilp_order.specs.Places.{first_from}
 use Rattle.ilp_journal.specs.Journal.{Entries, as_hold, is_unanswered, open_hold_at}
 
 -- ---- the open hold whose deadline comes first, and of several the first

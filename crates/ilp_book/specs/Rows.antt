@@ -20,7 +20,7 @@ use Rattle.ilp_terms.specs.Condition.{meets}
 use Rattle.ilp_book.specs.Book.{by, granted, new_book}
 use Rattle.ilp_book.specs.Carried.{begun_with, carried}
 use Rattle.ilp_settlement.specs.declared.quantity.Quantity.{Quantity}
-use Rattle.ilp_book.specs.SettleStep.{accepted, rejected}
+use Rattle.ilp_settlement.specs.declared.verdict.EngineVerdict.TheVariants.{Accepted, Refused}
 use Rattle.ilp_book.specs.Run.{Call, hold, answer, expire, credit, ask, close, CallReply, of_hold, of_answer, of_expire, of_credit, of_ask, of_close, Step, replies_to, book_after}
 
 -- ---- the peers and the calls
@@ -180,7 +180,7 @@ CreditedRow =
 -- what bob is owed above 200 cents is asked for, from 1000 cents on
 abbrev pub SettledRow : Type 0
 SettledRow =
-    answers_of (between alice bob) (at_ 0 (settles 1 (cents 1000)) ∷ at_ 0 (ask 1) ∷ at_ 0 (ask 1) ∷ at_ 0 (close 1 rejected) ∷ at_ 0 (close 1 accepted) ∷ at_ 0 (ask 0) ∷ [])
+    answers_of (between alice bob) (at_ 0 (settles 1 (cents 1000)) ∷ at_ 0 (ask 1) ∷ at_ 0 (ask 1) ∷ at_ 0 (close 1 Refused) ∷ at_ 0 (close 1 Accepted) ∷ at_ 0 (ask 0) ∷ [])
     ≡ of_credit (Ok (record { number = 0; amount = 1000; fresh = true })) ∷ of_ask (Ok (record { number = 1; amount = 800 })) ∷ of_ask (Err (ask_fault.NotDue (pos 200)))
     ∷ of_close (Ok 2) ∷ of_close (Err (record { closer = Some 2 })) ∷ of_ask (Err (ask_fault.NotDue (pos 0))) ∷ []
 
@@ -192,7 +192,7 @@ asked_as n = of_ask (Ok (record { number = n; amount = 300 }))
 abbrev pub PartsRow : Type 0
 PartsRow =
     answers_of (between alice bob_in_parts) (at_ 0 (settles 1 (cents 2000)) ∷ at_ 0 (ask 1) ∷ at_ 0 (ask 1) ∷ at_ 0 (ask 1) ∷ at_ 0 (ask 1) ∷ at_ 0 (ask 1)
-    ∷ at_ 0 (close 2 accepted) ∷ at_ 0 (ask 1) ∷ at_ 0 (close 3 rejected) ∷ at_ 0 (ask 1) ∷ [])
+    ∷ at_ 0 (close 2 Accepted) ∷ at_ 0 (ask 1) ∷ at_ 0 (close 3 Refused) ∷ at_ 0 (ask 1) ∷ [])
     ≡ of_credit (Ok (record { number = 0; amount = 2000; fresh = true })) ∷ asked_as 1 ∷ asked_as 2 ∷ asked_as 3 ∷ asked_as 4 ∷ of_ask (Err (ask_fault.StillOpen 1 300))
     ∷ of_close (Ok 5) ∷ of_ask (Err (ask_fault.NotDue (pos 800))) ∷ of_close (Ok 6) ∷ asked_as 7 ∷ []
 

@@ -3,6 +3,7 @@ use Rattle.std.specs.Prelude.{ℕ, List, [], ◌∷◌, Option, Result, ⊤}
 use Rattle.ilp_lookup.specs.Route.{IsRoute}
 use Rattle.ilp_accounts.specs.Configuration.{Configuration}
 use Rattle.ilp_journal.specs.Keys.{IsKey}
+use Rattle.ilp_settlement.specs.declared.verdict.EngineVerdict.{EngineVerdict}
 use Rattle.ilp_book.specs.declared.calls.Held.{Held}
 use Rattle.ilp_book.specs.declared.fault.HoldFault.{HoldFault}
 use Rattle.ilp_book.specs.declared.calls.PeerReply.{PeerReply}
@@ -16,7 +17,7 @@ use Rattle.ilp_book.specs.Configured.{IsKnown}
 use Rattle.ilp_book.specs.Book.{PlainBook, By, Growth, Made, replied_as, with_entry}
 use Rattle.ilp_book.specs.HoldStep.{Incoming, hold_step}
 use Rattle.ilp_book.specs.AnswerStep.{answer_step, expire_step}
-use Rattle.ilp_book.specs.SettleStep.{Payment, EngineVerdict, credit_step, ask_step, close_step}
+use Rattle.ilp_book.specs.SettleStep.{Payment, credit_step, ask_step, close_step}
 
 pub data Call : Type 0 where
   hold : Incoming → Call

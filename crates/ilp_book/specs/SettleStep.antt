@@ -1,8 +1,11 @@
 -- Settlements from peers, which are credited, and to peers, which are asked for and closed. Refusals stand in their order.
-use Rattle.std.specs.Prelude.{◌≡◌, ℕ, ◌≤◌, ℤ, int_le, nat_abs, Bool, true, false, not, ◌&&◌, ◌==◌, List, length, nat_lt, Option, Some, None, Result, Ok, Err, option_and_then, option_map, if◌then◌else◌}
+use Rattle.std.specs.Prelude.{◌≡◌, ℕ, ◌≤◌, ℤ, int_le, nat_abs, true, false, not, ◌&&◌, ◌==◌, List, length, nat_lt, Option, Some, None, Result, Ok, Err, option_and_then, option_map, if◌then◌else◌}
+use Rattle.std.specs.Option.{option_or}
 use Rattle.ilp_order.specs.Refusals.{◌>>=◌, refuse_if, refuse_some, found_or}
 use Rattle.ilp_assets.specs.Quote.{most}
 use Rattle.ilp_settlement.specs.declared.quantity.Quantity.{Quantity}
+use Rattle.ilp_settlement.specs.declared.verdict.EngineVerdict.{EngineVerdict}
+use Rattle.ilp_settlement.specs.declared.verdict.EngineVerdict.TheVariants as engine
 use Rattle.ilp_settlement.specs.Quantity.{credited_at}
 use Rattle.ilp_accounts.specs.declared.peer.Levels.{Levels}
 use Rattle.ilp_accounts.specs.Configuration.{Configuration, peer_at}
@@ -10,7 +13,7 @@ use Rattle.ilp_journal.specs.declared.entry.What.{What}
 use Rattle.ilp_journal.specs.declared.entry.What.TheVariants as what
 use Rattle.ilp_journal.specs.declared.entry.Ask.{Ask}
 use Rattle.ilp_journal.specs.declared.entry.Credited.{Credited}
-use Rattle.ilp_journal.specs.Journal.{Entries, closing_of, open_ask_at, open_asks, first_open_ask, next_open_ask}
+use Rattle.ilp_journal.specs.Journal.{Entries, closing_of, open_ask_at, open_asks, next_open_ask}
 use Rattle.ilp_journal.specs.Balance.{balance}
 use Rattle.ilp_book.specs.declared.calls.Kept.{Kept}
 use Rattle.ilp_book.specs.declared.fault.CreditFault.{CreditFault}
@@ -92,7 +95,7 @@ credit_step book caller p growth = credit_booked book caller growth (credit_chec
 abbrev pub still_open : Entries → ℕ → Option AskFault
 still_open j peer =
     if nat_lt (open_asks j peer) most_open_asks then None
-    else option_map (λ (x : ℕ × Ask). ask_fault.StillOpen x.0 x.1.amount) (first_open_ask j peer)
+    else option_map (λ (x : ℕ × Ask). ask_fault.StillOpen x.0 x.1.amount) (next_open_ask j peer None)
 
 -- what is asked for, where the balance is at the threshold or above it
 abbrev pub due_amount : ℤ → Option Levels → Option ℕ
@@ -129,26 +132,20 @@ ask_booked book caller granted (Ok a) =
 unfoldable pub ask_step : PlainBook → By → ℕ → Growth → Made (Result Asked AskFault)
 ask_step book caller peer growth = ask_booked book caller growth (ask_checked book peer)
 
--- the open settlement to a peer that has the least number behind another, or of all, and its amount
-abbrev pub open_settlement : Entries → ℕ → Option ℕ → Option (ℕ × ℕ)
-open_settlement j peer after = option_map (λ (x : ℕ × Ask). (x.0, x.1.amount)) (next_open_ask j peer after)
+-- an open settlement, as it is told
+abbrev pub told_ask : ℕ × Ask → Asked
+told_ask (n, a) = record { number = n; amount = a.amount }
+
+-- the open settlement to a peer that comes next: the one of least number behind that which was tried last, else the first of all
+abbrev pub open_settlement : Entries → ℕ → Option ℕ → Option Asked
+open_settlement j peer tried = option_map told_ask (option_or (next_open_ask j peer tried) (next_open_ask j peer None))
 
 -- ---- closings
 
--- what an engine says of a settlement: that it accepted it, or that it refused it
-pub data EngineVerdict : Type 0 where
-  accepted : EngineVerdict
-  rejected : EngineVerdict
-
--- the verdict by which an engine accepted a settlement, or did not
-abbrev pub verdict_of : Bool → EngineVerdict
-verdict_of true = accepted
-verdict_of false = rejected
-
 -- what is booked of an engine's verdict on the settlement n
 abbrev pub closing_of_verdict : ℕ → EngineVerdict → What
-closing_of_verdict n accepted = what.Confirmed n
-closing_of_verdict n rejected = what.Undone n
+closing_of_verdict n engine.Accepted = what.Confirmed n
+closing_of_verdict n engine.Refused = what.Undone n
 
 -- what a verdict on the settlement n makes, if that is open
 abbrev pub close_booked : PlainBook → By → ℕ → EngineVerdict → Option Ask → Made (Result ℕ NotOpen)

@@ -1,7 +1,7 @@
 //! Which holds are open, and how one ends.
 ghost use Rattle.std.specs.Prelude.{◌≡◌};
 ghost use Rattle.ilp_journal.specs.Journal.{open_hold_at};
-ghost use Rattle.ilp_book.specs.AnswerStep.{verdict};
+ghost use Rattle.ilp_book.specs.AnswerStep.{judged_reply};
 
 use crate::calls::PeerReply;
 use ilp_journal::{Cause, Hold, Journal};
@@ -20,9 +20,9 @@ pub(crate) fn open_hold_at<A: Allocator>(journal: &Journal<A>, number: u32) -> O
 }
 
 /// The preimage that fulfills a hold, or the cause of its release. Lateness is seen first.
-#[tactic(auto, unfolding(crate::specs::AnswerStep::verdict))]
-pub(crate) fn verdict(hold: &Hold, moment: i64, reply: PeerReply) -> Result<[u8; 32], Cause>
-    ensures { result ≡ verdict hold.now moment reply }
+#[tactic(auto, unfolding(crate::specs::AnswerStep::judged_reply))]
+pub(crate) fn judge_reply(hold: &Hold, moment: i64, reply: PeerReply) -> Result<[u8; 32], Cause>
+    ensures { result ≡ judged_reply hold.now moment reply }
 {
     if hold.deadline <= moment {
         return Err(Cause::Late);

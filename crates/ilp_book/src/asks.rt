@@ -4,13 +4,15 @@ ghost use Rattle.ilp_accounts.specs.declared.peer.Levels.{Levels};
 ghost use Rattle.ilp_journal.specs.Booked.{most_sum};
 ghost use Rattle.ilp_journal.specs.Journal.{open_ask_at, open_asks};
 ghost use Rattle.ilp_book.specs.Lawful.{most_open_asks, owed_above};
-ghost use Rattle.ilp_book.specs.SettleStep.{still_open, open_settlement, due_amount, closing_of_verdict, verdict_of};
+ghost use Rattle.ilp_book.specs.SettleStep.{still_open, open_settlement, due_amount, closing_of_verdict};
 ghost use Rattle.ilp_book.specs.Tables.{IsTallied};
 ghost use Rattle.ilp_tallies.specs.Tallies.{IsOfEach};
 
+use crate::calls::Asked;
 use crate::fault::AskFault;
 use ilp_accounts::Levels;
 use ilp_journal::{Ask, Journal, What};
+use ilp_settlement::EngineVerdict;
 use ilp_tallies::{MOST_OPEN, Tallies};
 use std::alloc::Allocator;
 
@@ -45,7 +47,7 @@ pub(crate) fn still_open<A: Allocator>(
     if are_few_open(tallies, peer) {
         return None;
     }
-    let number = tallies.first_open_ask(peer)?;
+    let number = tallies.next_open_ask(peer, None)?;
     let ask = journal.ask(number)?;
     Some(AskFault::StillOpen {
         number,
@@ -53,20 +55,26 @@ pub(crate) fn still_open<A: Allocator>(
     })
 }
 
-/// The open settlement to a peer that has the least number behind this one, or of all, with its
-/// amount.
+/// The open settlement to a peer that has the least number behind the one that was tried last, else
+/// the first of all.
 pub(crate) fn open_settlement<A: Allocator>(
     journal: &Journal<A>,
     tallies: &Tallies<A>,
     peer: u32,
-    after: Option<u32>,
-) -> Option<(u32, u64)>
+    tried: Option<u32>,
+) -> Option<Asked>
     requires { IsTallied journal.now.entries tallies.now }
-    ensures { result ≡ open_settlement journal.now.entries peer after }
+    ensures { result ≡ open_settlement journal.now.entries peer tried }
 {
-    let number = tallies.next_open_ask(peer, after)?;
+    let number = match tallies.next_open_ask(peer, tried) {
+        Some(behind) => behind,
+        None => tallies.next_open_ask(peer, None)?,
+    };
     let ask = journal.ask(number)?;
-    Some((number, ask.amount))
+    Some(Asked {
+        number,
+        amount: ask.amount,
+    })
 }
 
 /// What is asked for, where the balance is at the peer's threshold or above it.
@@ -96,12 +104,11 @@ fn owed_above(balance: i128, levels: Levels) -> u64
 
 /// What is booked of an engine's verdict on a settlement: that it is confirmed, or that it is
 /// undone.
-pub(crate) fn closing(ask: u32, accepted: bool) -> What
-    ensures { result ≡ closing_of_verdict ask (verdict_of accepted) }
+pub(crate) fn closing(ask: u32, verdict: EngineVerdict) -> What
+    ensures { result ≡ closing_of_verdict ask verdict }
 {
-    if accepted {
-        What::Confirmed { ask }
-    } else {
-        What::Undone { ask }
+    match verdict {
+        EngineVerdict::Accepted => What::Confirmed { ask },
+        EngineVerdict::Refused => What::Undone { ask },
     }
 }

@@ -21,7 +21,7 @@ ghost use Rattle.ilp_book.specs.Sums.{IsWithin, AreWithin};
 ghost use Rattle.ilp_book.specs.HoldStep.{incoming, given_route, has_total, hold_fitted, hold_booked, hold_step, growth_of};
 ghost use Rattle.ilp_book.specs.AnswerStep.{answer_step, expire_step};
 
-use crate::answers::{open_hold_at, verdict};
+use crate::answers::{judge_reply, open_hold_at};
 use crate::calls::{Held, Outcome, PeerReply, Sums};
 use crate::fault::{HoldFault, NotOpen};
 use crate::moments::moment_at;
@@ -174,7 +174,7 @@ impl<A: Allocator> Book<A> {
             });
         };
         let moment = self.moment_at(now);
-        match verdict(&hold, moment, reply) {
+        match judge_reply(&hold, moment, reply) {
             Ok(preimage) => {
                 let what = What::Fulfilled {
                     hold: number,

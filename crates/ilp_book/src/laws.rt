@@ -12,6 +12,7 @@ ghost use Rattle.ilp_journal.specs.declared.entry.What.TheVariants as What;
 ghost use Rattle.ilp_journal.specs.declared.entry.Credited.{Credited};
 ghost use Rattle.ilp_journal.specs.Journal.{Entries, IsBase, open_hold_at, open_ask_at};
 ghost use Rattle.ilp_journal.specs.TrialBalance.{IsBalanced};
+ghost use Rattle.ilp_settlement.specs.declared.verdict.EngineVerdict.{EngineVerdict};
 ghost use Rattle.ilp_book.specs.declared.calls.PeerReply.{PeerReply};
 ghost use Rattle.ilp_book.specs.Book.{PlainBook, By, new_book, with_base, with_entry, pushed, entry_by, moment_at};
 ghost use Rattle.ilp_book.specs.declared.fault.CarryFault.{CarryFault};
@@ -22,7 +23,7 @@ ghost use Rattle.ilp_book.specs.Carry.{IsCarriedOver, IsWhyNotCarried};
 ghost use Rattle.ilp_book.specs.Open.{credit_at, kept_at, IsEarliest};
 ghost use Rattle.ilp_book.specs.Lawful.{IsLawful};
 ghost use Rattle.ilp_book.specs.AnswerStep.{answer_step, expire_step, IsOverBy};
-ghost use Rattle.ilp_book.specs.SettleStep.{EngineVerdict, kept, close_step, IsClosedBy, IsKeptBy};
+ghost use Rattle.ilp_book.specs.SettleStep.{kept, close_step, IsClosedBy, IsKeptBy};
 ghost use Rattle.ilp_book.specs.Run.{Step, AreAllowed, book_after};
 ghost use Rattle.ilp_book.specs.Rows.{PaidRow, LateRow, ReleasedRow, ExpiredRow, LeastRow, TermsRow, TotalRow, FullRow, OlderRow, CreditedRow, SettledRow, PartsRow, CarriedRow};
 

@@ -18,4 +18,5 @@ mod terms;
 pub use book::Book;
 pub use calls::{Asked, Held, Kept, Outcome, PeerReply, Sums};
 pub use fault::{AskFault, CarryFault, CreditFault, HoldFault, NotOpen};
+pub use ilp_settlement::EngineVerdict;
 pub use rule::BrokenRule;

@@ -1,7 +1,7 @@
 //! What a book keeps beside its journal, so that no call goes over the entries.
 ghost use Rattle.std.specs.Prelude.{◌≡◌, ◌+◌, ◌<◌, ◌≤◌, ◌^◌, [], length, None, IsSome, IfOk, OnOk, OnErr};
 ghost use Rattle.std.specs.FinMap as fin_map;
-ghost use Rattle.ilp_journal.specs.Places.{Each};
+ghost use Rattle.ilp_order.specs.Places.{Each};
 ghost use Rattle.ilp_journal.specs.Journal.{AnswersOnce, ClosesOnce, as_hold};
 ghost use Rattle.ilp_tallies.specs.OpenAsks.{HasRoomToAsk};
 ghost use Rattle.ilp_tallies.specs.Tallies.{AreTallies, GrowsBy, KnowsPeers};

@@ -1,4 +1,3 @@
-pub mod Targets
 pub mod Requests
 pub mod Exchange
 pub mod Replies

@@ -3,7 +3,7 @@
 ghost use Rattle.std.specs.Prelude.{◌≡◌, ◌+◌, ◌<◌, ◌≤◌, [], ◌++◌, length, codes};
 ghost use Rattle.ilp_accounts.specs.Configuration.{peer_at};
 ghost use Rattle.ilp_http.specs.declared.status.Kind.TheVariants as kind;
-ghost use Rattle.ilp_client.specs.Targets as targets;
+ghost use Rattle.ilp_settlement.specs.Targets as targets;
 ghost use Rattle.ilp_client.specs.Requests.{IsHead, token_line, key_line, account_text};
 
 use crate::short_text::ShortText;

@@ -14,7 +14,8 @@ use Rattle.ilp_book.specs.declared.calls.Kept.{Kept}
 use Rattle.ilp_book.specs.Book.{PlainBook, By, Growth, granted, denied, moment_at}
 use Rattle.ilp_book.specs.HoldStep.{Incoming, hold_checked, hold_booked, hold_step}
 use Rattle.ilp_book.specs.AnswerStep.{answer_booked, answer_step, due, expire_booked, expire_step}
-use Rattle.ilp_book.specs.SettleStep.{Payment, credit_checked, credit_booked, credit_step, ask_checked, ask_booked, ask_step, EngineVerdict, close_booked, close_step}
+use Rattle.ilp_settlement.specs.declared.verdict.EngineVerdict.{EngineVerdict}
+use Rattle.ilp_book.specs.SettleStep.{Payment, credit_checked, credit_booked, credit_step, ask_checked, ask_booked, ask_step, close_booked, close_step}
 
 -- the entry, if there is one, is the actor's
 abbrev pub IsBy : ℕ → Option Entry → Type 0

@@ -9,10 +9,10 @@ use Rattle.ilp_journal.specs.declared.entry.Entry.{Entry}
 use Rattle.ilp_journal.specs.declared.entry.What.{What}
 use Rattle.ilp_journal.specs.declared.entry.What.TheVariants as what
 use Rattle.ilp_journal.specs.declared.entry.Hold.{Hold}
-use Rattle.ilp_journal.specs.Places.{sum_from, first_from, Each}
+use Rattle.ilp_order.specs.Places.{sum_from, first_from, Each}
 use Rattle.ilp_journal.specs.Journal.{Entries, hold_at, as_hold, answered, fulfilled, released, answer_of, is_number, is_unanswered, of_hold, sum_of_holds, AnswersOnce, IsBase}
 use Rattle.ilp_journal.specs.TrialBalance.{amount_in, amount_out, of_named, since, total_in, total_out}
-use Rattle.ilp_journal.proofs.Sums.{by_push, Each-parts, first_from-append}
+use Rattle.ilp_order.proofs.Sums.{by_push, Each-parts, first_from-append}
 use Rattle.ilp_journal.proofs.Naming.{hold_at-append}
 use Rattle.ilp_journal.proofs.BooksGrowth.{answered_parts, unanswered-push, total_in-push, total_out-push}
 use Rattle.ilp_desk.specs.Totals.{sum_of_fulfilled, taken_since, sold_since}

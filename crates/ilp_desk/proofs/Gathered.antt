@@ -10,7 +10,7 @@ use Rattle.ilp_journal.specs.declared.entry.What.TheVariants as what
 use Rattle.ilp_journal.specs.declared.entry.Cause.{Cause}
 use Rattle.ilp_journal.specs.declared.entry.Cause.TheVariants as cause
 use Rattle.ilp_journal.specs.declared.entry.Hold.{Hold}
-use Rattle.ilp_journal.specs.Places.{sum_from, EachAfter, Each}
+use Rattle.ilp_order.specs.Places.{sum_from, EachAfter, Each}
 use Rattle.ilp_journal.specs.Journal.{Entries, hold_at, ask_at, answered, fulfilled, answer_of, AnswersOnce, fulfilled_since}
 use Rattle.ilp_journal.specs.TrialBalance.{amount_in, amount_out, of_named, has_asset}
 use Rattle.ilp_journal.proofs.Naming.{hold_at-append}
@@ -20,7 +20,7 @@ use Rattle.ilp_book.proofs.Rules.{answers_once}
 use Rattle.ilp_desk.specs.declared.record.Record.{Record}
 use Rattle.ilp_desk.specs.declared.record.Recorded.{Recorded}
 use Rattle.ilp_desk.specs.declared.record.AnsweredHold.{AnsweredHold}
-use Rattle.ilp_desk.specs.declared.record.Verdict.TheVariants.{Fulfilled, Released}
+use Rattle.ilp_desk.specs.declared.record.HoldEnd.TheVariants.{Fulfilled, Released}
 use Rattle.ilp_desk.specs.declared.gathering.WhyNotGathered.{WhyNotGathered}
 use Rattle.ilp_desk.specs.declared.gathering.WhyNotGathered.TheVariants.{Double, Missing, Disagrees}
 use Rattle.ilp_desk.specs.Desk.{PlainDesk, IsActor, IsBookOf, actors_of}

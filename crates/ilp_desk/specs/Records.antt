@@ -1,5 +1,5 @@
 -- The records of a journal: what the books say of what an actor booked.
-use Rattle.std.specs.Prelude.{ℕ, ◌+◌, Bool, true, false, ◌==◌, List, [], ◌∷◌, ◌++◌, drop, Option, Some, None, option_map, option_and_then, option_to_list, slice_get, if◌then◌else◌}
+use Rattle.std.specs.Prelude.{ℕ, ◌+◌, Bool, true, ◌==◌, List, [], ◌∷◌, ◌++◌, drop, Option, Some, None, option_map, option_and_then, option_to_list, slice_get, if◌then◌else◌}
 use Rattle.ilp_journal.specs.declared.entry.Entry.{Entry}
 use Rattle.ilp_journal.specs.declared.entry.Hold.{Hold}
 use Rattle.ilp_journal.specs.declared.entry.Ask.{Ask}
@@ -8,21 +8,23 @@ use Rattle.ilp_journal.specs.declared.entry.What.TheVariants as what
 use Rattle.ilp_journal.specs.declared.entry.Cause.{Cause}
 use Rattle.ilp_journal.specs.declared.entry.Cause.TheVariants as cause
 use Rattle.ilp_journal.specs.Journal.{Entries, hold_at, ask_at}
+use Rattle.ilp_settlement.specs.declared.verdict.EngineVerdict.{EngineVerdict}
+use Rattle.ilp_settlement.specs.declared.verdict.EngineVerdict.TheVariants.{Accepted, Refused}
 use Rattle.ilp_desk.specs.declared.record.Record.{Record}
 use Rattle.ilp_desk.specs.declared.record.Recorded.{Recorded}
 use Rattle.ilp_desk.specs.declared.record.Recorded.TheVariants as recorded
-use Rattle.ilp_desk.specs.declared.record.Verdict.{Verdict}
-use Rattle.ilp_desk.specs.declared.record.Verdict.TheVariants.{Fulfilled, Released}
+use Rattle.ilp_desk.specs.declared.record.HoldEnd.{HoldEnd}
+use Rattle.ilp_desk.specs.declared.record.HoldEnd.TheVariants.{Fulfilled, Released}
 
 -- ---- what an entry's record says
 
 -- the hold n, and how it ended
-abbrev pub answered_hold : ℕ → Verdict → Hold → Recorded
-answered_hold n verdict h = recorded.Answered (record { hold = n; from = h.from; to = h.to; amount = h.amount; out = h.out; condition = h.condition; verdict = verdict })
+abbrev pub answered_hold : ℕ → HoldEnd → Hold → Recorded
+answered_hold n ended h = recorded.Answered (record { hold = n; from = h.from; to = h.to; amount = h.amount; out = h.out; condition = h.condition; ended = ended })
 
--- the settlement n, and whether its engine accepted it
-abbrev pub closed : ℕ → Bool → Ask → Recorded
-closed n accepted a = recorded.Closed n a.peer a.amount accepted
+-- the settlement n, and what its engine said of it
+abbrev pub closed : ℕ → EngineVerdict → Ask → Recorded
+closed n verdict a = recorded.Closed n a.peer a.amount verdict
 
 -- the release of the hold n: where it came too late, nothing is kept of it
 abbrev pub released : Entries → ℕ → Cause → Option Recorded
@@ -39,8 +41,8 @@ recorded_of j (what.Fulfilled n preimage) = option_map (answered_hold n Fulfille
 recorded_of j (what.Released n c) = released j n c
 recorded_of j (what.Credited c) = Some (recorded.Credited c.peer c.credited)
 recorded_of j (what.Asked a) = None
-recorded_of j (what.Confirmed n) = option_map (closed n true) (ask_at j n)
-recorded_of j (what.Undone n) = option_map (closed n false) (ask_at j n)
+recorded_of j (what.Confirmed n) = option_map (closed n Accepted) (ask_at j n)
+recorded_of j (what.Undone n) = option_map (closed n Refused) (ask_at j n)
 
 -- the record of an entry of j, which has the number n
 abbrev pub record_of : Entries → ℕ → Entry → Option Record

@@ -1,5 +1,6 @@
 -- What is under a desk's lock, and what a session does there.
 use Rattle.std.specs.Prelude.{◌≡◌, ℕ, ◌+◌, ◌≤◌, length, Option}
+use Rattle.ilp_book.specs.declared.calls.Asked.{Asked}
 use Rattle.ilp_book.specs.Book.{PlainBook, Made, Does}
 use Rattle.ilp_book.specs.SettleStep.{open_settlement}
 use Rattle.ilp_accounts.specs.Limits.{most_workers}
@@ -29,10 +30,10 @@ abbrev pub IsReplyAt : {R : Type 0} → PlainDesk → (PlainBook → Made R) →
 IsReplyAt desk step before after reply =
     (old new : PlainBook) × IsSession desk old new before after × Does old new reply (step old)
 
--- What is known of a look at a peer's open settlements once the lock is let go: some book of the desk has this one, with its
--- amount, as the first behind another.
-abbrev pub IsLookAt : PlainDesk → ℕ → Option ℕ → Option (ℕ × ℕ) → Type 0
-IsLookAt desk peer after found = (book : PlainBook) × IsBookOf desk book × found ≡ open_settlement book.entries peer after
+-- What is known of a look at a peer's open settlements once the lock is let go: in some book of the desk this is the one that comes
+-- next, behind the one that was tried last.
+abbrev pub IsLookAt : PlainDesk → ℕ → Option ℕ → Option Asked → Type 0
+IsLookAt desk peer tried found = (book : PlainBook) × IsBookOf desk book × found ≡ open_settlement book.entries peer tried
 
 -- What is known of a copy once the lock is let go: it tells all that some book of the desk came to.
 abbrev pub IsCopyOf : PlainDesk → PlainSnapshot → Type 0

@@ -9,8 +9,8 @@ use Rattle.ilp_desk.specs.declared.record.Record.{Record}
 use Rattle.ilp_desk.specs.declared.record.Recorded.{Recorded}
 use Rattle.ilp_desk.specs.declared.record.Recorded.TheVariants as recorded
 use Rattle.ilp_desk.specs.declared.record.AnsweredHold.{AnsweredHold}
-use Rattle.ilp_desk.specs.declared.record.Verdict.{Verdict}
-use Rattle.ilp_desk.specs.declared.record.Verdict.TheVariants.{Fulfilled, Released}
+use Rattle.ilp_desk.specs.declared.record.HoldEnd.{HoldEnd}
+use Rattle.ilp_desk.specs.declared.record.HoldEnd.TheVariants.{Fulfilled, Released}
 
 -- ---- of a journal
 
@@ -29,15 +29,15 @@ sold_since assets base j x = sum_of_fulfilled (amount_out assets x) base j
 -- ---- of records
 
 -- the number, if the hold was fulfilled; else 0
-abbrev pub if_fulfilled : Verdict → ℕ → ℕ
+abbrev pub if_fulfilled : HoldEnd → ℕ → ℕ
 if_fulfilled Fulfilled n = n
 if_fulfilled (Released cause) n = 0
 
 -- f of the hold that a record tells of, if it was fulfilled; else 0
 abbrev pub of_packet : (AnsweredHold → ℕ) → Recorded → ℕ
-of_packet f (recorded.Answered h) = if_fulfilled h.verdict (f h)
+of_packet f (recorded.Answered h) = if_fulfilled h.ended (f h)
 of_packet f (recorded.Credited peer amount) = 0
-of_packet f (recorded.Closed ask peer amount accepted) = 0
+of_packet f (recorded.Closed ask peer amount verdict) = 0
 
 -- the sum of f over the fulfilled holds of these records
 abbrev pub sum_of_packets : (AnsweredHold → ℕ) → List Record → ℕ

@@ -5,7 +5,7 @@ ghost use Rattle.ilp_book.specs.Book.{by};
 ghost use Rattle.ilp_book.specs.Configured.{IsKnown};
 ghost use Rattle.ilp_book.specs.HoldStep.{incoming, hold_step, growth_of};
 ghost use Rattle.ilp_book.specs.AnswerStep.{answer_step, expire_step};
-ghost use Rattle.ilp_book.specs.SettleStep.{payment, verdict_of, credit_growth, credit_step, ask_growth, ask_step, close_step};
+ghost use Rattle.ilp_book.specs.SettleStep.{payment, credit_growth, credit_step, ask_growth, ask_step, close_step};
 ghost use Rattle.ilp_desk.specs.Desk.{actors_of, base_of};
 ghost use Rattle.ilp_desk.specs.Opening.{IsWhyNot, IsWorkerCount, first_shares};
 ghost use Rattle.ilp_desk.specs.Session.{IsReplyAt, IsLookAt, IsCopyOf};
@@ -16,7 +16,8 @@ use crate::share::Share;
 use crate::unlocked::UnlockedDesk;
 use ilp_accounts::Config;
 use ilp_book::{
-    AskFault, Asked, Book, CreditFault, Held, HoldFault, Kept, NotOpen, Outcome, PeerReply,
+    AskFault, Asked, Book, CreditFault, EngineVerdict, Held, HoldFault, Kept, NotOpen, Outcome,
+    PeerReply,
 };
 use ilp_journal::Key;
 use ilp_packet::Prepare;
@@ -212,26 +213,27 @@ impl<J: Naming> Desk<J> {
         rt: &impl Wait,
         share: &mut Share<J>,
         number: u32,
-        accepted: bool,
+        verdict: EngineVerdict,
         now: i64,
     ) -> Result<u32, NotOpen>
         ensures { IsReplyAt J.desk (λ book. close_step book (by share.old.actor now) number
-            (verdict_of accepted)) share.old share.new result }
+            verdict) share.old share.new result }
     {
-        self.lock(rt).settle_close(share, number, accepted, now)
+        self.lock(rt).settle_close(share, number, verdict, now)
     }
 
-    /// The open settlement to a peer that has the least number behind this one, or of all, with its
-    /// amount in units of the peer's asset. Nothing is booked, and no share is raised.
+    /// The open settlement to a peer that comes next: the one of least number behind that which was
+    /// tried last, else the first of all. The book is looked at once. Nothing is booked, and no share
+    /// is raised.
     pub fn open_settlement(
         &self,
         rt: &impl Wait,
         peer: u32,
-        after: Option<u32>,
-    ) -> Option<(u32, u64)>
-        ensures { IsLookAt J.desk peer after result }
+        tried: Option<u32>,
+    ) -> Option<Asked>
+        ensures { IsLookAt J.desk peer tried result }
     {
-        self.lock(rt).open_settlement(peer, after)
+        self.lock(rt).open_settlement(peer, tried)
     }
 
     /// What the report of the book tells, in units of each asset. The copy is made with the lock

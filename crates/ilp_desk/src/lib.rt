@@ -18,6 +18,6 @@ pub use end::End;
 pub use gathering::{Closed, NotGathered, WhyNotGathered, gather};
 pub use locked::LockedBook;
 pub use naming::Naming;
-pub use record::{AnsweredHold, Record, Recorded, Verdict};
+pub use record::{AnsweredHold, HoldEnd, Record, Recorded};
 pub use share::Share;
 pub use unlocked::UnlockedDesk;

@@ -6,7 +6,7 @@ ghost use Rattle.ilp_book.specs.Book.{by, Does};
 ghost use Rattle.ilp_book.specs.Configured.{IsKnown};
 ghost use Rattle.ilp_book.specs.HoldStep.{incoming, hold_step, growth_of};
 ghost use Rattle.ilp_book.specs.AnswerStep.{answer_step, expire_step};
-ghost use Rattle.ilp_book.specs.SettleStep.{payment, verdict_of, open_settlement, credit_growth, credit_step, ask_growth, ask_step, close_step};
+ghost use Rattle.ilp_book.specs.SettleStep.{payment, open_settlement, credit_growth, credit_step, ask_growth, ask_step, close_step};
 ghost use Rattle.ilp_report.specs.Report.{snapshot_of};
 ghost use Rattle.ilp_desk.specs.Desk.{IsBookOf, actors_of, base_of};
 ghost use Rattle.ilp_desk.specs.Session.{IsSession};
@@ -17,7 +17,8 @@ use crate::end::End;
 use crate::naming::Naming;
 use crate::share::Share;
 use ilp_book::{
-    AskFault, Asked, Book, CreditFault, Held, HoldFault, Kept, NotOpen, Outcome, PeerReply,
+    AskFault, Asked, Book, CreditFault, EngineVerdict, Held, HoldFault, Kept, NotOpen, Outcome,
+    PeerReply,
 };
 use ilp_journal::Key;
 use ilp_packet::Prepare;
@@ -184,25 +185,25 @@ impl<J: Naming> LockedBook<J> {
         &mut self,
         share: &mut Share<J>,
         number: u32,
-        accepted: bool,
+        verdict: EngineVerdict,
         now: i64,
     ) -> Result<u32, NotOpen>
         ensures step { Does self.old self.new result
-            (close_step self.old (by share.old.actor now) number (verdict_of accepted)) }
+            (close_step self.old (by share.old.actor now) number verdict) }
         ensures session { IsSession J.desk self.old self.new share.old share.new }
     {
         let before = self.book.len();
-        let result = self.book.settle_close(share.actor(), number, accepted, now);
+        let result = self.book.settle_close(share.actor(), number, verdict, now);
         share.count(&mut self.total, self.book.len() - before);
         result
     }
 
     /// `Book::open_settlement`. No share is lent for it, and the book stays as it is.
-    pub fn open_settlement(&self, peer: u32, after: Option<u32>) -> Option<(u32, u64)>
-        ensures value { result ≡ open_settlement self.now.entries peer after }
+    pub fn open_settlement(&self, peer: u32, tried: Option<u32>) -> Option<Asked>
+        ensures value { result ≡ open_settlement self.now.entries peer tried }
         ensures of_desk { IsBookOf J.desk self.now }
     {
-        self.book().open_settlement(peer, after)
+        self.book().open_settlement(peer, tried)
     }
 
     /// What the report of the book tells now, in units of each asset: see `Snapshot::of`. `AllocError`

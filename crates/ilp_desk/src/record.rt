@@ -1,5 +1,6 @@
 //! What an actor keeps of what it booked.
 
+use ilp_book::EngineVerdict;
 use ilp_journal::Cause;
 
 /// What the books say of an entry, as the actor that booked it keeps it: of each that ended a hold
@@ -22,12 +23,12 @@ pub enum Recorded {
         peer: u32,
         amount: u64,
     },
-    /// A settlement to a peer, in units of its asset, which its engine accepted or refused.
+    /// A settlement to a peer, in units of its asset, and what its engine said of it.
     Closed {
         ask: u32,
         peer: u32,
         amount: u64,
-        accepted: bool,
+        verdict: EngineVerdict,
     },
 }
 
@@ -47,12 +48,12 @@ pub struct AnsweredHold {
     /// The condition of the Prepare.
     pub condition: [u8; 32],
     /// Whether it was fulfilled.
-    pub verdict: Verdict,
+    pub ended: HoldEnd,
 }
 
 /// How a hold ended.
 #[derive(Clone, Copy, Debug, PartialEq, Eq)]
-pub enum Verdict {
+pub enum HoldEnd {
     /// The sender's amount went on to the receiver.
     Fulfilled,
     /// The sender has its amount back, for this cause.

@@ -3,8 +3,8 @@ ghost use Rattle.std.specs.Prelude.{◌≡◌, ◌==◌, None, option_map, if◌
 ghost use Rattle.ilp_journal.specs.Journal.{hold_at, ask_at};
 ghost use Rattle.ilp_desk.specs.Records.{answered_hold, closed, record_at, record_by};
 
-use crate::record::{AnsweredHold, Record, Recorded, Verdict};
-use ilp_book::Book;
+use crate::record::{AnsweredHold, HoldEnd, Record, Recorded};
+use ilp_book::{Book, EngineVerdict};
 use ilp_journal::{Cause, What};
 
 // The record of the entry of this number, if it is the actor's.
@@ -26,26 +26,26 @@ fn record_of(book: &Book, number: u32) -> Option<Record>
     let entry = book.entry(number)?;
     let what = match &entry.what {
         What::Hold(_) | What::Asked(_) => return None,
-        What::Fulfilled { hold, .. } => answered_hold(book, *hold, Verdict::Fulfilled)?,
+        What::Fulfilled { hold, .. } => answered_hold(book, *hold, HoldEnd::Fulfilled)?,
         What::Released { hold, cause } => {
             if *cause == Cause::Late {
                 return None;
             }
-            answered_hold(book, *hold, Verdict::Released(*cause))?
+            answered_hold(book, *hold, HoldEnd::Released(*cause))?
         }
         What::Credited(credit) => Recorded::Credited {
             peer: credit.peer,
             amount: credit.credited,
         },
-        What::Confirmed { ask } => closed(book, *ask, true)?,
-        What::Undone { ask } => closed(book, *ask, false)?,
+        What::Confirmed { ask } => closed(book, *ask, EngineVerdict::Accepted)?,
+        What::Undone { ask } => closed(book, *ask, EngineVerdict::Refused)?,
     };
     Some(Record { number, what })
 }
 
 // The hold of this number, if there is one, and how it ended.
-fn answered_hold(book: &Book, number: u32, verdict: Verdict) -> Option<Recorded>
-    ensures { result ≡ option_map (answered_hold number verdict) (hold_at book.now.entries number) }
+fn answered_hold(book: &Book, number: u32, ended: HoldEnd) -> Option<Recorded>
+    ensures { result ≡ option_map (answered_hold number ended) (hold_at book.now.entries number) }
 {
     let entry = book.entry(number)?;
     let What::Hold(hold) = &entry.what else {
@@ -58,13 +58,13 @@ fn answered_hold(book: &Book, number: u32, verdict: Verdict) -> Option<Recorded>
         amount: hold.amount,
         out: hold.out,
         condition: hold.condition,
-        verdict,
+        ended,
     }))
 }
 
-// The settlement of this number, if there is one, and whether its engine accepted it.
-fn closed(book: &Book, number: u32, accepted: bool) -> Option<Recorded>
-    ensures { result ≡ option_map (closed number accepted) (ask_at book.now.entries number) }
+// The settlement of this number, if there is one, and what its engine said of it.
+fn closed(book: &Book, number: u32, verdict: EngineVerdict) -> Option<Recorded>
+    ensures { result ≡ option_map (closed number verdict) (ask_at book.now.entries number) }
 {
     let entry = book.entry(number)?;
     let What::Asked(ask) = &entry.what else {
@@ -74,6 +74,6 @@ fn closed(book: &Book, number: u32, accepted: bool) -> Option<Recorded>
         ask: number,
         peer: ask.peer,
         amount: ask.amount,
-        accepted,
+        verdict,
     })
 }

@@ -1,6 +1,6 @@
 //! The way to the settlement engines.
 ghost use Rattle.std.specs.Prelude.{◌+◌, ◌<◌, ◌≤◌, length, IfSome};
-ghost use Rattle.ilp_server.specs.declared.quantity.TheConstants.{LONGEST_QUANTITY};
+ghost use Rattle.ilp_settlement.specs.declared.printed.TheConstants.{LONGEST_QUANTITY};
 
 use crate::calling::call_hurried;
 use crate::hurry::Hurry;
@@ -14,7 +14,7 @@ use ilp_http::{Buffer, Outgoing, Response};
 use ilp_link_traits::{EngineLink, EngineReply, LinkFault};
 use ilp_notices::Notices;
 use ilp_oer::Octets;
-use ilp_server::{LONGEST_QUANTITY, put_quantity};
+use ilp_settlement::{LONGEST_QUANTITY, put_quantity};
 use std::alloc::{AllocError, Allocator};
 use std::io::Eprint;
 use std::net::{Net, TcpStream};

@@ -1,2 +1,5 @@
 pub mod RefusalLemmas
 pub mod CheckLemmas
+pub mod Sums
+pub mod PlaceLemmas
+pub mod DigitLemmas

@@ -1,2 +1,4 @@
 pub mod Refusals
 pub mod Checks
+pub mod Found
+pub mod Places

@@ -1,7 +1,9 @@
-//! Refusals in order: the first that applies is the answer.
+//! What comes first: of refusals, of checks, and in a list.
 //!
-//! There is no code here. `specs/` has the words by which the definitions of the layers above say
-//! in which order they refuse: `Refusals` for a computation that goes on where nothing was refused,
-//! `Checks` for a list of checks, of which the first that fails counts. `proofs/` has what follows of
-//! both, which those layers share.
+//! There is no code here. `specs/` has words of no crate's own subject, by which the definitions of
+//! the layers above are written. `Refusals` is for a computation that goes on where nothing was
+//! refused, `Checks` for a list of checks, of which the first that fails counts: both say in which
+//! order refusals come. `Places` has sums, first places and facts of each element over a list whose
+//! elements are named by their places, as a journal's are, and `Found` says what an answer of a
+//! search means. `proofs/` has what follows of these, and what texts of decimal digits are read as.
 #![tactic(auto)]

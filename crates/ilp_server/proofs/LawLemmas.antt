@@ -7,7 +7,8 @@ use Rattle.ilp_server.specs.declared.target.Side.{Side}
 use Rattle.ilp_server.specs.declared.target.Side.TheVariants.{Ilp, Engine}
 use Rattle.ilp_server.specs.declared.target.Target.{Target}
 use Rattle.ilp_server.specs.declared.target.Target.TheVariants.{Packet, Settlement, Message, Report, Close}
-use Rattle.ilp_server.specs.Targets.{account_target, IsOfPeer, AsksFor}
+use Rattle.ilp_settlement.specs.Targets.{account_target}
+use Rattle.ilp_server.specs.Targets.{IsOfPeer, AsksFor}
 use Rattle.ilp_server.specs.Fields.{ShowsToken, IsFrom}
 use Rattle.ilp_server.proofs.PeerLemmas.{one_peer}
 use Rattle.ilp_server.proofs.TargetLemmas.{name_is}

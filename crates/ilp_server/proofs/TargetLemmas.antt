@@ -4,8 +4,9 @@ use Rattle.std.specs.Prelude.{◌≢◌}
 use Rattle.std.proofs.lemmas.List.{append_cancel_left, append_cancel_right}
 use Rattle.ilp_lookup.specs.Texts.{IsPlaceOf}
 use Rattle.ilp_accounts.specs.Configuration.{Configuration, peer_names}
-use Rattle.ilp_server.specs.Found.{Finds}
-use Rattle.ilp_server.specs.Targets.{account_target, IsOfPeer}
+use Rattle.ilp_order.specs.Found.{Finds}
+use Rattle.ilp_settlement.specs.Targets.{account_target}
+use Rattle.ilp_server.specs.Targets.{IsOfPeer}
 use Rattle.ilp_server.proofs.PeerLemmas.{no_peer, peer_known, peer_text}
 
 -- what stands before the second text in what follows the first

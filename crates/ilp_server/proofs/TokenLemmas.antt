@@ -5,7 +5,7 @@ use Rattle.std.proofs.lemmas.List.{length-map}
 use Rattle.std.proofs.Math.Seq.{drop-append_seam}
 use Rattle.ilp_lookup.specs.Texts.{IsPlaceOf}
 use Rattle.ilp_accounts.specs.Configuration.{Configuration, peer_at, peer_tokens}
-use Rattle.ilp_server.specs.Found.{Finds}
+use Rattle.ilp_order.specs.Found.{Finds}
 use Rattle.ilp_server.specs.Fields.{IsOnly, ShowsToken, IsFrom}
 use Rattle.ilp_server.proofs.PeerLemmas.{no_peer, peer_known, peer_text}
 

@@ -1,4 +1,3 @@
-pub mod Found
 pub mod Targets
 pub mod Fields
 pub mod Statuses
@@ -6,3 +5,4 @@ pub mod Deeds
 pub mod Serving
 pub mod Connection
 pub mod Work
+pub use Rattle.ilp_order.specs.Found

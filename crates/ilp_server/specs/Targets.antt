@@ -1,22 +1,11 @@
 -- What the target of a request asks for (RFC 9112, section 3.2). Targets are compared octet for octet.
-use Rattle.std.specs.Prelude.{◌≡◌, ℕ, ◌<◌, List, ◌++◌, length, codes}
+use Rattle.std.specs.Prelude.{◌≡◌, ℕ, ◌<◌, List, length, codes}
 use Rattle.ilp_accounts.specs.Configuration.{Configuration, peer_at}
+use Rattle.ilp_settlement.specs.Targets.{settlements_target, messages_target}
 use Rattle.ilp_server.specs.declared.target.Side.{Side}
 use Rattle.ilp_server.specs.declared.target.Side.TheVariants.{Ilp, Engine}
 use Rattle.ilp_server.specs.declared.target.Target.{Target}
 use Rattle.ilp_server.specs.declared.target.Target.TheVariants.{Packet, Settlement, Message, Report, Close}
-
--- the target of a call for an account, by its name
-abbrev pub account_target : List ℕ → List ℕ → List ℕ
-account_target call name = codes "/accounts/" ++ (name ++ call)
-
--- where the settlements of an account are posted (RFC 0038)
-abbrev pub settlements_target : List ℕ → List ℕ
-settlements_target name = account_target (codes "/settlements") name
-
--- where the messages of an account are posted (RFC 0038)
-abbrev pub messages_target : List ℕ → List ℕ
-messages_target name = account_target (codes "/messages") name
 
 -- a path is that of one of the peers, by its name
 pub record IsOfPeer (C : Configuration) (target : List ℕ → List ℕ) (path : List ℕ) (peer : ℕ) : Type 0 where

@@ -1,7 +1,7 @@
 //! What the fields of a request say of who sends it, and of what.
 ghost use Rattle.std.specs.Prelude.{◌≡◌, ℕ, List, codes, MatchOption};
 ghost use Rattle.http_header.specs.Token.{lowercase};
-ghost use Rattle.ilp_server.specs.Found.{Finds};
+ghost use Rattle.ilp_order.specs.Found.{Finds};
 ghost use Rattle.ilp_server.specs.Fields.{values_in, IsOnly, ShowsToken, IsFrom, IsKeyAmong};
 
 use http_header::HeaderMap;

@@ -4,7 +4,6 @@ ghost use Rattle.ilp_book.specs.Configured.{IsKnown};
 ghost use Rattle.ilp_server.specs.Serving.{inquiry, Serves, ServesPacket, ServesSettlement, ServesPayment, ServesMessage, ServesReport};
 
 use crate::fields::{key_of, sender_of};
-use crate::quantity::{LONGEST_QUANTITY, put_quantity};
 use crate::served::Served;
 use crate::target::{Side, Target, target_of};
 use crate::unserved::NotServed;
@@ -13,7 +12,7 @@ use ilp_http::Request;
 use ilp_journal::Key;
 use ilp_oer::Octets;
 use ilp_report::print;
-use ilp_settlement::Quantity;
+use ilp_settlement::{LONGEST_QUANTITY, Quantity, put_quantity};
 use ilp_workers::{Clock, EngineLink, Uplink, Worker};
 use std::alloc::{Allocator, Global};
 use std::sync::Wait;

@@ -1,7 +1,8 @@
 //! What the target of a request asks for.
 ghost use Rattle.std.specs.Prelude.{◌≡◌, ℕ, ◌≢◌, ◌++◌, List, MatchOption};
-ghost use Rattle.ilp_server.specs.Found.{Finds};
-ghost use Rattle.ilp_server.specs.Targets.{account_target, IsOfPeer, AsksFor};
+ghost use Rattle.ilp_order.specs.Found.{Finds};
+ghost use Rattle.ilp_settlement.specs.Targets.{account_target};
+ghost use Rattle.ilp_server.specs.Targets.{IsOfPeer, AsksFor};
 
 use ilp_accounts::Config;
 

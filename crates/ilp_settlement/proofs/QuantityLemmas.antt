@@ -1,14 +1,12 @@
 -- What is read of octets, as UTF-8 and as JSON.
-use Rattle.std.proofs.Common.{◌≡◌, ◌≤◌, ℕ, List, length, rules, Option, Some, None, Bool, true, false, cond, refl, arith}
+use Rattle.std.proofs.Common.{◌≡◌, ◌≤◌, ℕ, List, length, Option, Some, None, Bool, true, false, cond, refl, arith}
 use Rattle.std.specs.Str.{IsUtf8, is_utf8}
 use Rattle.std.proofs.lemmas.Str.{is_utf8-from_IsUtf8, IsUtf8-from_is_utf8}
 use Rattle.serde_json.specs.Data.{Data}
 use Rattle.serde_json.specs.Read.{read}
 use Rattle.std.specs.Char.{is_ascii_digit}
 use Rattle.std.specs.List.{list_all}
-use Rattle.std.specs.Str.Parse.{digits_value}
 use Rattle.std.proofs.lemmas.Bool.Decides.{nat_tests}
-use Rattle.std.proofs.lemmas.Str.Parse.{IsDigitsTest, IsNumeralModel, numerals_by_value}
 use Rattle.ilp_settlement.specs.Quantity.{is_amount_text, value_in}
 
 pub value_read : (octets : List ℕ) (value : Data) → IsUtf8 octets → read octets ≡ Some value → value_in octets ≡ Some value
@@ -19,12 +17,6 @@ value_not_read octets h = by_test (is_utf8 octets) (read octets) (λ yes. h (IsU
   by_test : (b : Bool) (o : Option Data) → (b ≡ true → o ≡ None) → cond b o None ≡ None
   by_test true o k = k refl
   by_test false o k = refl
-
-digits_test : IsDigitsTest (λ ds. list_all is_ascii_digit ds ≡ true)
-digits_test = search rules
-
-pub own_numerals : IsNumeralModel (λ ds. list_all is_ascii_digit ds ≡ true) (digits_value 10)
-own_numerals = numerals_by_value _ digits_test
 
 pub amount_text_parts : (text : List ℕ) → is_amount_text text ≡ true → (1 ≤ length text) × (length text ≤ 38) × (list_all is_ascii_digit text ≡ true)
 amount_text_parts text h = grind (arith, nat_tests)

@@ -1,2 +1,3 @@
 pub mod KeyTable
 pub mod Quantity
+pub mod Targets

@@ -7,15 +7,15 @@ use Rattle.ilp_journal.specs.declared.entry.Entry.{Entry}
 use Rattle.ilp_journal.specs.declared.entry.What.{What}
 use Rattle.ilp_journal.specs.declared.entry.What.TheVariants as what
 use Rattle.ilp_journal.specs.declared.entry.Ask.{Ask}
-use Rattle.ilp_journal.specs.Places.{Each}
-use Rattle.ilp_journal.specs.Journal.{Entries, ClosesOnce, as_ask, ask_at, closed, closing_of, first_open_number, is_ask_of, is_number, is_unclosed, paid_to, open_asks}
-use Rattle.ilp_journal.proofs.Sums.{sum_from-same}
+use Rattle.ilp_journal.specs.Journal.{Entries, ClosesOnce, as_ask, ask_at, closed, closing_of, is_ask_of, is_number, is_unclosed, paid_to, open_asks}
+use Rattle.ilp_order.specs.Places.{Each, places_from}
+use Rattle.ilp_order.proofs.Sums.{sum_from-same}
 use Rattle.ilp_journal.proofs.Naming.{is_some-place-push, place_of_last}
 use Rattle.ilp_tallies.specs.declared.open_asks.TheConstants.{MOST_OPEN}
-use Rattle.ilp_tallies.specs.OpenAsks.{places_from, is_open_ask_of, open_numbers, asks_row, with_ask, without_named, asks_after, AreOpenAsks, HasRoomToAsk}
+use Rattle.ilp_tallies.specs.OpenAsks.{is_open_ask_of, open_numbers, asks_row, with_ask, without_named, asks_after, AreOpenAsks, HasRoomToAsk}
 use Rattle.ilp_tallies.specs.Tallies.{KnowsAsk}
 use Rattle.ilp_tallies.proofs.StepLemmas.{KnowsNamed}
-use Rattle.ilp_tallies.proofs.Places.{places-length, places-push, places-same, places-filter, places-first, places-keep}
+use Rattle.ilp_order.proofs.PlaceLemmas.{places-length, places-push, places-same, places-filter, places-keep}
 
 -- as many numbers as settlements that are open
 pub open_numbers-length : (j : Entries) (p : ℕ) → length (open_numbers j p) ≡ open_asks j p
@@ -163,16 +163,3 @@ asks_after-length rows j (what.Undone n) = of (ask_at j n)
     of : (o : Option Ask) → length (without_named rows n o) ≡ length rows
     of None = refl
     of (Some a) = length-set rows a.peer (filter (λ k. not (k == n)) (asks_row rows a.peer))
-
--- where a list has no first element it has none
-none_first : (xs : List ℕ) → slice_get xs 0 ≡ None → length xs ≡ 0
-none_first [] none = refl
-none_first (x ∷ xs) none = cc
-
--- where no settlement to a peer is open there is room for one
-pub room_to_ask : (j : Entries) (a : Ask) → first_open_number j a.peer ≡ None → HasRoomToAsk j (what.Asked a)
-room_to_ask j a none =
-    let numbers : List ℕ = open_numbers j a.peer in
-    let empty : length numbers ≡ 0 = none_first numbers (places-first (is_open_ask_of a.peer j) 0 j ∙ none) in
-    let Few : ℕ → Type 0 = λ n. n < MOST_OPEN in
-    subst Few (sym empty ∙ open_numbers-length j a.peer) (omega arith)

@@ -5,7 +5,7 @@ use Rattle.std.proofs.lemmas.Bool.{le-leb}
 use Rattle.std.proofs.lemmas.Int.{ints}
 use Rattle.ilp_journal.specs.declared.entry.Entry.{Entry}
 use Rattle.ilp_journal.specs.declared.entry.What.{What}
-use Rattle.ilp_journal.specs.Places.{Each}
+use Rattle.ilp_order.specs.Places.{Each}
 use Rattle.ilp_journal.specs.Journal.{Entries, AnswersOnce, ClosesOnce, fulfilled, fulfilled_since}
 use Rattle.ilp_journal.proofs.Growth.{balance-push, open_count-push}
 use Rattle.ilp_journal.proofs.OpenGrowth.{open_holds-push}

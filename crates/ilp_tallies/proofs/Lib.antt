@@ -1,7 +1,6 @@
 mod RowLemmas
 mod StepSums
 mod StepLemmas
-mod Places
 pub mod AskLemmas
 pub mod Growing
 mod Beginning

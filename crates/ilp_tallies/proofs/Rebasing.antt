@@ -3,7 +3,7 @@ use Rattle.std.proofs.Common.{◌≡◌, ℕ, ◌+◌, ◌<◌, ◌≤◌, Bool,
 use Rattle.std.specs.Prelude.{nat_le, ◌&&◌, ◌||◌}
 use Rattle.std.proofs.lemmas.Bool.{leb-true}
 use Rattle.ilp_journal.specs.declared.entry.Hold.{Hold}
-use Rattle.ilp_journal.specs.Places.{sum_from}
+use Rattle.ilp_order.specs.Places.{sum_from}
 use Rattle.ilp_journal.specs.Journal.{Entries, of_hold, sum_of_holds, is_unanswered, is_fulfilled}
 use Rattle.ilp_journal.specs.TrialBalance.{is_counted, total_in, total_out, amount_in, amount_out}
 use Rattle.ilp_tallies.specs.Tallies.{PlainTallies, MovesBase}

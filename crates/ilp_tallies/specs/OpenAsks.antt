@@ -1,16 +1,12 @@
 -- The open settlements to each peer, by their numbers.
-use Rattle.std.specs.Prelude.{◌≡◌, ℕ, ◌+◌, ◌<◌, Bool, not, ◌&&◌, ◌==◌, ⊤, List, [], ◌∷◌, ◌++◌, length, filter, Option, Some, None, if◌then◌else◌, slice_index_or, slice_set}
+use Rattle.std.specs.Prelude.{◌≡◌, ℕ, ◌<◌, Bool, not, ◌&&◌, ◌==◌, ⊤, List, [], ◌∷◌, ◌++◌, length, filter, Option, Some, None, slice_index_or, slice_set}
+use Rattle.ilp_order.specs.Places.{places_from}
 use Rattle.ilp_journal.specs.declared.entry.Entry.{Entry}
 use Rattle.ilp_journal.specs.declared.entry.What.{What}
 use Rattle.ilp_journal.specs.declared.entry.What.TheVariants as what
 use Rattle.ilp_journal.specs.declared.entry.Ask.{Ask}
 use Rattle.ilp_journal.specs.Journal.{Entries, ask_at, is_ask_of, is_unclosed, open_asks}
 use Rattle.ilp_tallies.specs.declared.open_asks.TheConstants.{MOST_OPEN}
-
--- the places whose elements pass the test, the first of all being n
-abbrev pub places_from : {X : Type 0} → (ℕ → X → Bool) → ℕ → List X → List ℕ
-places_from test n [] = []
-places_from test n (x ∷ xs) = if test n x then n ∷ places_from test (n + 1) xs else places_from test (n + 1) xs
 
 -- whether the entry n asks for a settlement to the peer, and is not closed
 abbrev pub is_open_ask_of : ℕ → Entries → ℕ → Entry → Bool

@@ -1,5 +1,5 @@
 //! The open settlements to all peers, by the peers' places.
-ghost use Rattle.std.specs.Prelude.{◌≡◌, ◌<◌, [], length, IfOk, replicate, slice_get};
+ghost use Rattle.std.specs.Prelude.{◌≡◌, ◌<◌, [], length, IfOk, replicate};
 ghost use Rattle.std.specs.List.{find};
 ghost use Rattle.ilp_journal.specs.Journal.{is_behind};
 ghost use Rattle.ilp_tallies.specs.declared.open_asks.TheConstants.{MOST_OPEN};
@@ -28,16 +28,6 @@ pub(crate) fn count_asks<A: Allocator>(rows: &Vec<OpenAsks, A>, peer: u32) -> u3
     match rows.get(peer as usize) {
         Some(row) => row.len(),
         None => 0,
-    }
-}
-
-/// The number of the first open settlement to a peer.
-pub(crate) fn first_ask<A: Allocator>(rows: &Vec<OpenAsks, A>, peer: u32) -> Option<u32>
-    ensures { result ≡ slice_get (asks.asks_row rows.now.items peer) 0 }
-{
-    match rows.get(peer as usize) {
-        Some(row) => row.first(),
-        None => None,
     }
 }
 

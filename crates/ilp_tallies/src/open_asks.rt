@@ -1,5 +1,5 @@
 //! The open settlements to one peer.
-ghost use Rattle.std.specs.Prelude.{◌≡◌, ◌<◌, [], ◌∷◌, ◌++◌, length, filter, not, ◌==◌, slice_get};
+ghost use Rattle.std.specs.Prelude.{◌≡◌, ◌<◌, [], ◌∷◌, ◌++◌, length, filter, not, ◌==◌};
 ghost use Rattle.std.specs.List.{find};
 ghost use Rattle.ilp_journal.specs.Journal.{is_behind};
 ghost use Rattle.ilp_tallies.specs.declared.open_asks.TheConstants.{MOST_OPEN};
@@ -43,16 +43,6 @@ impl OpenAsks {
         ensures { result ≡ length self.now }
     {
         self.count as u32
-    }
-
-    /// The one that was asked for first.
-    pub(crate) fn first(&self) -> Option<u32>
-        ensures { result ≡ slice_get self.now 0 }
-    {
-        if self.count == 0 {
-            return None;
-        }
-        Some(self.numbers[0])
     }
 
     /// The first one whose number lies behind this one, or of all.

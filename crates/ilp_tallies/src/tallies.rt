@@ -1,8 +1,8 @@
 //! The tallies of a journal: what its entries come to, kept entry by entry.
 ghost use Rattle.std.specs.Prelude.{◌≡◌, ◌+◌, ◌<◌, ◌≤◌, ◌^◌, pos, ◌+ℤ◌, ◌-ℤ◌, ◌≤ℤ◌, [], length, All, IfOk, slice_index};
-ghost use Rattle.ilp_journal.specs.Places.{Each};
+ghost use Rattle.ilp_order.specs.Places.{Each};
 ghost use Rattle.ilp_journal.specs.Booked.{most_sum};
-ghost use Rattle.ilp_journal.specs.Journal.{AnswersOnce, ClosesOnce, open_holds, open_asks, open_count, first_open_number, next_open_number, fulfilled_since};
+ghost use Rattle.ilp_journal.specs.Journal.{AnswersOnce, ClosesOnce, open_holds, open_asks, open_count, next_open_number, fulfilled_since};
 ghost use Rattle.ilp_journal.specs.Balance.{balance};
 ghost use Rattle.ilp_journal.specs.TrialBalance.{held, fees, bought, sold, settled, total_in, total_out};
 ghost use Rattle.ilp_tallies.specs.Rows as rows;
@@ -11,7 +11,7 @@ ghost use Rattle.ilp_tallies.specs.OpenAsks.{AreOpenAsks, HasRoomToAsk, asks_aft
 ghost use Rattle.ilp_tallies.specs.Steps.{FitsStep};
 ghost use Rattle.ilp_tallies.specs.Tallies.{AreTallies, MovesBase, IsOfEach, KnowsPeers, GrowsBy, with_step};
 
-use crate::asks::{count_asks, first_ask, next_ask, no_asks, update_asks};
+use crate::asks::{count_asks, next_ask, no_asks, update_asks};
 use crate::open_asks::OpenAsks;
 use crate::rows::{
     AssetRow, PeerRow, add_asset, add_peer, asset_row, no_assets, no_peers, peer_row,
@@ -126,13 +126,6 @@ impl<A: Allocator> Tallies<A> {
         ensures { IsOfEach self.now (λ _ _ j. open_asks j peer) result }
     {
         count_asks(&self.asks, peer)
-    }
-
-    /// The least number of an open settlement to the peer.
-    pub fn first_open_ask(&self, peer: u32) -> Option<u32>
-        ensures { IsOfEach self.now (λ _ _ j. first_open_number j peer) result }
-    {
-        first_ask(&self.asks, peer)
     }
 
     /// The least number of an open settlement to the peer behind this one, or of all.

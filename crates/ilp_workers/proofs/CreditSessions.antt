@@ -13,7 +13,7 @@ use Rattle.ilp_journal.specs.declared.entry.What.TheVariants as what
 use Rattle.ilp_journal.specs.declared.entry.Credited.{Credited}
 use Rattle.ilp_journal.specs.Places.{Each}
 use Rattle.ilp_journal.specs.Journal.{Entries}
-use Rattle.ilp_journal.proofs.Sums.{by_push, Each-parts}
+use Rattle.ilp_order.proofs.Sums.{by_push, Each-parts}
 use Rattle.ilp_journal.proofs.Naming.{stands_at-push}
 use Rattle.ilp_order.specs.Refusals.{◌>>=◌, refuse_if}
 use Rattle.ilp_order.proofs.RefusalLemmas.{some_same}

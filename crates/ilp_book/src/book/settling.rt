@@ -4,7 +4,7 @@ ghost use Rattle.ilp_journal.specs.Journal.{open_ask_at};
 ghost use Rattle.ilp_book.specs.Book.{by, Does};
 ghost use Rattle.ilp_book.specs.Configured.{IsKnown};
 ghost use Rattle.ilp_book.specs.Lawful.{IsLawful, IsFreshCredit, IsDueAsk};
-ghost use Rattle.ilp_book.specs.SettleStep.{payment, verdict_of, open_settlement, credit_fitted, credit_booked, credit_growth, credit_step, ask_fitted, ask_booked, ask_growth, ask_step, close_step};
+ghost use Rattle.ilp_book.specs.SettleStep.{payment, open_settlement, credit_fitted, credit_booked, credit_growth, credit_step, ask_fitted, ask_booked, ask_growth, ask_step, close_step};
 
 use crate::asks::{closing, due_amount, open_ask_at, open_settlement, still_open};
 use crate::book::Book;
@@ -12,7 +12,7 @@ use crate::calls::{Asked, Kept};
 use crate::credits::kept_reply;
 use crate::fault::{AskFault, CreditFault, NotOpen};
 use ilp_journal::{Ask, Credited, Entry, Key, What};
-use ilp_settlement::{Quantity, credited};
+use ilp_settlement::{EngineVerdict, Quantity, credited};
 use std::alloc::Allocator;
 
 impl<A: Allocator + Clone> Book<A> {
@@ -132,19 +132,19 @@ impl<A: Allocator + Clone> Book<A> {
 // The call that takes no memory.
 impl<A: Allocator> Book<A> {
     /// Books what the peer's engine said of a settlement, if it is open: where it was accepted that
-    /// is all, else the peer gets the amount back. Answers the number of the entry. The ask has made
-    /// room, so no memory is taken. A refusal names the entry that closed the settlement, if one
-    /// did, and leaves the book as it was.
+    /// is all, and where it was refused the peer gets the amount back. Answers the number of the
+    /// entry. The ask has made room, so no memory is taken. A refusal names the entry that closed the
+    /// settlement, if one did, and leaves the book as it was.
     #[tactic(auto, unfolding(crate::specs::SettleStep::close_step))]
     pub fn settle_close(
         &mut self,
         actor: u32,
         number: u32,
-        accepted: bool,
+        verdict: EngineVerdict,
         now: i64,
     ) -> Result<u32, NotOpen>
         ensures step { Does self.old self.new result
-            (close_step self.old (by actor now) number (verdict_of accepted)) }
+            (close_step self.old (by actor now) number verdict) }
         ensures lawful { IsLawful self.new }
     {
         let Some(_ask) = self.open_ask(number) else {
@@ -153,7 +153,7 @@ impl<A: Allocator> Book<A> {
             });
         };
         let moment = self.moment_at(now);
-        let what = closing(number, accepted);
+        let what = closing(number, verdict);
         Ok(self.close(Entry {
             moment,
             actor,
@@ -161,12 +161,12 @@ impl<A: Allocator> Book<A> {
         }))
     }
 
-    /// The open settlement to a peer that has the least number behind this one, or of all, with its
-    /// amount in units of the peer's asset.
-    pub fn open_settlement(&self, peer: u32, after: Option<u32>) -> Option<(u32, u64)>
-        ensures { result ≡ open_settlement self.now.entries peer after }
+    /// The open settlement to a peer that comes next: the one of least number behind that which was
+    /// tried last, else the first of all.
+    pub fn open_settlement(&self, peer: u32, tried: Option<u32>) -> Option<Asked>
+        ensures { result ≡ open_settlement self.now.entries peer tried }
     {
-        open_settlement(&self.journal, &self.tables.tallies, peer, after)
+        open_settlement(&self.journal, &self.tables.tallies, peer, tried)
     }
 
     // The settlement under a number, if it is open.

@@ -5,7 +5,8 @@ use Rattle.std.specs.List.{list_all}
 use Rattle.std.specs.Str.Parse.{ParsesUnsigned}
 use Rattle.std.proofs.lemmas.Bool.Decides.{nat_tests}
 use Rattle.std.proofs.lemmas.Str.Parse.{parse_gives, digits_value_short}
-use Rattle.ilp_connector.proofs.Fields.{own_numerals, IsUtf8-digits, number_in-digits}
+use Rattle.ilp_order.proofs.DigitLemmas.{own_numerals, IsUtf8-digits}
+use Rattle.ilp_connector.proofs.Fields.{number_in-digits}
 use Rattle.ilp_connector.proofs.form.number_in.Goals as goal
 
 pub returns-in_default-clause-value : goal.returns-in_default-clause-value

@@ -2,7 +2,8 @@ use Rattle.std.proofs.Common.{◌∙◌, ap, sym, arith, Bool, Some, None, cond}
 use Rattle.std.specs.Result.{result_ok}
 use Rattle.std.specs.Str.Parse.{digits_value}
 use Rattle.std.proofs.lemmas.Str.Parse.{parse_gives, digits_value_short}
-use Rattle.ilp_settlement.proofs.QuantityLemmas.{own_numerals, amount_text_parts}
+use Rattle.ilp_order.proofs.DigitLemmas.{own_numerals}
+use Rattle.ilp_settlement.proofs.QuantityLemmas.{amount_text_parts}
 use Rattle.ilp_settlement.proofs.json.amount_of_text.Goals as goal
 
 pub returns-clause-value : goal.returns-clause-value

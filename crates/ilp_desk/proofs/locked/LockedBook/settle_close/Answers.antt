@@ -1,7 +1,7 @@
 use Rattle.std.proofs.Common.{subst, to_z, of_z}
 use Rattle.std.specs.Int.{w64}
 use Rattle.ilp_book.specs.Book.{by}
-use Rattle.ilp_book.specs.SettleStep.{verdict_of, close_step}
+use Rattle.ilp_book.specs.SettleStep.{close_step}
 use Rattle.ilp_desk.specs.Session.{IsSession}
 use Rattle.ilp_desk.proofs.Callers.{close_by}
 use Rattle.ilp_desk.proofs.Sessions.{LeavesAll, after_session}
@@ -15,8 +15,8 @@ leaves g c =
     let caller = by c.actor.result (to_z w64 (of_z w64 c.args.now)) in
     let step = c.settle_close-result.ensures in
     after_session g.J.Naming.desk g.J.Ledger.parts c.self.inside.workers c.self.inside.total.total c.count.new.total.total c.len-before.result c.len.result c.actor.result
-    old c.settle_close-result.new.self c.args.share.now c.count.new.self c.settle_close-result.result (close_step old caller c.args.number (verdict_of c.args.accepted))
-    c.self.invariant step.step step.lawful c.actor.ensures.known (close_by old caller c.args.number (verdict_of c.args.accepted))
+    old c.settle_close-result.new.self c.args.share.now c.count.new.self c.settle_close-result.result (close_step old caller c.args.number c.args.verdict)
+    c.self.invariant step.step step.lawful c.actor.ensures.known (close_by old caller c.args.number c.args.verdict)
     c.len-before.ensures c.len.ensures c.count.ensures.total c.count.ensures.share
 
 pub invariant_of-self : goal.invariant_of-self

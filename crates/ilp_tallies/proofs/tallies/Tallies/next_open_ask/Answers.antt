@@ -3,7 +3,7 @@ use Rattle.std.specs.List.{find}
 use Rattle.ilp_journal.specs.Journal.{is_behind}
 use Rattle.ilp_tallies.specs.OpenAsks.{asks_row, is_open_ask_of}
 use Rattle.ilp_tallies.specs.Tallies.{PlainTallies}
-use Rattle.ilp_tallies.proofs.Places.{places-find}
+use Rattle.ilp_order.proofs.PlaceLemmas.{places-find}
 use Rattle.ilp_tallies.proofs.tallies.Tallies.next_open_ask.Goals as goal
 
 -- it is the first in the row that lies behind

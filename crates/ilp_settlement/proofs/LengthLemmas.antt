@@ -2,7 +2,7 @@
 use Rattle.std.proofs.Common.{ℕ, ◌<◌, ◌≤◌, ◌^◌, length, arith, length-append}
 use Rattle.std.proofs.lemmas.Fmt.{length-decimal-le}
 use Rattle.ilp_settlement.specs.Quantity.{quantity_text}
-use Rattle.ilp_server.specs.declared.quantity.TheConstants.{LONGEST_QUANTITY}
+use Rattle.ilp_settlement.specs.declared.printed.TheConstants.{LONGEST_QUANTITY}
 
 -- 22 octets of its own, at most 20 digits of the amount, and at most 3 of the scale
 pub quantity_fits : (amount scale : ℕ) → amount < 2 ^ 64 → scale < 256 → length (quantity_text amount scale) ≤ LONGEST_QUANTITY

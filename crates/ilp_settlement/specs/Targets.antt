@@ -1,4 +1,4 @@
--- Where an engine's calls for an account are posted (RFC 0038).
+-- Where an engine serves an account (RFC 0038), as the targets of requests (RFC 9112, section 3.2).
 use Rattle.std.specs.Prelude.{ℕ, List, ◌++◌, codes}
 
 -- the target of a call for an account, by its name
