@@ -1,10 +1,11 @@
 -- What a turn of the settler comes to once the engine has the account.
-use Rattle.std.proofs.Common.{◌≡◌, ◌≢◌, ℕ, ℤ, Bool, List, Option, Some, None, refl, ap, ◌∙◌, subst}
+use Rattle.std.proofs.Common.{◌≡◌, ◌≢◌, ℕ, ℤ, List, Option, Some, None, refl, ap, ◌∙◌, subst}
 use Rattle.std.specs.Prelude.{Result, Ok, Err}
 use Rattle.ilp_book.specs.declared.calls.Asked.{Asked}
 use Rattle.ilp_book.specs.declared.fault.AskFault.{AskFault}
 use Rattle.ilp_book.specs.declared.fault.AskFault.TheVariants as ask_fault
 use Rattle.ilp_book.specs.declared.fault.NotOpen.{NotOpen}
+use Rattle.ilp_settlement.specs.declared.verdict.EngineVerdict.{EngineVerdict}
 use Rattle.ilp_desk.specs.declared.record.Record.{Record}
 use Rattle.ilp_desk.specs.Desk.{PlainDesk}
 use Rattle.ilp_desk.specs.Portion.{Portion, Holding, holding}
@@ -12,7 +13,7 @@ use Rattle.ilp_link_traits.specs.declared.links.EngineReply.{EngineReply}
 use Rattle.ilp_link_traits.specs.Links.{Tells, ToEngine}
 use Rattle.ilp_settler.specs.declared.turn.Turn.{Turn}
 use Rattle.ilp_settler.specs.declared.turn.Turn.TheVariants.{NoAccount, Idle, Kept, Closed}
-use Rattle.ilp_settler.specs.Settler.{PlainSettler, settler, knows_account, with_account, HasAccount, last_tried, with_tried, of_open, IsAsking, IsChoosing, settlement_told, verdict_by, turn_of_close, ClosesBy, TakesUp, IsTakingUp, GoesOn, IsTurn, Turns}
+use Rattle.ilp_settler.specs.Settler.{PlainSettler, settler, knows_account, with_account, HasAccount, last_tried, with_tried, IsAsking, IsChoosing, settlement_told, verdict_by, turn_of_close, ClosesBy, TakesUp, IsTakingUp, GoesOn, IsTurn, Turns}
 
 -- what the settler is once the engine has the account
 pub record IsFound (peer : ℕ) (before known : PlainSettler) : Type 0 where
@@ -31,10 +32,10 @@ asking_before desk peer before known moments share reply found asking =
     (subst (λ s. IsAsking desk peer known.moments moments s share reply) found.share asking)
 
 -- an engine that was asked for a settlement has the account
-closes_with_account : (desk : PlainDesk) (peer : ℕ) (a : Asked) (said : EngineReply) (verdict : Option Bool) (moments moments' : Option (List ℤ)) (before after : Holding) (told : Turn)
+closes_with_account : (desk : PlainDesk) (peer : ℕ) (a : Asked) (said : EngineReply) (verdict : Option EngineVerdict) (moments moments' : Option (List ℤ)) (before after : Holding) (told : Turn)
     → ClosesBy desk peer a said verdict moments moments' before after told → told ≢ NoAccount
 closes_with_account desk peer a said None moments moments' before after told c e = let is : told ≡ Kept a.number a.amount said = c.turn_is in cc
-closes_with_account desk peer a said (Some accepted) moments moments' before after told c e = of c.reply c.turn_is e
+closes_with_account desk peer a said (Some verdict) moments moments' before after told c e = of c.reply c.turn_is e
   where
     of : (r : Result ℕ NotOpen) → told ≡ turn_of_close a said r → told ≢ NoAccount
     of (Ok entry) is e = cc
@@ -49,11 +50,11 @@ told_turn desk peer before after (Kept n amount said) other turn = turn
 told_turn desk peer before after (Closed n amount said) other turn = turn
 
 -- nor does one that takes up what is open tell that there is no account
-taken_with_account : (desk : PlainDesk) (peer : ℕ) (before after : PlainSettler) (engine : Option (List ToEngine)) (fault : AskFault) (share : Portion) (moments : Option (List ℤ)) (told : Turn) (found : Option (ℕ × ℕ))
+taken_with_account : (desk : PlainDesk) (peer : ℕ) (before after : PlainSettler) (engine : Option (List ToEngine)) (fault : AskFault) (share : Portion) (moments : Option (List ℤ)) (told : Turn) (found : Option Asked)
     → TakesUp desk peer before after engine fault share moments told found → told ≢ NoAccount
 taken_with_account desk peer before after engine fault share moments told None t e = let is : told ≡ Idle fault = t.1 in cc
 taken_with_account desk peer before after engine fault share moments told (Some one) t e =
-    closes_with_account desk peer (of_open one) t.said (verdict_by t.said) moments after.moments (holding share before.records) (holding after.share after.records) told t.closed e
+    closes_with_account desk peer one t.said (verdict_by t.said) moments after.moments (holding share before.records) (holding after.share after.records) told t.closed e
 
 -- what a turn for the peer is, once a book was asked and replied
 asked_turn : (E : Type 0) (desk : PlainDesk) (peer : ℕ) (before known between after : PlainSettler) (reply : Result Asked AskFault) (turn : Result Turn E)
@@ -103,7 +104,7 @@ taking_before desk peer before between after engine fault told kept tried same t
   taken = of taking.found taking.taken;
 }
   where
-    of : (found : Option (ℕ × ℕ)) → TakesUp desk peer between after between.engine fault between.share between.moments told found → TakesUp desk peer before after engine fault between.share between.moments told found
+    of : (found : Option Asked) → TakesUp desk peer between after between.engine fault between.share between.moments told found → TakesUp desk peer before after engine fault between.share between.moments told found
     of None t = (
       record {
         same = t.0.same ∙ (ap (λ r. settler between.share r between.moments between.engine after.accounts between.tried) kept
@@ -114,9 +115,9 @@ taking_before desk peer before between after engine fault told kept tried same t
     )
     of (Some one) t = record {
       said = t.said;
-      handed = subst (λ x. Tells x (settlement_told desk.config peer (of_open one) t.said) after.engine) same t.handed;
-      closed = subst (λ r. ClosesBy desk peer (of_open one) t.said (verdict_by t.said) between.moments after.moments (holding between.share r) (holding after.share after.records) told) kept t.closed;
-      tried = t.tried ∙ ap (λ x. with_tried x peer (of_open one).number) tried;
+      handed = subst (λ x. Tells x (settlement_told desk.config peer one t.said) after.engine) same t.handed;
+      closed = subst (λ r. ClosesBy desk peer one t.said (verdict_by t.said) between.moments after.moments (holding between.share r) (holding after.share after.records) told) kept t.closed;
+      tried = t.tried ∙ ap (λ x. with_tried x peer one.number) tried;
     }
 
 -- a turn by which an open settlement is taken up, if there is one

@@ -9,7 +9,7 @@ ghost use Rattle.ilp_settler.specs.Settler.{settler, longest_key, key_text, know
 
 use crate::turn::Turn;
 use ilp_accounts::Config;
-use ilp_book::{AskFault, Asked};
+use ilp_book::{AskFault, Asked, EngineVerdict};
 use ilp_desk::{Desk, End, Naming, Record, Recorded, Share};
 use ilp_link_traits::{Clock, EngineLink, EngineReply};
 use itoa::Buffer;
@@ -82,22 +82,18 @@ impl<J: Naming, C: Clock + Drop, E: EngineLink + Drop, A: Allocator> SettlerPart
         ensures accounts { self.new.accounts ≡ self.old.accounts }
     {
         match self.choose(rt, desk, peer) {
-            Some((number, amount)) => self.carry_out(rt, desk, peer, Asked { number, amount }),
+            Some(asked) => self.carry_out(rt, desk, peer, asked),
             None => Turn::Idle(fault),
         }
     }
 
     // The open settlement behind the one that was tried last, else the first of all.
-    fn choose(&self, rt: &impl Wait, desk: &Desk<J>, peer: u32) -> Option<(u32, u64)>
+    fn choose(&self, rt: &impl Wait, desk: &Desk<J>, peer: u32) -> Option<Asked>
         requires known { IsKnown J.desk.config peer }
         ensures { IsChoosing J.desk peer (last_tried self.now.tried peer) result }
     {
-        if let Some(last) = self.tried[place_of(desk.config(), peer)] {
-            if let Some(open) = desk.open_settlement(rt, peer, Some(last)) {
-                return Some(open);
-            }
-        }
-        desk.open_settlement(rt, peer, None)
+        let tried = self.tried[place_of(desk.config(), peer)];
+        desk.open_settlement(rt, peer, tried)
     }
 
     // Whether the peer's engine has the account: where it did not say so before, it is asked now.
@@ -168,7 +164,7 @@ impl<J: Naming, C: Clock + Drop, E: EngineLink + Drop, A: Allocator> SettlerPart
     {
         let said = self.settle(desk.config(), peer, asked);
         match verdict_by(said) {
-            Some(accepted) => self.close(rt, desk, peer, asked, said, accepted),
+            Some(verdict) => self.close(rt, desk, peer, asked, said, verdict),
             None => Turn::Kept {
                 number: asked.number,
                 amount: asked.amount,
@@ -185,10 +181,10 @@ impl<J: Naming, C: Clock + Drop, E: EngineLink + Drop, A: Allocator> SettlerPart
         peer: u32,
         asked: Asked,
         said: EngineReply,
-        accepted: bool,
+        verdict: EngineVerdict,
     ) -> Turn
         requires room { vec_len self.old.records < vec_capacity self.old.records }
-        ensures closed { IsClosing J.desk peer asked said accepted (C.told self.old.clock)
+        ensures closed { IsClosing J.desk peer asked said verdict (C.told self.old.clock)
             (C.told self.new.clock) (holding self.old.share self.old.records.items)
             (holding self.new.share self.new.records.items) result }
         ensures accounts { self.new.accounts ≡ self.old.accounts }
@@ -197,7 +193,7 @@ impl<J: Naming, C: Clock + Drop, E: EngineLink + Drop, A: Allocator> SettlerPart
     {
         let Asked { number, amount } = asked;
         let later = self.clock.now();
-        let Ok(entry) = desk.settle_close(rt, &mut self.share, number, accepted, later) else {
+        let Ok(entry) = desk.settle_close(rt, &mut self.share, number, verdict, later) else {
             return Turn::Kept {
                 number,
                 amount,
@@ -205,7 +201,7 @@ impl<J: Naming, C: Clock + Drop, E: EngineLink + Drop, A: Allocator> SettlerPart
             };
         };
         self.records
-            .push_reserved(record_of(peer, asked, accepted, entry));
+            .push_reserved(record_of(peer, asked, verdict, entry));
         Turn::Closed {
             number,
             amount,
@@ -224,13 +220,13 @@ impl<J: Naming, C: Clock + Drop, E: EngineLink + Drop> SettlerParts<J, C, E, Glo
     }
 }
 
-// Whether a settlement is closed as accepted or as refused by what its engine said, or not at all.
-fn verdict_by(said: EngineReply) -> Option<bool>
+// The verdict on a settlement by what its engine said, if that is one.
+fn verdict_by(said: EngineReply) -> Option<EngineVerdict>
     ensures { result ≡ verdict_by said }
 {
     match said {
-        EngineReply::Accepted => Some(true),
-        EngineReply::Refused { .. } => Some(false),
+        EngineReply::Accepted => Some(EngineVerdict::Accepted),
+        EngineReply::Refused { .. } => Some(EngineVerdict::Refused),
         EngineReply::Unknown { .. } => None,
     }
 }
@@ -267,8 +263,8 @@ fn put_key<A: Allocator>(key: &mut String<A>, config: &Config, number: u32)
 }
 
 // The record of a settlement that was closed by this entry.
-fn record_of(peer: u32, asked: Asked, accepted: bool, entry: u32) -> Record
-    ensures { result ≡ record_of_close peer asked accepted entry }
+fn record_of(peer: u32, asked: Asked, verdict: EngineVerdict, entry: u32) -> Record
+    ensures { result ≡ record_of_close peer asked verdict entry }
 {
     Record {
         number: entry,
@@ -276,7 +272,7 @@ fn record_of(peer: u32, asked: Asked, accepted: bool, entry: u32) -> Record
             ask: asked.number,
             peer,
             amount: asked.amount,
-            accepted,
+            verdict,
         },
     }
 }

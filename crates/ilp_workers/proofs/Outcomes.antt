@@ -16,7 +16,7 @@ use Rattle.ilp_book.specs.declared.calls.Held.{Held}
 use Rattle.ilp_book.specs.declared.calls.Outcome.{Outcome}
 use Rattle.ilp_book.specs.declared.fault.NotOpen.{NotOpen}
 use Rattle.ilp_desk.specs.declared.record.Record.{Record}
-use Rattle.ilp_desk.specs.declared.record.Verdict.TheVariants.{Fulfilled, Released}
+use Rattle.ilp_desk.specs.declared.record.HoldEnd.TheVariants.{Fulfilled, Released}
 use Rattle.ilp_desk.specs.Portion.{Portion, portion}
 use Rattle.ilp_desk.specs.Totals.{packets, of_packet}
 use Rattle.ilp_workers.specs.declared.reply.Receipt.{Receipt}
@@ -71,7 +71,7 @@ module _ (a : Arrival) (packet : PlainPrepare) (before after : PlainWorker) (rec
     (answers : receipt.answer ≡ Some entry) (raised : after.share ≡ portion before.share.actor (before.share.entries + 2)) (named : receipt.rejected ≡ reject_told told) (are : AreOctets after.reply) where
   -- the worker keeps what the reply comes to, and the sender is told it
   abbrev Closed : ReplyEffect → Type 0
-  Closed c = (told ≡ c.told) × (after.records ≡ before.records ++ record_of_end (order a.desk a.from packet) held c.verdict entry ∷ [])
+  Closed c = (told ≡ c.told) × (after.records ≡ before.records ++ record_of_end (order a.desk a.from packet) held c.ended entry ∷ [])
 
   rejected : (answer : Option (List ℕ)) (c : Cause) (why : LocalReject) → IsTold a.desk.config answer told after.reply → told ≡ Reject (Own why)
       → after.records ≡ before.records ++ record_of_end (order a.desk a.from packet) held (Released c) entry ∷ [] → IsFulfilled a before after receipt ⊎ IsRejected before after receipt

@@ -22,8 +22,8 @@ use Rattle.ilp_book.specs.HoldStep.{incoming, hold_step, growth_of, latest_answe
 use Rattle.ilp_book.specs.AnswerStep.{answer_step}
 use Rattle.ilp_desk.specs.declared.record.Record.{Record}
 use Rattle.ilp_desk.specs.declared.record.Recorded.TheVariants as recorded
-use Rattle.ilp_desk.specs.declared.record.Verdict.{Verdict}
-use Rattle.ilp_desk.specs.declared.record.Verdict.TheVariants.{Fulfilled, Released}
+use Rattle.ilp_desk.specs.declared.record.HoldEnd.{HoldEnd}
+use Rattle.ilp_desk.specs.declared.record.HoldEnd.TheVariants.{Fulfilled, Released}
 use Rattle.ilp_desk.specs.Desk.{PlainDesk}
 use Rattle.ilp_desk.specs.Portion.{Portion, portion, Holding, holding}
 use Rattle.ilp_desk.specs.Session.{IsReplyAt}
@@ -106,8 +106,8 @@ pub record IsSentOn (packet : PlainPrepare) (held : Held) (sent sent' : Option (
 
 -- What a reply comes to has three parts: what the book is told, how the hold ends if it is open and in time, and what the sender
 -- is told then.
-abbrev pub effect : PeerReply → Verdict → Told → ReplyEffect
-effect answer verdict told = record { answer = answer; verdict = verdict; told = told }
+abbrev pub effect : PeerReply → HoldEnd → Told → ReplyEffect
+effect answer ended told = record { answer = answer; ended = ended; told = told }
 
 -- of no reply, or of one that is no Fulfill and no Reject
 abbrev pub effect_of_none : ReplyEffect
@@ -146,7 +146,7 @@ IsAnsweredAt o now hold answer before after reply =
     IsReplyAt o.desk (λ book. answer_step book (by before.actor now) hold answer) before after reply
 
 -- how a hold ended, and the number of the entry that says so
-abbrev pub end_of : Outcome → ℕ × Verdict
+abbrev pub end_of : Outcome → ℕ × HoldEnd
 end_of (outcome.Fulfilled entry) = (entry, Fulfilled)
 end_of (outcome.Released entry c) = (entry, Released c)
 
@@ -161,12 +161,12 @@ count_of None = 0
 count_of (Some n) = 1
 
 -- what the books say of a hold that ended by this entry
-abbrev pub record_of_end : Order → Held → Verdict → ℕ → Record
-record_of_end o held verdict entry = record { number = entry; what = recorded.Answered (record { hold = held.number; from = o.from; to = held.to; amount = o.packet.amount; out = held.out; condition = o.packet.condition; verdict = verdict }) }
+abbrev pub record_of_end : Order → Held → HoldEnd → ℕ → Record
+record_of_end o held ended entry = record { number = entry; what = recorded.Answered (record { hold = held.number; from = o.from; to = held.to; amount = o.packet.amount; out = held.out; condition = o.packet.condition; ended = ended }) }
 
 -- The hold ended by what came back: the sender is told that, and the worker keeps the record.
 abbrev pub EndsInTime : Order → Held → ReplyEffect → ℕ → List Record → List Record → Told → Type 0
-EndsInTime o held c entry kept kept' told = (told ≡ c.told) × (kept' ≡ kept ++ record_of_end o held c.verdict entry ∷ [])
+EndsInTime o held c entry kept kept' told = (told ≡ c.told) × (kept' ≡ kept ++ record_of_end o held c.ended entry ∷ [])
 
 -- that time ran out
 abbrev pub late : Told
@@ -181,8 +181,8 @@ EndsLate kept kept' told = (told ≡ late) × (kept' ≡ kept)
 abbrev pub Ends : Order → Held → ReplyEffect → Result Outcome NotOpen → List Record → List Record → Told → Type 0
 Ends o held c (Err fault) kept kept' told = EndsLate kept kept' told
 Ends o held c (Ok outcome) kept kept' told =
-    (((end_of outcome).1 ≡ c.verdict) × EndsInTime o held c (end_of outcome).0 kept kept' told)
-    ⊎ (((end_of outcome).1 ≢ c.verdict) × EndsLate kept kept' told)
+    (((end_of outcome).1 ≡ c.ended) × EndsInTime o held c (end_of outcome).0 kept kept' told)
+    ⊎ (((end_of outcome).1 ≢ c.ended) × EndsLate kept kept' told)
 
 -- What came back is told to a book at a moment that the clock gives, and the worker's share and records are raised by that.
 pub record IsEnded (o : Order) (held : Held) (c : ReplyEffect) (moments moments' : Option (List ℤ)) (before after : Holding) (told : Told) (entry : Option ℕ) : Type 0 where

@@ -7,7 +7,7 @@ use Rattle.ilp_book.specs.declared.calls.Held.{Held}
 use Rattle.ilp_book.specs.declared.fault.HoldFault.{HoldFault}
 use Rattle.ilp_book.specs.declared.fault.HoldFault.TheVariants as hold_fault
 use Rattle.ilp_book.specs.HoldStep.{Incoming}
-use Rattle.ilp_desk.specs.declared.record.Verdict.TheVariants.{Fulfilled}
+use Rattle.ilp_desk.specs.declared.record.HoldEnd.TheVariants.{Fulfilled}
 use Rattle.ilp_desk.specs.Desk.{PlainDesk}
 use Rattle.ilp_desk.specs.Portion.{portion}
 use Rattle.ilp_desk.specs.Totals.{packets}

@@ -16,7 +16,7 @@ use crate::reply::Buffer;
 use crate::reply_effect::{ReplyEffect, Told, effect_by};
 use ilp_accounts::Config;
 use ilp_book::{Held, Outcome};
-use ilp_desk::{AnsweredHold, Desk, End, Naming, Record, Recorded, Share, Verdict};
+use ilp_desk::{AnsweredHold, Desk, End, HoldEnd, Naming, Record, Recorded, Share};
 use ilp_link_traits::{Clock, EngineLink, LinkFault, ReplyKind, Uplink};
 use ilp_oer::Octets;
 use ilp_packet::{Prepare, write_prepare};
@@ -160,12 +160,12 @@ impl<J: Naming, C: Clock + Drop, U: Uplink + Drop, E: EngineLink + Drop, A: Allo
         let Ok(outcome) = desk.answer(rt, &mut self.share, held.number, answer, later) else {
             return Answered::late(None);
         };
-        let (entry, verdict) = end_of(outcome);
-        if !same(verdict, effect.verdict) {
+        let (entry, ended) = end_of(outcome);
+        if !same(ended, effect.ended) {
             return Answered::late(Some(entry));
         }
         self.records
-            .push_reserved(record_of(from, packet, held, verdict, entry));
+            .push_reserved(record_of(from, packet, held, ended, entry));
         Answered {
             told: effect.told,
             entry: Some(entry),
@@ -260,25 +260,25 @@ pub(crate) fn note_reply<U: Uplink>(
 }
 
 // How a hold ended, and the number of the entry that says so.
-fn end_of(outcome: Outcome) -> (u32, Verdict)
+fn end_of(outcome: Outcome) -> (u32, HoldEnd)
     ensures { result ≡ end_of outcome }
 {
     match outcome {
-        Outcome::Fulfilled { entry } => (entry, Verdict::Fulfilled),
-        Outcome::Released { entry, cause } => (entry, Verdict::Released(cause)),
+        Outcome::Fulfilled { entry } => (entry, HoldEnd::Fulfilled),
+        Outcome::Released { entry, cause } => (entry, HoldEnd::Released(cause)),
     }
 }
 
-fn same(one: Verdict, other: Verdict) -> bool
+fn same(one: HoldEnd, other: HoldEnd) -> bool
     ensures { MatchBool result (one ≡ other) (one ≢ other) }
 {
     one == other
 }
 
 // The record of a hold that ended so, by this entry.
-fn record_of(from: u32, packet: &Prepare<'_>, held: &Held, verdict: Verdict, entry: u32) -> Record
+fn record_of(from: u32, packet: &Prepare<'_>, held: &Held, ended: HoldEnd, entry: u32) -> Record
     ensures { (desk : PlainDesk) → result
-        ≡ record_of_end (order desk from (plain_prepare packet.now)) held.now verdict entry }
+        ≡ record_of_end (order desk from (plain_prepare packet.now)) held.now ended entry }
 {
     let ended = AnsweredHold {
         hold: held.number,
@@ -287,7 +287,7 @@ fn record_of(from: u32, packet: &Prepare<'_>, held: &Held, verdict: Verdict, ent
         amount: packet.amount,
         out: held.out,
         condition: *packet.condition,
-        verdict,
+        ended,
     };
     Record {
         number: entry,

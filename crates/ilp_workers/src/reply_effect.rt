@@ -5,7 +5,7 @@ ghost use Rattle.ilp_workers.specs.Forwarding.{effect_of, effect_of_none, effect
 
 use crate::rejects::{LocalReject, ToldReject};
 use ilp_book::PeerReply;
-use ilp_desk::Verdict;
+use ilp_desk::HoldEnd;
 use ilp_journal::Cause;
 use ilp_link_traits::{LinkFault, ReplyKind};
 use ilp_packet::Packet;
@@ -37,7 +37,7 @@ impl Told {
 #[derive(Clone, Copy, Debug, PartialEq, Eq)]
 pub struct ReplyEffect {
     pub answer: PeerReply,
-    pub verdict: Verdict,
+    pub ended: HoldEnd,
     pub told: Told,
 }
 
@@ -70,7 +70,7 @@ pub(crate) fn effect_by(
         Ok(Packet::Fulfill(fulfill)) => effect_by_fulfill(condition, fulfill.preimage),
         Ok(Packet::Reject(reject)) => ReplyEffect {
             answer: PeerReply::Reject(*reject.code),
-            verdict: Verdict::Released(Cause::Peer(*reject.code)),
+            ended: HoldEnd::Released(Cause::Peer(*reject.code)),
             told: Told::Reject(ToldReject::Peer { code: *reject.code }),
         },
         Ok(Packet::Prepare(_)) => effect_by_none(),
@@ -85,13 +85,13 @@ fn effect_by_fulfill(condition: &[u8; 32], preimage: &[u8; 32]) -> ReplyEffect
     if meets(condition, preimage) {
         ReplyEffect {
             answer: PeerReply::Fulfill(*preimage),
-            verdict: Verdict::Fulfilled,
+            ended: HoldEnd::Fulfilled,
             told: Told::Fulfill,
         }
     } else {
         ReplyEffect {
             answer: PeerReply::BadFulfill,
-            verdict: Verdict::Released(Cause::WrongPreimage),
+            ended: HoldEnd::Released(Cause::WrongPreimage),
             told: Told::Reject(ToldReject::Own(LocalReject::WrongCondition)),
         }
     }
@@ -103,7 +103,7 @@ fn effect_by_none() -> ReplyEffect
 {
     ReplyEffect {
         answer: PeerReply::NoReply,
-        verdict: Verdict::Released(Cause::NoReply),
+        ended: HoldEnd::Released(Cause::NoReply),
         told: Told::Reject(ToldReject::Own(LocalReject::PeerUnreachable)),
     }
 }
