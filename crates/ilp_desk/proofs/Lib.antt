@@ -1,5 +1,6 @@
 pub mod Callers
 pub mod Sessions
+pub mod Raising
 pub mod Fulfilled
 pub mod Splits
 pub mod Walks

@@ -6,15 +6,15 @@ use crate::calling::call_hurried;
 use crate::hurry::Hurry;
 use crate::no_answer::NoAnswer;
 use ilp_accounts::Config;
-use ilp_http::{Buffer, Outgoing, Response};
-use ilp_notices::Notices;
-use ilp_oer::Octets;
-use ilp_server::{
+use ilp_client::{
     account_head, account_text, has_account, message_head, message_reply, messages_target,
     settlement_head, settlement_reply, settlements_target,
 };
+use ilp_http::{Buffer, Outgoing, Response};
+use ilp_link_traits::{EngineLink, EngineReply, LinkFault};
+use ilp_notices::Notices;
+use ilp_oer::Octets;
 use ilp_settlement::{LONGEST_QUANTITY, put_quantity};
-use ilp_workers::{EngineLink, EngineReply, LinkFault};
 use std::alloc::{AllocError, Allocator};
 use std::io::Eprint;
 use std::net::{Net, TcpStream};
@@ -30,7 +30,7 @@ const ENGINE_WAIT: u64 = 10_000;
 /// A peer that is unknown or has no engine in the configuration has no account; a settlement with it
 /// is Unknown and a message to it a fault, and nothing is sent. So it is where the engine gives no
 /// answer that can be used, which is told to the notices. They are told too of an answer that can be
-/// used, and with which status a settlement was refused.
+/// used.
 #[derive(Drop)]
 pub struct EngineWay<'c, R: Copy> {
     rt: R,
@@ -73,11 +73,16 @@ impl<R: Net<Stream = TcpStream> + Clock + Eprint + Copy> EngineWay<'_, R> {
         self.notices.engine_failed(&self.rt, self.config, peer, why);
     }
 
-    // Notes what the peer's engine said of a settlement.
-    fn note(&self, peer: u32, said: Said) {
-        self.notices.engine_answered(peer);
-        if said.reply == EngineReply::Refused {
-            self.notices.settlement_refused_with(peer, said.status);
+    // Notes what the peer's engine said of a settlement, and tells a status that says neither yes nor
+    // no.
+    fn note(&self, peer: u32, said: EngineReply) {
+        match said {
+            EngineReply::Accepted => self.notices.engine_answered(peer),
+            EngineReply::Refused { .. } => self.notices.engine_answered(peer),
+            EngineReply::Unknown {
+                status: Some(status),
+            } => self.tell(peer, NoAnswer::Status(status)),
+            EngineReply::Unknown { status: None } => {}
         }
     }
 }
@@ -113,7 +118,7 @@ impl<R: Net<Stream = TcpStream> + Clock + Eprint + Copy> EngineLink for EngineWa
 
     fn settle(&mut self, peer: u32, key: &str, amount: u64, scale: u8) -> EngineReply {
         let Some(engine) = engine_of(self.config, peer) else {
-            return EngineReply::Unknown;
+            return EngineReply::Unknown { status: None };
         };
         put_quantity(&mut self.quantity, amount, scale);
         let target = settlements_target(self.config, peer);
@@ -122,14 +127,14 @@ impl<R: Net<Stream = TcpStream> + Clock + Eprint + Copy> EngineLink for EngineWa
         self.notices.waits_for_engine(peer);
         let came = call_engine(&self.rt, self.hurry, engine, &head, body, &mut self.buffer);
         self.notices.engine_is_over(peer);
-        match came.and_then(said_in) {
+        match came.map(said_in) {
             Ok(said) => {
                 self.note(peer, said);
-                said.reply
+                said
             }
             Err(why) => {
                 self.tell(peer, why);
-                EngineReply::Unknown
+                EngineReply::Unknown { status: None }
             }
         }
     }
@@ -200,20 +205,9 @@ fn account_in(response: Response<'_>) -> Result<(), NoAnswer> {
     }
 }
 
-// What an engine says of a settlement, and with which status.
-#[derive(Clone, Copy)]
-struct Said {
-    reply: EngineReply,
-    status: u16,
-}
-
-// What the engine says of the settlement, where that is known.
-fn said_in(response: Response<'_>) -> Result<Said, NoAnswer> {
-    let status = response.status;
-    match settlement_reply(Ok(response)) {
-        EngineReply::Unknown => Err(NoAnswer::Status(status)),
-        reply => Ok(Said { reply, status }),
-    }
+// What the engine says of the settlement.
+fn said_in(response: Response<'_>) -> EngineReply {
+    settlement_reply(Ok(response))
 }
 
 // The octets that the engine answers to a message.

@@ -1,6 +1,6 @@
 //! Why a peer or a settlement engine gave no answer that can be used.
 
-use ilp_server::PostFault;
+use ilp_client::PostFault;
 use std::io::ErrorKind;
 use thiserror::Error;
 

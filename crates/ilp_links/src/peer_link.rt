@@ -5,12 +5,11 @@ use crate::calling::call;
 use crate::no_answer::NoAnswer;
 use crate::time_left::time_left;
 use ilp_accounts::Config;
+use ilp_client::{packet_head, packet_reply};
 use ilp_http::Buffer;
+use ilp_link_traits::{Clock, LinkFault, ReplyKind, Uplink};
 use ilp_notices::Notices;
 use ilp_oer::Octets;
-use ilp_packet::Packet;
-use ilp_server::{packet_head, packet_reply};
-use ilp_workers::{Clock, LinkFault, Uplink};
 use std::alloc::{AllocError, Allocator};
 use std::io::Eprint;
 use std::net::{Net, TcpStream};
@@ -24,8 +23,8 @@ use std::net::{Net, TcpStream};
 /// HTTP, or another status than 200; want of memory for the reply. All but the first two and the
 /// last are told to the notices.
 ///
-/// The octets of a 200 are handed on whatever they are. Those that are no Fulfill and no Reject are
-/// told to the notices too.
+/// The octets of a 200 are handed on whatever they are. Whoever reads them tells the link whether they
+/// are a Fulfill or a Reject, and the link the notices.
 #[derive(Drop)]
 pub struct PeerLink<'c, R: Copy, C: Clock + Copy> {
     rt: R,
@@ -74,18 +73,25 @@ impl<R: Net<Stream = TcpStream> + std::time::Clock + Eprint + Copy, C: Clock + C
         let came = packet_answer(&self.rt, self.config, to, packet, left, &mut self.buffer);
         self.notices.peer_is_over(to);
         match came {
-            Ok(octets) => {
-                if is_answer(octets) {
+            Ok(octets) => match reply.append(octets) {
+                Ok(()) => Ok(()),
+                Err(_) => {
+                    // Nobody will read it, so all that is known is that the peer is there.
                     self.notices.peer_answered(to);
-                } else {
-                    self.notices.peer_unreadable(&self.rt, self.config, to);
+                    Err(LinkFault)
                 }
-                reply.append(octets).map_err(|_| LinkFault)
-            }
+            },
             Err(why) => {
                 self.notices.peer_failed(&self.rt, self.config, to, why);
                 Err(LinkFault)
             }
+        }
+    }
+
+    fn note_reply(&mut self, from: u32, kind: ReplyKind) {
+        match kind {
+            ReplyKind::Answer => self.notices.peer_answered(from),
+            ReplyKind::NoAnswer => self.notices.peer_unreadable(&self.rt, self.config, from),
         }
     }
 }
@@ -104,12 +110,4 @@ fn packet_answer<'b, R: Net<Stream = TcpStream> + std::time::Clock>(
     let head = packet_head(config, to);
     let response = call(rt, config.host(to), left, &head, packet, buffer)?;
     packet_reply(Ok(response)).map_err(|_| NoAnswer::Status(response.status))
-}
-
-// Whether the octets are a Fulfill or a Reject.
-fn is_answer(octets: &[u8]) -> bool {
-    match Packet::read(octets) {
-        Ok(Packet::Fulfill(_) | Packet::Reject(_)) => true,
-        Ok(Packet::Prepare(_)) | Err(_) => false,
-    }
 }

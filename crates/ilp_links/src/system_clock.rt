@@ -2,7 +2,7 @@
 ghost use Rattle.std.specs.Prelude.{◌≡◌, ◌/◌, ◌-◌, ◌^◌, min, pos};
 ghost use Rattle.std.specs.Duration.{as_nanos};
 
-use ilp_workers::Clock;
+use ilp_link_traits::Clock;
 use std::time::Duration;
 
 /// The system's clock, in milliseconds since 1970.

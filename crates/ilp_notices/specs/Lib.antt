@@ -1,3 +1,4 @@
 pub mod TimeText
+pub mod Doubling
 pub mod Pace
 pub mod Marks

@@ -5,6 +5,7 @@
 //! written, and when, no clause can say: it stands in the comments, and `test_sockets` tests it.
 #![tactic(auto)]
 
+mod doubling;
 mod journal;
 mod journal_file;
 mod line;
@@ -20,6 +21,7 @@ mod time_text;
 mod waiting;
 mod work;
 
+pub use doubling::doubled;
 pub use journal_file::{
     journal_absent, journal_carried, journal_in_use, journal_not_locked, journal_saved,
     journal_too_long, journal_unread, left_unsaved, mark_left, no_journal, not_made, not_saved,

@@ -2,6 +2,8 @@
 ghost use Rattle.std.specs.Prelude.{◌≡◌, ◌+◌, ◌-◌, ◌^◌, ◌≤◌, ◌↔◌, min, IsSome, IfSome};
 ghost use Rattle.ilp_notices.specs.Pace.{next_rest};
 
+use crate::doubling::doubled;
+
 // How many milliseconds lie between the first line on a thing and the next.
 const FIRST_REST: u64 = 1_000;
 
@@ -33,7 +35,7 @@ impl Pace {
         let rest = if self.rest == 0 || now - self.due >= CALM {
             FIRST_REST
         } else {
-            self.rest.saturating_mul(2).min(LONGEST_REST)
+            doubled(self.rest, LONGEST_REST)
         };
         Some(Pace {
             rest,

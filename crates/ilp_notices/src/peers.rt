@@ -8,7 +8,6 @@ use crate::waiting::Waiters;
 use ilp_accounts::Config;
 use std::fmt::Display;
 use std::io::Eprint;
-use std::sync::atomic::AtomicU64;
 use std::time::Clock;
 
 /// What was told of one peer. Threads share it by reference.
@@ -18,8 +17,6 @@ pub(crate) struct OfPeer {
     unreadable: Repeated,
     engine: Repeated,
     pub(crate) settlements: Repeated,
-    // The status with which its engine refused the last settlement; 0 where none is kept.
-    pub(crate) refused_with: AtomicU64,
     pub(crate) wait_for_peer: Waiters,
     pub(crate) wait_for_engine: Waiters,
 }
@@ -32,7 +29,6 @@ impl OfPeer {
             unreadable: Repeated::new(),
             engine: Repeated::new(),
             settlements: Repeated::new(),
-            refused_with: AtomicU64::new(0),
             wait_for_peer: Waiters::new(),
             wait_for_engine: Waiters::new(),
         }

@@ -4,23 +4,10 @@ use crate::line::{Level, tell};
 use crate::notices::Notices;
 use crate::seconds::Seconds;
 use ilp_accounts::Config;
-use std::fmt;
-use std::fmt::Display;
 use std::io::Eprint;
-use std::sync::atomic::Ordering;
 use std::time::{Clock, Duration};
 
 impl Notices {
-    /// Keeps the status with which the engine of a peer refused the last settlement, for
-    /// `settlement_refused`.
-    pub fn settlement_refused_with(&self, peer: u32, status: u16) {
-        if let Some(of_peer) = self.peers.get(peer as usize) {
-            of_peer
-                .refused_with
-                .store(u64::from(status), Ordering::SeqCst);
-        }
-    }
-
     /// Tells that the engine of a peer has taken on a settlement of this amount, in units of the peer's
     /// asset.
     pub fn settlement_confirmed<R: Clock + Eprint>(
@@ -38,8 +25,8 @@ impl Notices {
         }
     }
 
-    /// Tells that the engine of a peer refused a settlement, with which status if that was kept, and
-    /// for how long none is tried.
+    /// Tells that the engine of a peer refused a settlement of this amount, in units of the peer's
+    /// asset, with which status, and for how long none is tried.
     pub fn settlement_refused<R: Clock + Eprint>(
         &self,
         rt: &R,
@@ -47,18 +34,17 @@ impl Notices {
         peer: u32,
         number: u32,
         amount: u64,
+        status: u16,
         rest: Duration,
     ) {
-        let Some(of_peer) = self.of_peer(config, peer) else {
-            return;
-        };
-        let name = config.name(peer);
-        let status = RefusedWith(of_peer.refused_with.swap(0, Ordering::SeqCst));
-        let rest = Seconds(rest);
-        let text = format_args!(
-            "settlement {number} with {name} of {amount}: refused{status}, and the amount is back; the next one waits {rest}"
-        );
-        tell(rt, Level::Warn, text);
+        if self.of_peer(config, peer).is_some() {
+            let name = config.name(peer);
+            let rest = Seconds(rest);
+            let text = format_args!(
+                "settlement {number} with {name} of {amount}: refused with the status {status}, and the amount is back; the next one waits {rest}"
+            );
+            tell(rt, Level::Warn, text);
+        }
     }
 
     /// Tells that a settlement is tried again, since the engine of the peer said neither yes nor no.
@@ -94,19 +80,6 @@ impl Notices {
             let name = config.name(peer);
             let text = format_args!("credit {number} of {name}: {amount}");
             tell(rt, Level::Info, text);
-        }
-    }
-}
-
-// The status with which a settlement was refused; 0 where none is kept.
-#[derive(Clone, Copy)]
-struct RefusedWith(u64);
-
-impl Display for RefusedWith {
-    fn fmt<W: fmt::Write>(&self, f: &mut fmt::Formatter<W>) -> fmt::Result {
-        match self.0 {
-            0 => Ok(()),
-            status => write!(f, " with the status {status}"),
         }
     }
 }

@@ -7,10 +7,10 @@
 
 mod accepting;
 mod actors;
-mod ending;
+mod deeds;
 mod fault;
+mod intakes;
 mod open_files;
-mod outcome;
 mod pauses;
 mod places;
 mod printing;

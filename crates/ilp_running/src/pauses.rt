@@ -2,6 +2,7 @@
 ghost use Rattle.std.specs.Prelude.{◌≡◌, ◌+◌, ◌-◌, ◌^◌, min};
 ghost use Rattle.ilp_running.specs.Pauses.{pause_after};
 
+use ilp_notices::doubled;
 use std::alloc::{AllocError, Global};
 
 // The first pause of a peer, in milliseconds.
@@ -67,13 +68,13 @@ impl Pauses {
     }
 }
 
-// The pause that follows one of this length.
+// The pause that follows one of this length, which is 0 where there was none.
 fn pause_after(length: u64) -> u64
     ensures { result ≡ pause_after length }
 {
     if length == 0 {
         FIRST
     } else {
-        length.saturating_mul(2).min(LONGEST)
+        doubled(length, LONGEST)
     }
 }

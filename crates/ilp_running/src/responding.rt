@@ -2,7 +2,7 @@
 
 use crate::accepting::Job;
 use crate::actors::Responder;
-use crate::outcome::{Booked, tell_outcome};
+use crate::deeds::{count_reject, tell_deed};
 use crate::threads::Shared;
 use crossbeam_channel::Receiver;
 use ilp_desk::{Desk, End, Naming};
@@ -32,11 +32,11 @@ pub(crate) fn serve_connections<
     let rt = shared.rt;
     for job in jobs.iter(rt) {
         let kind = job.connection.kind;
-        if !shared.ending.is_over(rt) {
+        if !shared.intakes.is_over(rt) {
             serve_job(&shared, &mut responder, job);
         }
         let held_back = shared.places.give_back_served(rt, kind);
-        shared.ending.look_again(held_back);
+        shared.intakes.look_again(held_back);
     }
     let Responder { worker, buffer: _ } = responder;
     worker.into_end()
@@ -54,25 +54,18 @@ fn serve_job<
     R: Wait + time::Clock + Eprint,
 >(shared: &Shared<'_, J, R>, responder: &mut Responder<J, C, U, E>, job: Job) {
     let rt = shared.rt;
-    let booked = Booked::of(&responder.worker);
     let handled = serve_connection(rt, shared.desk, responder, &job);
     let Job { side, connection } = job;
     match handled {
-        Handled::Close => shared.ending.close(rt),
-        Handled::Done(status) => {
-            tell_outcome(
-                shared,
-                &responder.worker,
-                booked,
-                side,
-                connection.kind,
-                status,
-            )
+        Handled::Close => shared.intakes.close(rt),
+        Handled::Done { deed, status: _ } => {
+            tell_deed(shared, deed);
+            count_reject(shared, deed);
         }
-        _ => {}
+        Handled::Fault { deed, fault: _ } => tell_deed(shared, deed),
     }
     if connection.refused {
-        shared.ending.linger(rt, side, connection.stream);
+        shared.intakes.linger(rt, side, connection.stream);
     }
 }
 

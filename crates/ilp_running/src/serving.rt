@@ -8,8 +8,8 @@ ghost use Rattle.ilp_running.specs.Serving.{desk_of, ClosesDesk, IsClosed, Print
 
 use crate::accepting::Acceptor;
 use crate::actors::actors_of;
-use crate::ending::{Ending, ending_after};
 use crate::fault::{ServeFault, Unprinted};
+use crate::intakes::{Intakes, ending_after};
 use crate::open_files::{open_files, waiting_by, wanted};
 use crate::places::Places;
 use crate::printing::tell_report;
@@ -68,7 +68,7 @@ where
     let sides = open_sides(rt, config)?;
     let blanks = Blank::new(u64::from(config.workers()) + 2);
     let closed = serve_desk::<Brand, R, L>(rt, config, book, blanks, links, sides)?;
-    match print_report(rt, &closed, writer) {
+    match write_report(rt, &closed, writer) {
         Ok(()) => Ok(closed),
         Err(fault) => Err(fault),
     }
@@ -78,7 +78,7 @@ where
 #[derive(Drop)]
 struct Sides {
     acceptors: Acceptors,
-    ending: Ending,
+    intakes: Intakes,
     // How many files the process may have open, where the system says so.
     open_files: Option<u64>,
 }
@@ -101,7 +101,7 @@ where
     let after = ending_after(config.max_hold_ms());
     Ok(Sides {
         acceptors: Acceptors { peers, engines },
-        ending: Ending::new(peer_handle, engine_handle, after),
+        intakes: Intakes::new(peer_handle, engine_handle, after),
         open_files,
     })
 }
@@ -199,7 +199,7 @@ where
     let seen = Seen::new();
     let Sides {
         acceptors,
-        ending,
+        intakes,
         open_files,
     } = sides;
     tell_start(rt, config, open_files);
@@ -207,7 +207,7 @@ where
         rt,
         desk,
         places: &places,
-        ending: &ending,
+        intakes: &intakes,
         notices: links.notices(),
         seen: &seen,
     };
@@ -246,9 +246,9 @@ fn close_desk<J: Naming>(
     }
 }
 
-// Prints the report of a book. Nothing is printed where memory is denied. Where a write fails the report
+// Writes the report of a book. Nothing is written where memory is denied. Where a write fails the report
 // is told on standard error.
-fn print_report<R: Clock + Eprint, W: Sink>(
+fn write_report<R: Clock + Eprint, W: Sink>(
     rt: &R,
     book: &Book,
     writer: &mut W,

@@ -3,8 +3,8 @@ ghost use denote.Param.Send.{IsSend, IsSync};
 
 use crate::accepting::{Acceptor, Job, accept_all};
 use crate::actors::{Actors, Responder, Turning};
-use crate::ending::Ending;
 use crate::fault::Unprinted;
+use crate::intakes::Intakes;
 use crate::places::Places;
 use crate::responding::serve_connections;
 use crate::shutdown::{KeepRunning, Shutdown, shutdown_pair};
@@ -34,7 +34,7 @@ pub(crate) struct Shared<'a, J: Naming, R> {
     pub(crate) rt: &'a R,
     pub(crate) desk: &'a Desk<J>,
     pub(crate) places: &'a Places,
-    pub(crate) ending: &'a Ending,
+    pub(crate) intakes: &'a Intakes,
     pub(crate) notices: &'a Notices,
     pub(crate) seen: &'a Seen,
 }
@@ -46,7 +46,7 @@ impl<'a, J: Naming, R> Shared<'a, J, R> {
             rt: self.rt,
             desk: self.desk,
             places: self.places,
-            ending: self.ending,
+            intakes: self.intakes,
             notices: self.notices,
             seen: self.seen,
         }
@@ -209,7 +209,7 @@ where
     match scope.spawn(move || accept_all(rt, desk, places, engines, engine_jobs)) {
         Ok(thread) => thread.join(rt),
         Err(_) => {
-            shared.ending.close_intakes();
+            shared.intakes.accept_no_more();
             return Err(Unprinted::Spawn);
         }
     }

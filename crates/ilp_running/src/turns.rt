@@ -4,9 +4,9 @@ use crate::pauses::Pauses;
 use crate::shutdown::Shutdown;
 use crate::threads::Shared;
 use ilp_book::AskFault;
-use ilp_desk::{Desk, End, Naming, Recorded};
+use ilp_desk::{Desk, End, Naming};
 use ilp_settler::{Settler, Sweeper, Turn};
-use ilp_workers::{Clock, EngineLink};
+use ilp_workers::{Clock, EngineLink, EngineReply};
 use std::io::Eprint;
 use std::sync::Wait;
 use std::time;
@@ -99,37 +99,29 @@ where
         Turn::NoAccount => {}
         Turn::Idle(AskFault::Full) => shared.seen.note_full(),
         Turn::Idle(_) => {}
-        Turn::Kept { number } => notices.settlement_kept_open(rt, config, peer, number),
+        Turn::Kept { number, .. } => notices.settlement_kept_open(rt, config, peer, number),
         Turn::Closed {
             number,
-            accepted: true,
+            amount,
+            said: EngineReply::Accepted,
         } => {
             paused.pauses.accepted(peer);
-            let amount = last_amount(&paused.settler);
             notices.settlement_confirmed(rt, config, peer, number, amount);
         }
         Turn::Closed {
             number,
-            accepted: false,
+            amount,
+            said: EngineReply::Refused { status },
         } => {
             let rest = paused.pauses.refused(peer, milliseconds(rt));
-            let amount = last_amount(&paused.settler);
             let rest = Duration::from_millis(rest);
-            notices.settlement_refused(rt, config, peer, number, amount, rest);
+            notices.settlement_refused(rt, config, peer, number, amount, status, rest);
         }
-    }
-}
-
-// The amount of the settlement that was closed last.
-fn last_amount<J: Naming, C: Clock + Drop, E: EngineLink + Drop>(
-    settler: &Settler<J, C, E>,
-) -> u64 {
-    match settler.records().last() {
-        Some(record) => match record.what {
-            Recorded::Closed { amount, .. } => amount,
-            _ => 0,
-        },
-        None => 0,
+        // No turn closes a settlement by that.
+        Turn::Closed {
+            said: EngineReply::Unknown { .. },
+            ..
+        } => {}
     }
 }
 

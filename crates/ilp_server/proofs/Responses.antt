@@ -12,40 +12,29 @@ use Rattle.ilp_server.specs.declared.served.Served.{Served}
 use Rattle.ilp_server.specs.declared.served.Served.TheVariants as served
 use Rattle.ilp_server.specs.declared.handled.ConnectionFault.{ConnectionFault}
 use Rattle.ilp_server.specs.declared.handled.ConnectionFault.TheVariants as connection_fault
+use Rattle.ilp_server.specs.declared.handled.Deed.{Deed}
+use Rattle.ilp_server.specs.declared.handled.Deed.TheVariants.{Nothing}
 use Rattle.ilp_server.specs.declared.handled.Handled.{Handled}
 use Rattle.ilp_server.specs.declared.handled.Handled.TheVariants.{Done, Close, Fault}
 use Rattle.ilp_server.specs.Serving.{Reply, reply_to}
 use Rattle.ilp_server.specs.Statuses.{unread}
+use Rattle.ilp_server.specs.Deeds.{deed_of}
 use Rattle.ilp_server.specs.Connection.{told_of, IsSentWith, IsWritten, failed_writes_of}
 
 -- a response to an outcome that asks for nothing more is told as it was sent
-pub written_by : (worker : PlainWorker) (outcome done : Result Served NotServed) (old new : Option (List ℕ)) (handled : Handled) (r : Reply)
-    → outcome ≡ done → r ≡ reply_to worker done → told_of done r.status ≡ Done r.status → IsSentWith r old new handled → IsWritten worker outcome old new handled
-written_by worker outcome done old new handled r is same told sent =
-    subst (λ o. IsWritten worker o old new handled) (sym is) (of handled (subst (λ x. IsSentWith x old new handled) same sent))
+pub written_by : (worker : PlainWorker) (outcome done : Result Served NotServed) (old new : Option (List ℕ)) (handled : Handled) (r : Reply) (deed : Deed)
+    → outcome ≡ done → r ≡ reply_to worker done → deed ≡ deed_of outcome → told_of done r.status ≡ Done r.status (deed_of done) → IsSentWith r deed old new handled → IsWritten worker outcome old new handled
+written_by worker outcome done old new handled r deed is same deed_is told sent =
+    subst (λ o. IsWritten worker o old new handled) (sym is)
+    (of handled (subst (λ d. IsSentWith (reply_to worker done) d old new handled) (deed_is ∙ ap deed_of is) (subst (λ x. IsSentWith x deed old new handled) same sent)))
   where
-    told' : told_of done (reply_to worker done).status ≡ Done (reply_to worker done).status
-    told' = subst (λ (x : Reply). told_of done x.status ≡ Done x.status) same told
+    told' : told_of done (reply_to worker done).status ≡ Done (reply_to worker done).status (deed_of done)
+    told' = subst (λ (x : Reply). told_of done x.status ≡ Done x.status (deed_of done)) same told
 
-    of : (h : Handled) → IsSentWith (reply_to worker done) old new h → IsWritten worker done old new h
-    of (Done s) sent = (sent.0, sent.1 ∙ sym told')
+    of : (h : Handled) → IsSentWith (reply_to worker done) (deed_of done) old new h → IsWritten worker done old new h
+    of (Done s d) sent = (sent.0, sent.1 ∙ sym told')
     of Close sent = (sent.0, sent.1 ∙ sym told')
-    of (Fault fault) sent = sent
-
--- the response to a close that was sent whole is told as a close
-pub close_written : (worker : PlainWorker) (outcome : Result Served NotServed) (old new : Option (List ℕ)) (s : Status) → outcome ≡ Ok served.Close → IsSentWith (reply_to worker (Ok served.Close)) old new (Done s)
-    → IsWritten worker outcome old new Close
-close_written worker outcome old new s is sent = subst (λ o. IsWritten worker o old new Close) (sym is) (sent.0, refl)
-
--- one that was not is told as the fault
-pub close_failed : (worker : PlainWorker) (outcome : Result Served NotServed) (old new : Option (List ℕ)) (handled : Handled) → outcome ≡ Ok served.Close
-    → IsSentWith (reply_to worker (Ok served.Close)) old new handled → ((s : Status) → ¬ (handled ≡ Done s)) → IsWritten worker outcome old new handled
-close_failed worker outcome old new handled is sent not_done = subst (λ o. IsWritten worker o old new handled) (sym is) (of handled sent not_done)
-  where
-    of : (h : Handled) → IsSentWith (reply_to worker (Ok served.Close)) old new h → ((s : Status) → ¬ (h ≡ Done s)) → IsWritten worker (Ok served.Close) old new h
-    of (Done s) sent not_done = absurd (not_done s refl)
-    of Close sent not_done = absurd (not_done status.Ok sent.1)
-    of (Fault fault) sent not_done = sent
+    of (Fault fault d) sent = sent
 
 -- where nothing is written no write fails
 pub none_failed : (count : Option ℕ) → CountsUp count count 0
@@ -53,13 +42,13 @@ none_failed None = tt
 none_failed (Some n) = omega arith
 
 -- where nothing was read that is answered no write failed
-pub none_failed_unread : (fault : RequestFault) (f : ConnectionFault) (count : Option ℕ) → unread fault ≡ Err f → CountsUp count count (failed_writes_of (Fault f))
+pub none_failed_unread : (fault : RequestFault) (f : ConnectionFault) (count : Option ℕ) → unread fault ≡ Err f → CountsUp count count (failed_writes_of (Fault f Nothing))
 none_failed_unread fault f count is = subst (CountsUp count count) (sym (none fault f is)) (none_failed count)
   where
-    at : (done f : ConnectionFault) → failed_writes_of (Fault done) ≡ 0 → ◌≡◌ {A = Result NotServed ConnectionFault} (Err done) (Err f) → failed_writes_of (Fault f) ≡ 0
-    at done f none e = let same : done ≡ f = cc in subst (λ x. failed_writes_of (Fault x) ≡ 0) same none
+    at : (done f : ConnectionFault) → failed_writes_of (Fault done Nothing) ≡ 0 → ◌≡◌ {A = Result NotServed ConnectionFault} (Err done) (Err f) → failed_writes_of (Fault f Nothing) ≡ 0
+    at done f none e = let same : done ≡ f = cc in subst (λ x. failed_writes_of (Fault x Nothing) ≡ 0) same none
 
-    none : (fault : RequestFault) (f : ConnectionFault) → unread fault ≡ Err f → failed_writes_of (Fault f) ≡ 0
+    none : (fault : RequestFault) (f : ConnectionFault) → unread fault ≡ Err f → failed_writes_of (Fault f Nothing) ≡ 0
     none (request_fault.Refused refusal) f is = absurd cc
     none request_fault.Failed f is = at connection_fault.Read f refl is
     none request_fault.TooManyReads f is = at connection_fault.Read f refl is

@@ -18,9 +18,12 @@ use Rattle.ilp_server.specs.declared.served.Served.{Served}
 use Rattle.ilp_server.specs.declared.served.Served.TheVariants as served
 use Rattle.ilp_server.specs.declared.handled.ConnectionFault.{ConnectionFault}
 use Rattle.ilp_server.specs.declared.handled.ConnectionFault.TheVariants as connection_fault
+use Rattle.ilp_server.specs.declared.handled.Deed.{Deed}
+use Rattle.ilp_server.specs.declared.handled.Deed.TheVariants.{Nothing}
 use Rattle.ilp_server.specs.declared.handled.Handled.{Handled}
 use Rattle.ilp_server.specs.declared.handled.Handled.TheVariants.{Done, Close, Fault}
 use Rattle.ilp_server.specs.Statuses.{unread}
+use Rattle.ilp_server.specs.Deeds.{deed_of}
 use Rattle.ilp_server.specs.Serving.{Reply, reply_to, inquiry, Serves}
 
 -- ---- what is served
@@ -39,30 +42,32 @@ IsOutcome desk side (Err fault) before after (Err none) = (unread fault ≡ Err 
 unfoldable pub response_octets : Reply → List ℕ
 response_octets reply = response_text reply.status reply.kind reply.body
 
--- The response was written whole, and its status is told; or a write failed before its end.
-abbrev pub IsSentWith : Reply → Option (List ℕ) → Option (List ℕ) → Handled → Type 0
-IsSentWith reply old new (Fault fault) = (fault ≡ connection_fault.Write) × AppendsProperPrefix old new (response_octets reply)
-IsSentWith reply old new handled = Appends old new (response_octets reply) × (handled ≡ Done reply.status)
+-- The response was written whole, and its status is told; or a write failed before its end. In either case it is told what was done.
+abbrev pub IsSentWith : Reply → Deed → Option (List ℕ) → Option (List ℕ) → Handled → Type 0
+IsSentWith reply done old new (Fault fault deed) =
+    (fault ≡ connection_fault.Write) × AppendsProperPrefix old new (response_octets reply) × (deed ≡ done)
+IsSentWith reply done old new handled = Appends old new (response_octets reply) × (handled ≡ Done reply.status done)
 
--- what is told of a response that was written whole: a close, or its status
+-- what is told of a response that was written whole: a close, or its status and what was done
 abbrev pub told_of : Result Served NotServed → Status → Handled
 told_of (Ok served.Close) status = Close
-told_of outcome status = Done status
+told_of outcome status = Done status (deed_of outcome)
 
--- The response was written whole, and this is told of it; or a write failed before its end.
+-- The response was written whole, and this is told of it; or a write failed before its end, and it is told what was done.
 abbrev pub IsWritten : PlainWorker → Result Served NotServed → Option (List ℕ) → Option (List ℕ) → Handled → Type 0
-IsWritten worker outcome old new (Fault fault) = (fault ≡ connection_fault.Write) × AppendsProperPrefix old new (response_octets (reply_to worker outcome))
+IsWritten worker outcome old new (Fault fault deed) =
+    (fault ≡ connection_fault.Write) × AppendsProperPrefix old new (response_octets (reply_to worker outcome)) × (deed ≡ deed_of outcome)
 IsWritten worker outcome old new handled =
     Appends old new (response_octets (reply_to worker outcome)) × (handled ≡ told_of outcome (reply_to worker outcome).status)
 
--- Where there is nothing to answer nothing is written.
+-- Where there is nothing to answer nothing is written, and nothing was done.
 abbrev pub IsHandled : PlainWorker → Result (Result Served NotServed) ConnectionFault → Option (List ℕ) → Option (List ℕ) → Handled → Type 0
 IsHandled worker (Ok outcome) old new handled = IsWritten worker outcome old new handled
-IsHandled worker (Err fault) old new handled = (handled ≡ Fault fault) × (new ≡ old)
+IsHandled worker (Err fault) old new handled = (handled ≡ Fault fault Nothing) × (new ≡ old)
 
 -- how many writes failed
 abbrev pub failed_writes_of : Handled → ℕ
-failed_writes_of (Fault connection_fault.Write) = 1
+failed_writes_of (Fault connection_fault.Write deed) = 1
 failed_writes_of handled = 0
 
 -- ---- a connection

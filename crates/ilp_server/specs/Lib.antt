@@ -1,9 +1,7 @@
 pub mod Targets
 pub mod Fields
 pub mod Statuses
-pub mod Requests
-pub mod Exchange
-pub mod Replies
+pub mod Deeds
 pub mod Serving
 pub mod Connection
 pub mod Work

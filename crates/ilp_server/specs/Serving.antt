@@ -6,11 +6,13 @@ use Rattle.ilp_http.specs.declared.status.Status.{Status}
 use Rattle.ilp_http.specs.declared.status.Status.TheVariants as status
 use Rattle.ilp_http.specs.declared.status.Kind.{Kind}
 use Rattle.ilp_http.specs.declared.status.Kind.TheVariants as kind
+use Rattle.ilp_oer.specs.Octets.{OctetsWithRoom}
 use Rattle.ilp_settlement.specs.declared.quantity.Quantity.{Quantity}
 use Rattle.ilp_settlement.specs.declared.quantity.QuantityFault.{QuantityFault}
 use Rattle.ilp_settlement.specs.declared.quantity.QuantityFault.TheVariants as quantity_fault
 use Rattle.ilp_settlement.specs.Quantity.{quantity_in, quantity_text}
 use Rattle.ilp_book.specs.declared.calls.Kept.{Kept}
+use Rattle.ilp_book.specs.declared.fault.CreditFault.{CreditFault}
 use Rattle.ilp_book.specs.Configured.{scale_at}
 use Rattle.ilp_book.specs.SettleStep.{payment}
 use Rattle.ilp_book.specs.Book.{PlainBook}
@@ -64,8 +66,8 @@ bare s = reply s kind.Text []
 -- The response to what became of a request: the octets by which a worker answers the packet, the quantity that was credited, what
 -- the peer's engine answered, the report, or nothing but a status.
 abbrev pub reply_to : PlainWorker → Result Served NotServed → Reply
-reply_to worker (Ok Packet) = reply status.Ok kind.OctetStream worker.reply
-reply_to worker (Ok (Settlement text)) = reply status.Created kind.Json text.octets
+reply_to worker (Ok (Packet peer rejected)) = reply status.Ok kind.OctetStream worker.reply
+reply_to worker (Ok (Settlement peer kept text)) = reply status.Created kind.Json text.octets
 reply_to worker (Ok Message) = reply status.Created kind.OctetStream (unwrap_or (peer_answer_of (Some worker.reply)) [])
 reply_to worker (Ok (Report text)) = reply status.Ok kind.Text text.items
 reply_to worker (Ok Close) = bare status.Ok
@@ -78,9 +80,9 @@ abbrev pub IsTurnedAway : NotServed → PlainWorker → PlainWorker → Result S
 IsTurnedAway why before after outcome = (outcome ≡ Err why) × (after ≡ before)
 
 -- the outcome for a packet that was forwarded, or was none
-abbrev pub packet_outcome : Result Receipt BadPacket → Result Served NotServed
-packet_outcome (Ok receipt) = Ok Packet
-packet_outcome (Err fault) = Err (unserved.Packet fault)
+abbrev pub packet_outcome : ℕ → Result Receipt BadPacket → Result Served NotServed
+packet_outcome peer (Ok receipt) = Ok (Packet peer receipt.rejected)
+packet_outcome peer (Err fault) = Err (unserved.Packet fault)
 
 -- A packet: without a token of a peer it is turned away; else the body is forwarded, as the packet of the peer whose token it is.
 abbrev pub ServesPacket : PlainDesk → Entries FieldValue → List ℕ → PlainWorker → PlainWorker → Result Served NotServed → Type 0
@@ -88,25 +90,30 @@ ServesPacket desk headers body before after outcome =
     let shown = values_in headers (codes "authorization") in
     (((peer : ℕ) → ¬ (IsFrom desk.config shown peer)) × IsTurnedAway unserved.UnknownSender before after outcome)
     ⊎ ((peer : ℕ) × IsFrom desk.config shown peer × (receipt : Result Receipt BadPacket)
-    × Forwards (arrival desk peer body) before after receipt × (outcome ≡ packet_outcome receipt))
+    × Forwards (arrival desk peer body) before after receipt × (outcome ≡ packet_outcome peer receipt))
 
 -- Why a body is no quantity: memory to read it was denied, or this is its first fault.
 abbrev pub IsNoQuantity : List ℕ → QuantityFault → Type 0
 IsNoQuantity body fault = (fault ≡ quantity_fault.Memory) ⊎ (quantity_in body ≡ Err fault)
 
--- With a key, by the outcome. Where the body is a quantity it is credited under the key, and what is answered is the amount that is
--- kept under it, at the scale of the peer's balance; or memory for that answer was denied, and no book was asked.
+-- the outcome of a payment that is credited, which answers the amount that is kept under its key, at the scale of the peer's
+-- balance; or that is refused
+abbrev pub IsCreditOutcome : PlainDesk → ℕ → Result Kept CreditFault → Result Served NotServed → Type 0
+IsCreditOutcome desk peer (Ok kept) outcome =
+    (text : OctetsWithRoom) × (outcome ≡ Ok (Settlement peer kept text)) × (text.octets ≡ quantity_text kept.amount (scale_at desk.config peer))
+IsCreditOutcome desk peer (Err fault) outcome = outcome ≡ Err (unserved.Credit fault)
+
+-- A quantity under a key: there is no memory for its answer; or it is credited, with its outcome.
+abbrev pub ServesQuantity : PlainDesk → ℕ → List ℕ → Quantity → PlainWorker → PlainWorker → Result Served NotServed → Type 0
+ServesQuantity desk peer key quantity before after outcome =
+    IsTurnedAway unserved.Memory before after outcome
+    ⊎ ((credit : Result Kept CreditFault) × Credits desk (payment peer key quantity) before after credit × IsCreditOutcome desk peer credit outcome)
+
+-- A body under a key: what is no quantity is turned away.
 abbrev pub ServesPayment : PlainDesk → ℕ → List ℕ → List ℕ → PlainWorker → PlainWorker → Result Served NotServed → Type 0
-ServesPayment desk peer key body before after (Ok (Settlement text)) =
-    (quantity : Quantity) × (quantity_in body ≡ Ok quantity) × (kept : Kept) × Credits desk (payment peer key quantity) before after (Ok kept)
-    × (text.octets ≡ quantity_text kept.amount (scale_at desk.config peer))
-ServesPayment desk peer key body before after (Ok other) = ⊥
-ServesPayment desk peer key body before after (Err (unserved.Quantity fault)) = IsNoQuantity body fault × (after ≡ before)
-ServesPayment desk peer key body before after (Err unserved.Memory) =
-    (quantity : Quantity) × (quantity_in body ≡ Ok quantity) × (after ≡ before)
-ServesPayment desk peer key body before after (Err (unserved.Credit fault)) =
-    (quantity : Quantity) × (quantity_in body ≡ Ok quantity) × Credits desk (payment peer key quantity) before after (Err fault)
-ServesPayment desk peer key body before after (Err other) = ⊥
+ServesPayment desk peer key body before after outcome =
+    ((fault : QuantityFault) × IsNoQuantity body fault × IsTurnedAway (unserved.Quantity fault) before after outcome)
+    ⊎ ((quantity : Quantity) × (quantity_in body ≡ Ok quantity) × ServesQuantity desk peer key quantity before after outcome)
 
 -- A settlement of a peer: without a key it is turned away.
 abbrev pub ServesSettlement : PlainDesk → ℕ → Entries FieldValue → List ℕ → PlainWorker → PlainWorker → Result Served NotServed → Type 0

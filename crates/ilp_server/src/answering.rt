@@ -1,10 +1,11 @@
 //! Answering a connection: one request, and its response.
 ghost use Rattle.ilp_io.specs.Counts.{CountsUp};
+ghost use Rattle.std.specs.Prelude.{◌≡◌};
 ghost use Rattle.ilp_server.specs.Serving.{reply};
 ghost use Rattle.ilp_server.specs.Connection.{Answers, IsWritten, IsSentWith, failed_writes_of, wire};
 
-use crate::handled::{ConnectionFault, Handled};
-use crate::served::Served;
+use crate::handled::{ConnectionFault, Deed, Handled};
+use crate::served::{Served, deed_of};
 use crate::serving::serve;
 use crate::target::Side;
 use crate::unserved::{NotServed, unread};
@@ -20,8 +21,9 @@ use std::sync::Wait;
 ///
 /// It answers `Done` with the status of the response that was written whole, `Close` in its place
 /// after a close at the side of the engines, and `Fault` where no response was written whole: a write
-/// failed, or nothing was written, since a read failed or memory for the fields was denied. What is
-/// refused, as octets or later, is answered with a status and an empty body, and leaves the worker
+/// failed, or nothing was written, since a read failed or memory for the fields was denied. The deed
+/// is the credit that this request made, or the Reject that the sender of its packet is answered, also
+/// where the response was not written whole. What is refused, as octets or later, is answered with a status and an empty body, and leaves the worker
 /// as it was unless a packet, a credit or a message was tried. What was booked stays, whatever
 /// becomes of the response. `alloc` is for the fields, for a report, and for the JSON of a quantity
 /// and its answer; room for that answer is made before anything is booked.
@@ -55,7 +57,10 @@ pub fn answer_connection<
         }
         Err(fault) => match unread(fault) {
             Ok(why) => respond(worker, sink, Err(why)),
-            Err(fault) => Handled::Fault(fault),
+            Err(fault) => Handled::Fault {
+                fault,
+                deed: Deed::Nothing,
+            },
         },
     }
 }
@@ -72,33 +77,42 @@ fn respond<
     ensures written { IsWritten worker.now outcome (W.contents sink.old) (W.contents sink.new) result }
     ensures failed { CountsUp (W.failures sink.old) (W.failures sink.new) (failed_writes_of result) }
 {
+    let deed = deed_of(&outcome);
     match outcome {
-        Ok(Served::Packet) => send(sink, Status::Ok, Kind::OctetStream, worker.reply()),
-        Ok(Served::Settlement(text)) => { send(sink, Status::Created, Kind::Json, text.as_slice()) }
+        Ok(Served::Packet { .. }) => {
+            send(sink, Status::Ok, Kind::OctetStream, worker.reply(), deed)
+        }
+        Ok(Served::Settlement { text, .. }) => {
+            send(sink, Status::Created, Kind::Json, text.as_slice(), deed)
+        }
         Ok(Served::Message) => send(
             sink,
             Status::Created,
             Kind::OctetStream,
             worker.message_answer(),
+            deed,
         ),
-        Ok(Served::Report(text)) => send(sink, Status::Ok, Kind::Text, text.as_slice()),
-        Ok(Served::Close) => match send(sink, Status::Ok, Kind::Text, &[]) {
-            Handled::Done(_) => Handled::Close,
+        Ok(Served::Report(text)) => send(sink, Status::Ok, Kind::Text, text.as_slice(), deed),
+        Ok(Served::Close) => match send(sink, Status::Ok, Kind::Text, &[], deed) {
+            Handled::Done { .. } => Handled::Close,
             other => other,
         },
-        Err(why) => send(sink, why.status(), Kind::Text, &[]),
+        Err(why) => send(sink, why.status(), Kind::Text, &[], deed),
     }
 }
 
-// Writes one response.
+// Writes one response, to a request by which this was done.
 #[tactic(auto, unfolding(crate::specs::Connection::response_octets))]
-fn send<W: Sink>(sink: &mut W, status: Status, kind: Kind, body: &[u8]) -> Handled
-    ensures written { IsSentWith (reply status kind body.now)
+fn send<W: Sink>(sink: &mut W, status: Status, kind: Kind, body: &[u8], deed: Deed) -> Handled
+    ensures written { IsSentWith (reply status kind body.now) deed
         (W.contents sink.old) (W.contents sink.new) result }
     ensures failed { CountsUp (W.failures sink.old) (W.failures sink.new) (failed_writes_of result) }
 {
     match write_response(sink, status, kind, body) {
-        Ok(()) => Handled::Done(status),
-        Err(_) => Handled::Fault(ConnectionFault::Write),
+        Ok(()) => Handled::Done { status, deed },
+        Err(_) => Handled::Fault {
+            fault: ConnectionFault::Write,
+            deed,
+        },
     }
 }

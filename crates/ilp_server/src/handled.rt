@@ -1,18 +1,31 @@
 //! What became of a connection.
 
 use ilp_http::Status;
+use ilp_workers::ToldReject;
 use thiserror::Error;
 
-/// What became of a connection. What was booked stays, whatever became of it.
+/// What became of a connection. What was done stays done, whatever became of it.
 #[derive(Clone, Copy, Debug, PartialEq, Eq)]
 pub enum Handled {
     /// One response with this status was written.
-    Done(Status),
+    Done { status: Status, deed: Deed },
     /// One response with the status 200 was written, to a request that asks for the connector to
     /// close.
     Close,
     /// None was written whole.
-    Fault(ConnectionFault),
+    Fault { fault: ConnectionFault, deed: Deed },
+}
+
+/// What a request brought about that an operator is told of.
+#[derive(Clone, Copy, Debug, PartialEq, Eq)]
+pub enum Deed {
+    /// Nothing of that kind.
+    Nothing,
+    /// A settlement of the peer was credited by the entry of this number, with so many units of the
+    /// peer's asset. One that had been credited before is none.
+    Credited { peer: u32, number: u32, amount: u64 },
+    /// The peer is answered this Reject for its packet.
+    Rejected { peer: u32, reject: ToldReject },
 }
 
 /// Why no response was written whole.

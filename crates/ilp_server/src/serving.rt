@@ -61,7 +61,10 @@ fn serve_packet<J: Naming, C: Clock + Drop, U: Uplink + Drop, E: EngineLink + Dr
         return Err(NotServed::UnknownSender);
     };
     match worker.forward(rt, desk, peer, request.body) {
-        Ok(_) => Ok(Served::Packet),
+        Ok(receipt) => Ok(Served::Packet {
+            peer,
+            rejected: receipt.rejected,
+        }),
         Err(fault) => Err(NotServed::Packet(fault)),
     }
 }
@@ -120,7 +123,7 @@ fn serve_payment<J: Naming, C: Clock + Drop, U: Uplink + Drop, E: EngineLink + D
     match worker.credit(rt, desk, peer, key, &quantity) {
         Ok(kept) => {
             put_quantity(&mut text, kept.amount, desk.config().scale(peer));
-            Ok(Served::Settlement(text))
+            Ok(Served::Settlement { peer, kept, text })
         }
         Err(fault) => Err(NotServed::Credit(fault)),
     }

@@ -1,5 +1,5 @@
 -- What a settler learns of its sessions: how many entries each booked.
-use Rattle.std.proofs.Common.{◌≡◌, ℕ, ℤ, Bool, List, ◌++◌, Option, Some, None, refl, sym, ap, ◌∙◌}
+use Rattle.std.proofs.Common.{◌≡◌, ℕ, ℤ, List, ◌++◌, Option, Some, None, refl, sym, ap, ◌∙◌}
 use Rattle.std.specs.Prelude.{Result, Ok, Err}
 use Rattle.ilp_journal.specs.declared.entry.Ask.{Ask}
 use Rattle.ilp_journal.specs.Journal.{open_ask_at}
@@ -7,13 +7,15 @@ use Rattle.ilp_book.specs.declared.calls.Asked.{Asked}
 use Rattle.ilp_book.specs.declared.fault.AskFault.{AskFault}
 use Rattle.ilp_book.specs.declared.fault.NotOpen.{NotOpen}
 use Rattle.ilp_book.specs.Book.{PlainBook, By, by, Growth, granted, denied, Does}
-use Rattle.ilp_book.specs.SettleStep.{ask_checked, ask_booked, ask_growth, ask_step, EngineVerdict, verdict_of, close_booked, close_step}
+use Rattle.ilp_settlement.specs.declared.verdict.EngineVerdict.{EngineVerdict}
+use Rattle.ilp_book.specs.SettleStep.{ask_checked, ask_booked, ask_growth, ask_step, close_booked, close_step}
 use Rattle.ilp_desk.specs.Desk.{PlainDesk}
 use Rattle.ilp_desk.specs.Portion.{Portion, Holding}
 use Rattle.ilp_settler.specs.declared.turn.Turn.{Turn}
-use Rattle.ilp_workers.specs.Links.{Tells}
+use Rattle.ilp_link_traits.specs.declared.links.EngineReply.{EngineReply}
+use Rattle.ilp_link_traits.specs.Links.{Tells}
 use Rattle.ilp_settler.specs.Settler.{IsAskedAt, asks_of, IsAsking, IsClosedAt, closings_of, kept_of_close, turn_of_close, IsClosing}
-use Rattle.ilp_workers.proofs.Sessions.{raised_by, count_in, booked_more}
+use Rattle.ilp_desk.proofs.Raising.{raised_by, count_in, booked_more}
 
 -- ---- steps
 
@@ -54,13 +56,13 @@ asking_by desk peer moments moments' before after now reply asked at =
     }
 
 -- a book was told what the engine said, at a moment that the clock gave, and what is kept of it
-pub closing_by : (desk : PlainDesk) (peer : ℕ) (a : Asked) (accepted : Bool) (moments moments' : Option (List ℤ)) (before after : Holding) (later : ℤ) (reply : Result ℕ NotOpen) (turn : Turn)
-    → Tells moments later moments' → IsClosedAt desk a.number accepted later before.share after.share reply
-    → after.records ≡ before.records ++ kept_of_close peer a accepted reply → turn ≡ turn_of_close a accepted reply
-    → IsClosing desk peer a accepted moments moments' before after turn
-closing_by desk peer a accepted moments moments' before after later reply turn asked at is turn_is =
+pub closing_by : (desk : PlainDesk) (peer : ℕ) (a : Asked) (said : EngineReply) (verdict : EngineVerdict) (moments moments' : Option (List ℤ)) (before after : Holding) (later : ℤ) (reply : Result ℕ NotOpen) (turn : Turn)
+    → Tells moments later moments' → IsClosedAt desk a.number verdict later before.share after.share reply
+    → after.records ≡ before.records ++ kept_of_close peer a verdict reply → turn ≡ turn_of_close a said reply
+    → IsClosing desk peer a said verdict moments moments' before after turn
+closing_by desk peer a said verdict moments moments' before after later reply turn asked at is turn_is =
     let old = at.0 in
-    let made = close_step old (by before.share.actor later) a.number (verdict_of accepted) in
+    let made = close_step old (by before.share.actor later) a.number verdict in
     let does : Does old at.1 reply made = at.3 in
     record {
       later = later;
@@ -68,7 +70,7 @@ closing_by desk peer a accepted moments moments' before after later reply turn a
       asked = asked;
       booked = at;
       raised = raised_by desk old at.1 before.share after.share (closings_of reply) at.2
-          (booked_more old at.1 reply made (closings_of reply) does (close_counts old (by before.share.actor later) a.number (verdict_of accepted) ∙ ap closings_of (sym does.reply)));
+          (booked_more old at.1 reply made (closings_of reply) does (close_counts old (by before.share.actor later) a.number verdict ∙ ap closings_of (sym does.reply)));
       records = is;
       turn_is = turn_is;
     }

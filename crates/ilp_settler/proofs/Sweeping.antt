@@ -6,7 +6,7 @@ use Rattle.ilp_book.specs.Book.{PlainBook, By, Does, by, entry_by, moment_at}
 use Rattle.ilp_book.specs.AnswerStep.{due, expire_booked, expire_step}
 use Rattle.ilp_desk.specs.Desk.{PlainDesk}
 use Rattle.ilp_desk.specs.Portion.{Portion, portion}
-use Rattle.ilp_workers.specs.Links.{Tells}
+use Rattle.ilp_link_traits.specs.Links.{Tells}
 use Rattle.ilp_settler.specs.Sweeper.{PlainSweeper, IsExpiredAt, swept, Sweeps}
 
 -- shares of one actor are equal where they count as many entries

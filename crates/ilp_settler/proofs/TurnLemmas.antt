@@ -1,18 +1,19 @@
 -- What a turn of the settler comes to once the engine has the account.
-use Rattle.std.proofs.Common.{◌≡◌, ◌≢◌, ℕ, ℤ, Bool, List, Option, Some, None, refl, ap, ◌∙◌, subst}
+use Rattle.std.proofs.Common.{◌≡◌, ◌≢◌, ℕ, ℤ, List, Option, Some, None, refl, ap, ◌∙◌, subst}
 use Rattle.std.specs.Prelude.{Result, Ok, Err}
 use Rattle.ilp_book.specs.declared.calls.Asked.{Asked}
 use Rattle.ilp_book.specs.declared.fault.AskFault.{AskFault}
 use Rattle.ilp_book.specs.declared.fault.AskFault.TheVariants as ask_fault
 use Rattle.ilp_book.specs.declared.fault.NotOpen.{NotOpen}
+use Rattle.ilp_settlement.specs.declared.verdict.EngineVerdict.{EngineVerdict}
 use Rattle.ilp_desk.specs.declared.record.Record.{Record}
 use Rattle.ilp_desk.specs.Desk.{PlainDesk}
 use Rattle.ilp_desk.specs.Portion.{Portion, Holding, holding}
-use Rattle.ilp_workers.specs.declared.links.EngineReply.{EngineReply}
-use Rattle.ilp_workers.specs.Links.{Tells, ToEngine}
+use Rattle.ilp_link_traits.specs.declared.links.EngineReply.{EngineReply}
+use Rattle.ilp_link_traits.specs.Links.{Tells, ToEngine}
 use Rattle.ilp_settler.specs.declared.turn.Turn.{Turn}
 use Rattle.ilp_settler.specs.declared.turn.Turn.TheVariants.{NoAccount, Idle, Kept, Closed}
-use Rattle.ilp_settler.specs.Settler.{PlainSettler, settler, knows_account, with_account, HasAccount, last_tried, with_tried, of_open, IsAsking, IsChoosing, settlement_told, verdict_by, turn_of_close, ClosesBy, TakesUp, IsTakingUp, GoesOn, IsTurn, Turns}
+use Rattle.ilp_settler.specs.Settler.{PlainSettler, settler, knows_account, with_account, HasAccount, last_tried, with_tried, IsAsking, IsChoosing, settlement_told, verdict_by, turn_of_close, ClosesBy, TakesUp, IsTakingUp, GoesOn, IsTurn, Turns}
 
 -- what the settler is once the engine has the account
 pub record IsFound (peer : ℕ) (before known : PlainSettler) : Type 0 where
@@ -31,12 +32,12 @@ asking_before desk peer before known moments share reply found asking =
     (subst (λ s. IsAsking desk peer known.moments moments s share reply) found.share asking)
 
 -- an engine that was asked for a settlement has the account
-closes_with_account : (desk : PlainDesk) (peer : ℕ) (a : Asked) (verdict : Option Bool) (moments moments' : Option (List ℤ)) (before after : Holding) (told : Turn)
-    → ClosesBy desk peer a verdict moments moments' before after told → told ≢ NoAccount
-closes_with_account desk peer a None moments moments' before after told c e = let is : told ≡ Kept a.number = c.turn_is in cc
-closes_with_account desk peer a (Some accepted) moments moments' before after told c e = of c.reply c.turn_is e
+closes_with_account : (desk : PlainDesk) (peer : ℕ) (a : Asked) (said : EngineReply) (verdict : Option EngineVerdict) (moments moments' : Option (List ℤ)) (before after : Holding) (told : Turn)
+    → ClosesBy desk peer a said verdict moments moments' before after told → told ≢ NoAccount
+closes_with_account desk peer a said None moments moments' before after told c e = let is : told ≡ Kept a.number a.amount said = c.turn_is in cc
+closes_with_account desk peer a said (Some verdict) moments moments' before after told c e = of c.reply c.turn_is e
   where
-    of : (r : Result ℕ NotOpen) → told ≡ turn_of_close a accepted r → told ≢ NoAccount
+    of : (r : Result ℕ NotOpen) → told ≡ turn_of_close a said r → told ≢ NoAccount
     of (Ok entry) is e = cc
     of (Err fault) is e = cc
 
@@ -45,15 +46,15 @@ told_turn : {E : Type 0} (desk : PlainDesk) (peer : ℕ) (before after : PlainSe
     → told ≢ NoAccount → IsTurn {E = E} desk peer before after (Ok told) → Turns {E = E} desk peer before after (Ok told)
 told_turn desk peer before after NoAccount other turn = absurd (other refl)
 told_turn desk peer before after (Idle fault) other turn = turn
-told_turn desk peer before after (Kept n) other turn = turn
-told_turn desk peer before after (Closed n accepted) other turn = turn
+told_turn desk peer before after (Kept n amount said) other turn = turn
+told_turn desk peer before after (Closed n amount said) other turn = turn
 
 -- nor does one that takes up what is open tell that there is no account
-taken_with_account : (desk : PlainDesk) (peer : ℕ) (before after : PlainSettler) (engine : Option (List ToEngine)) (fault : AskFault) (share : Portion) (moments : Option (List ℤ)) (told : Turn) (found : Option (ℕ × ℕ))
+taken_with_account : (desk : PlainDesk) (peer : ℕ) (before after : PlainSettler) (engine : Option (List ToEngine)) (fault : AskFault) (share : Portion) (moments : Option (List ℤ)) (told : Turn) (found : Option Asked)
     → TakesUp desk peer before after engine fault share moments told found → told ≢ NoAccount
 taken_with_account desk peer before after engine fault share moments told None t e = let is : told ≡ Idle fault = t.1 in cc
 taken_with_account desk peer before after engine fault share moments told (Some one) t e =
-    closes_with_account desk peer (of_open one) (verdict_by t.said) moments after.moments (holding share before.records) (holding after.share after.records) told t.closed e
+    closes_with_account desk peer one t.said (verdict_by t.said) moments after.moments (holding share before.records) (holding after.share after.records) told t.closed e
 
 -- what a turn for the peer is, once a book was asked and replied
 asked_turn : (E : Type 0) (desk : PlainDesk) (peer : ℕ) (before known between after : PlainSettler) (reply : Result Asked AskFault) (turn : Result Turn E)
@@ -76,10 +77,10 @@ pub settled_turn : (E : Type 0) (desk : PlainDesk) (peer : ℕ) (before known be
     → between.records ≡ known.records → between.engine ≡ known.engine → between.tried ≡ known.tried → after.accounts ≡ known.accounts
     → after.tried ≡ with_tried between.tried peer a.number
     → Tells between.engine (settlement_told desk.config peer a said) after.engine
-    → ClosesBy desk peer a (verdict_by said) between.moments after.moments (holding between.share between.records) (holding after.share after.records) told
+    → ClosesBy desk peer a said (verdict_by said) between.moments after.moments (holding between.share between.records) (holding after.share after.records) told
     → Turns {E = E} desk peer before after (Ok told)
 settled_turn E desk peer before known between after a said told found asking kept engine tried accounts tries handed closed =
-    let Closes : List Record → Type 0 = λ k. ClosesBy desk peer a (verdict_by said) between.moments after.moments (holding between.share k) (holding after.share after.records) told in
+    let Closes : List Record → Type 0 = λ k. ClosesBy desk peer a said (verdict_by said) between.moments after.moments (holding between.share k) (holding after.share after.records) told in
     let goes : GoesOn {E = E} desk peer before after known.engine between.share between.moments (Ok told) (Ok a) = (
       told,
       record {
@@ -90,7 +91,7 @@ settled_turn E desk peer before known between after a said told found asking kep
       },
       refl,
     ) in
-    told_turn {E = E} desk peer before after told (closes_with_account desk peer a (verdict_by said) between.moments after.moments (holding between.share between.records) (holding after.share after.records) told closed)
+    told_turn {E = E} desk peer before after told (closes_with_account desk peer a said (verdict_by said) between.moments after.moments (holding between.share between.records) (holding after.share after.records) told closed)
     (asked_turn E desk peer before known between after (Ok a) (Ok told) found asking accounts goes)
 
 -- what a settlement is taken up with rests on records, engine and what was tried alone
@@ -103,7 +104,7 @@ taking_before desk peer before between after engine fault told kept tried same t
   taken = of taking.found taking.taken;
 }
   where
-    of : (found : Option (ℕ × ℕ)) → TakesUp desk peer between after between.engine fault between.share between.moments told found → TakesUp desk peer before after engine fault between.share between.moments told found
+    of : (found : Option Asked) → TakesUp desk peer between after between.engine fault between.share between.moments told found → TakesUp desk peer before after engine fault between.share between.moments told found
     of None t = (
       record {
         same = t.0.same ∙ (ap (λ r. settler between.share r between.moments between.engine after.accounts between.tried) kept
@@ -114,9 +115,9 @@ taking_before desk peer before between after engine fault told kept tried same t
     )
     of (Some one) t = record {
       said = t.said;
-      handed = subst (λ x. Tells x (settlement_told desk.config peer (of_open one) t.said) after.engine) same t.handed;
-      closed = subst (λ r. ClosesBy desk peer (of_open one) (verdict_by t.said) between.moments after.moments (holding between.share r) (holding after.share after.records) told) kept t.closed;
-      tried = t.tried ∙ ap (λ x. with_tried x peer (of_open one).number) tried;
+      handed = subst (λ x. Tells x (settlement_told desk.config peer one t.said) after.engine) same t.handed;
+      closed = subst (λ r. ClosesBy desk peer one t.said (verdict_by t.said) between.moments after.moments (holding between.share r) (holding after.share after.records) told) kept t.closed;
+      tried = t.tried ∙ ap (λ x. with_tried x peer one.number) tried;
     }
 
 -- a turn by which an open settlement is taken up, if there is one

@@ -9,17 +9,19 @@ use Rattle.ilp_book.specs.declared.fault.AskFault.TheVariants as ask_fault
 use Rattle.ilp_book.specs.declared.fault.NotOpen.{NotOpen}
 use Rattle.ilp_book.specs.Book.{by}
 use Rattle.ilp_book.specs.Configured.{scale_at}
-use Rattle.ilp_book.specs.SettleStep.{ask_growth, ask_step, verdict_of, close_step}
+use Rattle.ilp_settlement.specs.declared.verdict.EngineVerdict.{EngineVerdict}
+use Rattle.ilp_settlement.specs.declared.verdict.EngineVerdict.TheVariants as verdicts
+use Rattle.ilp_book.specs.SettleStep.{ask_growth, ask_step, close_step}
 use Rattle.ilp_desk.specs.declared.record.Record.{Record}
 use Rattle.ilp_desk.specs.declared.record.Recorded.TheVariants as recorded
 use Rattle.ilp_desk.specs.Desk.{PlainDesk}
 use Rattle.ilp_desk.specs.Portion.{Portion, portion, Holding, holding}
 use Rattle.ilp_desk.specs.Session.{IsReplyAt, IsLookAt}
-use Rattle.ilp_workers.specs.declared.links.EngineReply.{EngineReply}
-use Rattle.ilp_workers.specs.declared.links.EngineReply.TheVariants.{Accepted, Refused, Unknown}
+use Rattle.ilp_link_traits.specs.declared.links.EngineReply.{EngineReply}
+use Rattle.ilp_link_traits.specs.declared.links.EngineReply.TheVariants.{Accepted, Refused, Unknown}
 use Rattle.ilp_settler.specs.declared.turn.Turn.{Turn}
 use Rattle.ilp_settler.specs.declared.turn.Turn.TheVariants.{NoAccount, Idle, Kept, Closed}
-use Rattle.ilp_workers.specs.Links.{Tells, ToEngine, asked, asking, settled, settling}
+use Rattle.ilp_link_traits.specs.Links.{Tells, ToEngine, asked, asking, settled, settling}
 
 -- its share, the records of what it booked, what its links tell (the moments of its clock, and what engines were handed), and,
 -- by the peers' places, whose engines are known to have the account, and which settlement the engine was asked for last
@@ -103,19 +105,9 @@ pub record IsAsking (desk : PlainDesk) (peer : ℕ) (moments moments' : Option (
 
 -- ---- choosing an open settlement
 
--- a settlement, by its number and its amount
-abbrev pub of_open : ℕ × ℕ → Asked
-of_open (number, amount) = record { number = number; amount = amount }
-
--- where no open settlement lies behind the last one, the book is looked at for the first of all
-abbrev pub IsNextOr : PlainDesk → ℕ → Option (ℕ × ℕ) → Option (ℕ × ℕ) → Type 0
-IsNextOr desk peer (Some one) found = found ≡ Some one
-IsNextOr desk peer None found = IsLookAt desk peer None found
-
--- The open settlement behind the one that was tried last is found, else the first of all. Each is a look at the book.
-abbrev pub IsChoosing : PlainDesk → ℕ → Option ℕ → Option (ℕ × ℕ) → Type 0
-IsChoosing desk peer None found = IsLookAt desk peer None found
-IsChoosing desk peer (Some last) found = (behind : Option (ℕ × ℕ)) × IsLookAt desk peer (Some last) behind × IsNextOr desk peer behind found
+-- The open settlement behind the one that was tried last is found, else the first of all, in one look at the book.
+abbrev pub IsChoosing : PlainDesk → ℕ → Option ℕ → Option Asked → Type 0
+IsChoosing desk peer tried found = IsLookAt desk peer tried found
 
 -- ---- asking the engine
 
@@ -123,22 +115,22 @@ IsChoosing desk peer (Some last) found = (behind : Option (ℕ × ℕ)) × IsLoo
 abbrev pub settlement_told : Configuration → ℕ → Asked → EngineReply → ToEngine
 settlement_told C peer a said = settled (settling peer (key_text C a.number) a.amount (scale_at C peer) said)
 
--- whether a settlement is closed as accepted or as refused by what the engine said, or not at all
-abbrev pub verdict_by : EngineReply → Option Bool
-verdict_by Accepted = Some true
-verdict_by Refused = Some false
-verdict_by Unknown = None
+-- the verdict on a settlement by what the engine said, if that is one
+abbrev pub verdict_by : EngineReply → Option EngineVerdict
+verdict_by Accepted = Some verdicts.Accepted
+verdict_by (Refused status) = Some verdicts.Refused
+verdict_by (Unknown status) = None
 
 -- ---- closing
 
--- A book of the desk was told at a moment whether the engine accepted a settlement, and this was its reply.
-abbrev pub IsClosedAt : PlainDesk → ℕ → Bool → ℤ → Portion → Portion → Result ℕ NotOpen → Type 0
-IsClosedAt desk number accepted now before after reply =
-    IsReplyAt desk (λ book. close_step book (by before.actor now) number (verdict_of accepted)) before after reply
+-- A book of the desk was told at a moment the engine's verdict on a settlement, and this was its reply.
+abbrev pub IsClosedAt : PlainDesk → ℕ → EngineVerdict → ℤ → Portion → Portion → Result ℕ NotOpen → Type 0
+IsClosedAt desk number verdict now before after reply =
+    IsReplyAt desk (λ book. close_step book (by before.actor now) number verdict) before after reply
 
 -- what the books say of a settlement that was closed by this entry
-abbrev pub record_of_close : ℕ → Asked → Bool → ℕ → Record
-record_of_close peer a accepted entry = record { number = entry; what = recorded.Closed a.number peer a.amount accepted }
+abbrev pub record_of_close : ℕ → Asked → EngineVerdict → ℕ → Record
+record_of_close peer a verdict entry = record { number = entry; what = recorded.Closed a.number peer a.amount verdict }
 
 -- how many entries a reply booked
 abbrev pub closings_of : Result ℕ NotOpen → ℕ
@@ -146,34 +138,34 @@ closings_of (Ok entry) = 1
 closings_of (Err fault) = 0
 
 -- what is kept of a closing
-abbrev pub kept_of_close : ℕ → Asked → Bool → Result ℕ NotOpen → List Record
-kept_of_close peer a accepted (Ok entry) = record_of_close peer a accepted entry ∷ []
-kept_of_close peer a accepted (Err fault) = []
+abbrev pub kept_of_close : ℕ → Asked → EngineVerdict → Result ℕ NotOpen → List Record
+kept_of_close peer a verdict (Ok entry) = record_of_close peer a verdict entry ∷ []
+kept_of_close peer a verdict (Err fault) = []
 
 -- what a turn comes to by a closing: where nothing was open any more, the settlement stays as it is
-abbrev pub turn_of_close : Asked → Bool → Result ℕ NotOpen → Turn
-turn_of_close a accepted (Ok entry) = Closed a.number accepted
-turn_of_close a accepted (Err fault) = Kept a.number
+abbrev pub turn_of_close : Asked → EngineReply → Result ℕ NotOpen → Turn
+turn_of_close a said (Ok entry) = Closed a.number a.amount said
+turn_of_close a said (Err fault) = Kept a.number a.amount said
 
 -- What the engine said is told to a book, at a moment that the clock gives, and share and records are raised by that.
-pub record IsClosing (desk : PlainDesk) (peer : ℕ) (a : Asked) (accepted : Bool) (moments moments' : Option (List ℤ)) (before after : Holding) (turn : Turn) : Type 0 where
+pub record IsClosing (desk : PlainDesk) (peer : ℕ) (a : Asked) (said : EngineReply) (verdict : EngineVerdict) (moments moments' : Option (List ℤ)) (before after : Holding) (turn : Turn) : Type 0 where
   pub later : ℤ
   pub reply : Result ℕ NotOpen
   pub asked : Tells moments later moments'
-  pub booked : IsClosedAt desk a.number accepted later before.share after.share reply
+  pub booked : IsClosedAt desk a.number verdict later before.share after.share reply
   pub raised : after.share ≡ portion before.share.actor (before.share.entries + closings_of reply)
-  pub records : after.records ≡ before.records ++ kept_of_close peer a accepted reply
-  pub turn_is : turn ≡ turn_of_close a accepted reply
+  pub records : after.records ≡ before.records ++ kept_of_close peer a verdict reply
+  pub turn_is : turn ≡ turn_of_close a said reply
 
 -- Nothing was said that a book is told.
-pub record IsLeftOpen (a : Asked) (moments moments' : Option (List ℤ)) (before after : Holding) (turn : Turn) : Type 0 where
+pub record IsLeftOpen (a : Asked) (said : EngineReply) (moments moments' : Option (List ℤ)) (before after : Holding) (turn : Turn) : Type 0 where
   pub asked : moments' ≡ moments
   pub same : after ≡ before
-  pub turn_is : turn ≡ Kept a.number
+  pub turn_is : turn ≡ Kept a.number a.amount said
 
-abbrev pub ClosesBy : PlainDesk → ℕ → Asked → Option Bool → Option (List ℤ) → Option (List ℤ) → Holding → Holding → Turn → Type 0
-ClosesBy desk peer a None moments moments' before after turn = IsLeftOpen a moments moments' before after turn
-ClosesBy desk peer a (Some accepted) moments moments' before after turn = IsClosing desk peer a accepted moments moments' before after turn
+abbrev pub ClosesBy : PlainDesk → ℕ → Asked → EngineReply → Option EngineVerdict → Option (List ℤ) → Option (List ℤ) → Holding → Holding → Turn → Type 0
+ClosesBy desk peer a said None moments moments' before after turn = IsLeftOpen a said moments moments' before after turn
+ClosesBy desk peer a said (Some verdict) moments moments' before after turn = IsClosing desk peer a said verdict moments moments' before after turn
 
 -- ---- turns
 
@@ -197,17 +189,17 @@ pub record IsIdle (before after : PlainSettler) (engine : Option (List ToEngine)
 pub record IsSettling (desk : PlainDesk) (peer : ℕ) (before after : PlainSettler) (engine : Option (List ToEngine)) (a : Asked) (share : Portion) (moments : Option (List ℤ)) (told : Turn) : Type 0 where
   pub said : EngineReply
   pub handed : Tells engine (settlement_told desk.config peer a said) after.engine
-  pub closed : ClosesBy desk peer a (verdict_by said) moments after.moments (holding share before.records) (holding after.share after.records) told
+  pub closed : ClosesBy desk peer a said (verdict_by said) moments after.moments (holding share before.records) (holding after.share after.records) told
   pub tried : after.tried ≡ with_tried before.tried peer a.number
 
 -- an open settlement is taken up where one was found; else the turn tells why none was asked for
-abbrev pub TakesUp : PlainDesk → ℕ → PlainSettler → PlainSettler → Option (List ToEngine) → AskFault → Portion → Option (List ℤ) → Turn → Option (ℕ × ℕ) → Type 0
+abbrev pub TakesUp : PlainDesk → ℕ → PlainSettler → PlainSettler → Option (List ToEngine) → AskFault → Portion → Option (List ℤ) → Turn → Option Asked → Type 0
 TakesUp desk peer before after engine fault share moments told None = IsIdle before after engine share moments × (told ≡ Idle fault)
-TakesUp desk peer before after engine fault share moments told (Some one) = IsSettling desk peer before after engine (of_open one) share moments told
+TakesUp desk peer before after engine fault share moments told (Some a) = IsSettling desk peer before after engine a share moments told
 
 -- A book refused a settlement, and was looked at for one that is open.
 pub record IsTakingUp (desk : PlainDesk) (peer : ℕ) (before after : PlainSettler) (engine : Option (List ToEngine)) (fault : AskFault) (share : Portion) (moments : Option (List ℤ)) (told : Turn) : Type 0 where
-  pub found : Option (ℕ × ℕ)
+  pub found : Option Asked
   pub chosen : IsChoosing desk peer (last_tried before.tried peer) found
   pub taken : TakesUp desk peer before after engine fault share moments told found
 

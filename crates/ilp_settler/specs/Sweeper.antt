@@ -5,7 +5,7 @@ use Rattle.ilp_book.specs.AnswerStep.{expire_step}
 use Rattle.ilp_desk.specs.Desk.{PlainDesk}
 use Rattle.ilp_desk.specs.Portion.{Portion, portion}
 use Rattle.ilp_desk.specs.Session.{IsReplyAt}
-use Rattle.ilp_workers.specs.Links.{Tells}
+use Rattle.ilp_link_traits.specs.Links.{Tells}
 
 -- its share, and the moments that its clock gave, where that tells
 pub record PlainSweeper : Type 0 where

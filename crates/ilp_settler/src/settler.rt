@@ -7,7 +7,7 @@ ghost use Rattle.ilp_settler.specs.Settler.{settler, no_accounts, none_tried, Tu
 use crate::settling::{LONGEST_KEY, MOST_PEERS, SettlerParts};
 use crate::turn::Turn;
 use ilp_desk::{Desk, End, Naming, Record, Share};
-use ilp_workers::{Clock, EngineLink};
+use ilp_link_traits::{Clock, EngineLink};
 use std::alloc::{AllocError, Allocator, Global};
 use std::marker::Model;
 use std::sync::Wait;

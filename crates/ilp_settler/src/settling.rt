@@ -3,15 +3,15 @@ ghost use Rattle.std.specs.Prelude.{◌≡◌, ◌<◌, ◌≤◌, Ok, true, fal
 ghost use Rattle.ilp_accounts.specs.Limits.{most_peers};
 ghost use Rattle.ilp_book.specs.Configured.{IsKnown};
 ghost use Rattle.ilp_desk.specs.Portion.{holding};
-ghost use Rattle.ilp_workers.specs.declared.links.EngineReply.{EngineReply};
-ghost use Rattle.ilp_workers.specs.Links.{Tells};
+ghost use Rattle.ilp_link_traits.specs.declared.links.EngineReply.{EngineReply};
+ghost use Rattle.ilp_link_traits.specs.Links.{Tells};
 ghost use Rattle.ilp_settler.specs.Settler.{settler, longest_key, key_text, knows_account, with_account, account_told, HasAccount, last_tried, with_tried, IsAsking, IsChoosing, IsTakingUp, settlement_told, verdict_by, IsClosing, ClosesBy, record_of_close, Turns};
 
 use crate::turn::Turn;
 use ilp_accounts::Config;
-use ilp_book::{AskFault, Asked};
+use ilp_book::{AskFault, Asked, EngineVerdict};
 use ilp_desk::{Desk, End, Naming, Record, Recorded, Share};
-use ilp_workers::{Clock, EngineLink, EngineReply};
+use ilp_link_traits::{Clock, EngineLink, EngineReply};
 use itoa::Buffer;
 use std::alloc::{AllocError, Allocator, Global};
 use std::sync::Wait;
@@ -82,22 +82,18 @@ impl<J: Naming, C: Clock + Drop, E: EngineLink + Drop, A: Allocator> SettlerPart
         ensures accounts { self.new.accounts ≡ self.old.accounts }
     {
         match self.choose(rt, desk, peer) {
-            Some((number, amount)) => self.carry_out(rt, desk, peer, Asked { number, amount }),
+            Some(asked) => self.carry_out(rt, desk, peer, asked),
             None => Turn::Idle(fault),
         }
     }
 
     // The open settlement behind the one that was tried last, else the first of all.
-    fn choose(&self, rt: &impl Wait, desk: &Desk<J>, peer: u32) -> Option<(u32, u64)>
+    fn choose(&self, rt: &impl Wait, desk: &Desk<J>, peer: u32) -> Option<Asked>
         requires known { IsKnown J.desk.config peer }
         ensures { IsChoosing J.desk peer (last_tried self.now.tried peer) result }
     {
-        if let Some(last) = self.tried[place_of(desk.config(), peer)] {
-            if let Some(open) = desk.open_settlement(rt, peer, Some(last)) {
-                return Some(open);
-            }
-        }
-        desk.open_settlement(rt, peer, None)
+        let tried = self.tried[place_of(desk.config(), peer)];
+        desk.open_settlement(rt, peer, tried)
     }
 
     // Whether the peer's engine has the account: where it did not say so before, it is asked now.
@@ -160,17 +156,19 @@ impl<J: Naming, C: Clock + Drop, E: EngineLink + Drop, A: Allocator> SettlerPart
         ensures settled { (said : EngineReply)
             × Tells (E.told self.old.engine) (settlement_told J.desk.config peer asked said)
             (E.told self.new.engine)
-            × ClosesBy J.desk peer asked (verdict_by said) (C.told self.old.clock)
+            × ClosesBy J.desk peer asked said (verdict_by said) (C.told self.old.clock)
             (C.told self.new.clock) (holding self.old.share self.old.records.items)
             (holding self.new.share self.new.records.items) result }
         ensures accounts { self.new.accounts ≡ self.old.accounts }
         ensures tried { self.new.tried ≡ with_tried self.old.tried peer asked.number }
     {
-        match self.settle(desk.config(), peer, asked) {
-            EngineReply::Accepted => self.close(rt, desk, peer, asked, true),
-            EngineReply::Refused => self.close(rt, desk, peer, asked, false),
-            EngineReply::Unknown => Turn::Kept {
+        let said = self.settle(desk.config(), peer, asked);
+        match verdict_by(said) {
+            Some(verdict) => self.close(rt, desk, peer, asked, said, verdict),
+            None => Turn::Kept {
                 number: asked.number,
+                amount: asked.amount,
+                said,
             },
         }
     }
@@ -182,24 +180,33 @@ impl<J: Naming, C: Clock + Drop, E: EngineLink + Drop, A: Allocator> SettlerPart
         desk: &Desk<J>,
         peer: u32,
         asked: Asked,
-        accepted: bool,
+        said: EngineReply,
+        verdict: EngineVerdict,
     ) -> Turn
         requires room { vec_len self.old.records < vec_capacity self.old.records }
-        ensures closed { IsClosing J.desk peer asked accepted (C.told self.old.clock)
+        ensures closed { IsClosing J.desk peer asked said verdict (C.told self.old.clock)
             (C.told self.new.clock) (holding self.old.share self.old.records.items)
             (holding self.new.share self.new.records.items) result }
         ensures accounts { self.new.accounts ≡ self.old.accounts }
         ensures tried { self.new.tried ≡ self.old.tried }
         ensures engine { self.new.engine ≡ self.old.engine }
     {
-        let number = asked.number;
+        let Asked { number, amount } = asked;
         let later = self.clock.now();
-        let Ok(entry) = desk.settle_close(rt, &mut self.share, number, accepted, later) else {
-            return Turn::Kept { number };
+        let Ok(entry) = desk.settle_close(rt, &mut self.share, number, verdict, later) else {
+            return Turn::Kept {
+                number,
+                amount,
+                said,
+            };
         };
         self.records
-            .push_reserved(record_of(peer, asked, accepted, entry));
-        Turn::Closed { number, accepted }
+            .push_reserved(record_of(peer, asked, verdict, entry));
+        Turn::Closed {
+            number,
+            amount,
+            said,
+        }
     }
 }
 
@@ -210,6 +217,17 @@ impl<J: Naming, C: Clock + Drop, E: EngineLink + Drop> SettlerParts<J, C, E, Glo
     {
         let SettlerParts { share, records, .. } = self;
         End::new(share, records)
+    }
+}
+
+// The verdict on a settlement by what its engine said, if that is one.
+fn verdict_by(said: EngineReply) -> Option<EngineVerdict>
+    ensures { result ≡ verdict_by said }
+{
+    match said {
+        EngineReply::Accepted => Some(EngineVerdict::Accepted),
+        EngineReply::Refused { .. } => Some(EngineVerdict::Refused),
+        EngineReply::Unknown { .. } => None,
     }
 }
 
@@ -245,8 +263,8 @@ fn put_key<A: Allocator>(key: &mut String<A>, config: &Config, number: u32)
 }
 
 // The record of a settlement that was closed by this entry.
-fn record_of(peer: u32, asked: Asked, accepted: bool, entry: u32) -> Record
-    ensures { result ≡ record_of_close peer asked accepted entry }
+fn record_of(peer: u32, asked: Asked, verdict: EngineVerdict, entry: u32) -> Record
+    ensures { result ≡ record_of_close peer asked verdict entry }
 {
     Record {
         number: entry,
@@ -254,7 +272,7 @@ fn record_of(peer: u32, asked: Asked, accepted: bool, entry: u32) -> Record
             ask: asked.number,
             peer,
             amount: asked.amount,
-            accepted,
+            verdict,
         },
     }
 }

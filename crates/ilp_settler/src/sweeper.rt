@@ -4,7 +4,7 @@ ghost use Rattle.ilp_desk.specs.Portion.{holding};
 ghost use Rattle.ilp_settler.specs.Sweeper.{sweeper, Sweeps};
 
 use ilp_desk::{Desk, End, Naming, Record, Share};
-use ilp_workers::Clock;
+use ilp_link_traits::Clock;
 use std::alloc::Global;
 use std::marker::Model;
 use std::sync::Wait;

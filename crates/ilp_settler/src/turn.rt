@@ -1,6 +1,7 @@
 //! What a turn of the settler comes to.
 
 use ilp_book::AskFault;
+use ilp_link_traits::EngineReply;
 
 /// What became of a settlement to a peer (RFC 0038).
 #[derive(Clone, Copy, Debug, PartialEq, Eq)]
@@ -11,9 +12,17 @@ pub enum Turn {
     Idle(AskFault),
     /// The settlement of this number is not closed by this turn: the engine did not say what became
     /// of it, or the book had it open no more when it did. While it is open, later turns try it again
-    /// under the same key.
-    Kept { number: u32 },
-    /// The settlement of this number is closed: the engine accepted it, or refused it, and then the
-    /// peer has its amount back.
-    Closed { number: u32, accepted: bool },
+    /// under the same key. The amount is in units of the peer's asset.
+    Kept {
+        number: u32,
+        amount: u64,
+        said: EngineReply,
+    },
+    /// The settlement of this number is closed by what the engine said: it accepted it, or refused
+    /// it, and then the peer has its amount back. That is in units of the peer's asset.
+    Closed {
+        number: u32,
+        amount: u64,
+        said: EngineReply,
+    },
 }

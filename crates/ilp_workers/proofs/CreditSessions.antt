@@ -29,9 +29,9 @@ use Rattle.ilp_rules.proofs.Standing.{first_found}
 use Rattle.ilp_rules.proofs.Rules.{rule_credits}
 use Rattle.ilp_desk.specs.Desk.{PlainDesk}
 use Rattle.ilp_desk.specs.Portion.{Holding}
-use Rattle.ilp_workers.specs.Links.{Tells}
+use Rattle.ilp_link_traits.specs.Links.{Tells}
 use Rattle.ilp_workers.specs.Crediting.{IsCreditedAt, kept_of, IsCredited}
-use Rattle.ilp_workers.proofs.Sessions.{raised_by, count_in, booked_more}
+use Rattle.ilp_desk.proofs.Raising.{raised_by, count_in, booked_more}
 
 -- ---- credits of a lawful journal
 

@@ -15,8 +15,8 @@ use Rattle.ilp_packet.proofs.ContentLemmas.{length-fulfill}
 use Rattle.ilp_packet.proofs.ReadingLemmas.{reading_spelled, reading_again}
 use Rattle.ilp_packet.proofs.WritingLemmas.{size_by_content}
 use Rattle.ilp_accounts.specs.Configuration.{Configuration}
-use Rattle.ilp_workers.specs.declared.links.LinkFault.{LinkFault}
-use Rattle.ilp_workers.specs.Links.{Tells, Sending, sending, came_of}
+use Rattle.ilp_link_traits.specs.declared.links.LinkFault.{LinkFault}
+use Rattle.ilp_link_traits.specs.Links.{Tells, Sending, sending, came_of}
 use Rattle.ilp_workers.specs.Messaging.{settle_address, message_prepare, message_expiry, zero_preimage, zero_fulfill, peer_answer_in, longest_fulfill, peer_answer_of, IsPassedOn}
 
 -- ---- packets

@@ -1,65 +1,27 @@
 -- What a worker learns of its sessions: how many entries each booked, and what a hold that was accepted is.
-use Rattle.std.proofs.Common.{◌≡◌, ℕ, ◌+◌, ℤ, pos, ◌+ℤ◌, ◌∷◌, [], List, length, Option, Some, None, refl, sym, ap, ◌∙◌, subst, arith, length-append}
+use Rattle.std.proofs.Common.{◌≡◌, ℕ, ◌+◌, ℤ, pos, ◌+ℤ◌, List, Option, Some, None, refl, sym, ap, ◌∙◌, subst, arith}
 use Rattle.std.specs.Prelude.{Result, Ok, Err, ◌≤ℤ◌, int_le, false}
 use Rattle.std.specs.Int.{int_min}
 use Rattle.std.proofs.lemmas.Int.{ints, clamps}
-use Rattle.ilp_journal.specs.declared.entry.Entry.{Entry}
 use Rattle.ilp_book.specs.declared.calls.Held.{Held}
 use Rattle.ilp_book.specs.declared.calls.Outcome.{Outcome}
 use Rattle.ilp_book.specs.declared.calls.PeerReply.{PeerReply}
 use Rattle.ilp_book.specs.declared.fault.HoldFault.{HoldFault}
 use Rattle.ilp_book.specs.declared.fault.NotOpen.{NotOpen}
-use Rattle.ilp_book.specs.Book.{PlainBook, by, Growth, Made, Does, with_entry, moment_at}
+use Rattle.ilp_book.specs.Book.{PlainBook, by, Growth, Does, moment_at}
 use Rattle.ilp_book.specs.HoldStep.{incoming, hold_step, growth_of, latest_answer}
 use Rattle.ilp_book.specs.AnswerStep.{answer_step}
 use Rattle.ilp_book.proofs.HoldSteps.{TermsFacts, Accepts, accepted, refusal_books_nothing}
 use Rattle.ilp_book.proofs.AnswerSteps.{outcome_books_one, not_open_books_nothing}
 use Rattle.ilp_desk.specs.Desk.{PlainDesk, IsBookOf}
 use Rattle.ilp_desk.specs.Portion.{Portion, portion, Holding}
-use Rattle.ilp_desk.specs.Session.{IsSession}
+use Rattle.ilp_desk.proofs.Raising.{raised_by, one_more, no_more, raised_by_none}
 use Rattle.ilp_workers.specs.declared.reply_effect.ReplyEffect.{ReplyEffect}
 use Rattle.ilp_workers.specs.declared.reply_effect.Told.{Told}
-use Rattle.ilp_workers.specs.Links.{Tells}
+use Rattle.ilp_link_traits.specs.Links.{Tells}
 use Rattle.ilp_workers.specs.Forwarding.{Order, IsHeldAt, IsAnsweredAt, IsOnItsWay, within_years, entry_of, count_of, Ends, IsEnded}
 
 -- ---- how many entries were booked
-
--- a share is raised by as many entries as the journal gained
-pub raised_by : (desk : PlainDesk) (old new : PlainBook) (before after : Portion) (n : ℕ) → IsSession desk old new before after → length new.entries ≡ length old.entries + n
-    → after ≡ portion before.actor (before.entries + n)
-raised_by desk old new before after n session more =
-    let entries : after.entries ≡ before.entries + n = omega (arith, session.raised, more) in
-    ap (λ a. portion a after.entries) session.actor ∙ ap (portion before.actor) entries
-
--- a step with an entry books one
-one_more : {R : Type 0} (old new : PlainBook) (reply : R) (made : Made R) (e : Entry) → Does old new reply made → made.entry ≡ Some e → length new.entries ≡ length old.entries + 1
-one_more old new reply made e does is =
-    ap (λ (b : PlainBook). length b.entries) (does.book ∙ ap (with_entry old) is) ∙ length-append old.entries (e ∷ [])
-
--- a step without one books none
-no_more : {R : Type 0} (old new : PlainBook) (reply : R) (made : Made R) → Does old new reply made → made.entry ≡ None → length new.entries ≡ length old.entries + 0
-no_more old new reply made does is =
-    let same = ap (λ (b : PlainBook). length b.entries) (does.book ∙ ap (with_entry old) is) in
-    omega (arith, same)
-
--- how many entries a step makes
-abbrev pub count_in : Option Entry → ℕ
-count_in None = 0
-count_in (Some e) = 1
-
--- a step books as many entries as it makes
-pub booked_more : {R : Type 0} (old new : PlainBook) (reply : R) (made : Made R) (n : ℕ) → Does old new reply made → count_in made.entry ≡ n → length new.entries ≡ length old.entries + n
-booked_more old new reply made n does counted = of made.entry refl counted
-  where
-    of : (o : Option Entry) → made.entry ≡ o → count_in o ≡ n → length new.entries ≡ length old.entries + n
-    of None is e = no_more old new reply made does is ∙ ap (λ k. length old.entries + k) e
-    of (Some x) is e = one_more old new reply made x does is ∙ ap (λ k. length old.entries + k) e
-
--- nothing more is as before
-pub raised_by_none : (before after : Portion) → after ≡ portion before.actor (before.entries + 0) → after ≡ before
-raised_by_none before after e =
-    let none : before.entries + 0 ≡ before.entries = omega arith in
-    e ∙ ap (portion before.actor) none
 
 -- a hold that is accepted is one entry
 pub held_raises : (o : Order) (now : ℤ) (before after : Portion) (held : Held) → IsHeldAt o now before after (Ok held) → after ≡ portion before.actor (before.entries + 1)

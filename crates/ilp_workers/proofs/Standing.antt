@@ -19,7 +19,7 @@ use Rattle.ilp_workers.specs.Worker.{PlainWorker}
 use Rattle.ilp_workers.specs.Forwarding.{Order, order, IsHeldAt, IsForwardedBy}
 use Rattle.ilp_workers.specs.Messaging.{IsForEngine}
 use Rattle.ilp_workers.specs.Arrivals.{Arrival, Forwards}
-use Rattle.ilp_workers.specs.Outcome.{route_refusal, standing_refusal, IsRefusedAs}
+use Rattle.ilp_workers.specs.Outcome.{route_refusal, standing_refusal, IsToldOwn, IsRefusedAs}
 
 -- what comes first refuses, whatever would follow
 refuses : (large : Bool) (max from : ℕ) (route : Option ℕ) (next : ℕ → Result Hold HoldFault) (fault : HoldFault)
@@ -54,15 +54,15 @@ module _ (o : Order) (fault : HoldFault) (standing : standing_refusal o.desk.con
       let refused : Does book book (Err fault) (hold_step book caller (incoming book.config o.from o.packet) (growth_of reply)) = hold_refused book caller (incoming book.config o.from o.packet) (growth_of reply) fault terms in
       does.reply ∙ sym refused.reply
 
-  told : (before after : PlainWorker) (receipt : Receipt) (hold answer : Option ℕ) → receipt.hold ≡ hold → receipt.answer ≡ answer → IsForwardedBy o before after hold answer
+  told : (before after : PlainWorker) (receipt : Receipt) (hold answer : Option ℕ) → receipt.hold ≡ hold → receipt.answer ≡ answer → IsForwardedBy o before after hold answer receipt.rejected
       → IsRefusedAs o.desk after receipt (reject_of_fault o.packet.amount fault)
   told before after receipt None None holds answers refused =
       elim refused.reason [
-        | inl short ↦ record { reply = inr (subst (λ w. Spells after.reply (reject (local_reject o.desk.config w))) short.0 refused.told); holds = holds; answers = answers }
+        | inl short ↦ record { reply = inr (subst (λ w. IsToldOwn o.desk after receipt w) short.0 (refused.told, refused.named)); holds = holds; answers = answers }
         | inr by_book ↦
             let same : by_book.fault ≡ fault = err_is (replies by_book.now before.share after.share (Err by_book.fault) by_book.refused) in
             record {
-              reply = inl (subst (λ w. Spells after.reply (reject (local_reject o.desk.config w))) (by_book.named ∙ ap (reject_of_fault o.packet.amount) same) refused.told);
+              reply = inl (subst (λ w. IsToldOwn o.desk after receipt w) (by_book.named ∙ ap (reject_of_fault o.packet.amount) same) (refused.told, refused.named));
               holds = holds;
               answers = answers;
             }
@@ -85,6 +85,6 @@ refused_as a before after receipt packet fault forwards spells other standing =
     elim forwards.2 [
       | inl forwarded ↦
           told (order a.desk a.from packet) fault standing before after receipt receipt.hold receipt.answer refl refl
-          (subst (λ p. IsForwardedBy (order a.desk a.from p) before after receipt.hold receipt.answer) same forwarded.1)
+          (subst (λ p. IsForwardedBy (order a.desk a.from p) before after receipt.hold receipt.answer receipt.rejected) same forwarded.1)
       | inr messaged ↦ absurd (other (ap (λ (p : PlainPrepare). p.destination) (sym same) ∙ messaged.0))
     ]

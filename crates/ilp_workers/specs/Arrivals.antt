@@ -44,8 +44,8 @@ IsEmpty receipt = (receipt.hold ≡ None) × (receipt.answer ≡ None)
 -- A Prepare to `peer.settle` is for the engine here. Every other is forwarded.
 abbrev pub IsPassed : Order → PlainWorker → PlainWorker → Receipt → Type 0
 IsPassed o before after receipt =
-    ((¬ IsForEngine o.packet) × IsForwardedBy o before after receipt.hold receipt.answer)
-    ⊎ (IsForEngine o.packet × IsMessaged o.desk.config o.from o.packet before after × IsEmpty receipt)
+    ((¬ IsForEngine o.packet) × IsForwardedBy o before after receipt.hold receipt.answer receipt.rejected)
+    ⊎ (IsForEngine o.packet × IsMessaged o.desk.config o.from o.packet before after receipt.rejected × IsEmpty receipt)
 
 -- Octets that are no Prepare leave all as it was.
 abbrev pub Forwards : Arrival → PlainWorker → PlainWorker → Result Receipt BadPacket → Type 0

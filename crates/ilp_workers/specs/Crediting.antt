@@ -12,7 +12,7 @@ use Rattle.ilp_desk.specs.declared.record.Recorded.TheVariants as recorded
 use Rattle.ilp_desk.specs.Desk.{PlainDesk}
 use Rattle.ilp_desk.specs.Portion.{Portion, portion, Holding, holding}
 use Rattle.ilp_desk.specs.Session.{IsReplyAt}
-use Rattle.ilp_workers.specs.Links.{Tells}
+use Rattle.ilp_link_traits.specs.Links.{Tells}
 use Rattle.ilp_workers.specs.Worker.{PlainWorker}
 
 -- A book of the desk was asked at a moment to credit the payment, and this was its reply.

@@ -22,17 +22,21 @@ use Rattle.ilp_book.specs.HoldStep.{incoming, hold_step, growth_of, latest_answe
 use Rattle.ilp_book.specs.AnswerStep.{answer_step}
 use Rattle.ilp_desk.specs.declared.record.Record.{Record}
 use Rattle.ilp_desk.specs.declared.record.Recorded.TheVariants as recorded
-use Rattle.ilp_desk.specs.declared.record.Verdict.{Verdict}
-use Rattle.ilp_desk.specs.declared.record.Verdict.TheVariants.{Fulfilled, Released}
+use Rattle.ilp_desk.specs.declared.record.HoldEnd.{HoldEnd}
+use Rattle.ilp_desk.specs.declared.record.HoldEnd.TheVariants.{Fulfilled, Released}
 use Rattle.ilp_desk.specs.Desk.{PlainDesk}
 use Rattle.ilp_desk.specs.Portion.{Portion, portion, Holding, holding}
 use Rattle.ilp_desk.specs.Session.{IsReplyAt}
 use Rattle.ilp_workers.specs.declared.rejects.LocalReject.{LocalReject}
 use Rattle.ilp_workers.specs.declared.rejects.LocalReject.TheVariants as local
+use Rattle.ilp_workers.specs.declared.rejects.ToldReject.{ToldReject}
+use Rattle.ilp_workers.specs.declared.rejects.ToldReject.TheVariants.{Own, Peer}
 use Rattle.ilp_workers.specs.declared.reply_effect.ReplyEffect.{ReplyEffect}
 use Rattle.ilp_workers.specs.declared.reply_effect.Told.{Told}
-use Rattle.ilp_workers.specs.declared.reply_effect.Told.TheVariants.{Passed, Rejected}
-use Rattle.ilp_workers.specs.Links.{Tells, Sending, sending}
+use Rattle.ilp_workers.specs.declared.reply_effect.Told.TheVariants.{Fulfill, Reject}
+use Rattle.ilp_link_traits.specs.declared.links.ReplyKind.{ReplyKind}
+use Rattle.ilp_link_traits.specs.declared.links.ReplyKind.TheVariants.{Answer, NoAnswer}
+use Rattle.ilp_link_traits.specs.Links.{Tells, Sending, sending}
 use Rattle.ilp_workers.specs.Rejects.{local_reject, reject_of_fault}
 use Rattle.ilp_workers.specs.Worker.{PlainWorker}
 
@@ -102,23 +106,23 @@ pub record IsSentOn (packet : PlainPrepare) (held : Held) (sent sent' : Option (
 
 -- What a reply comes to has three parts: what the book is told, how the hold ends if it is open and in time, and what the sender
 -- is told then.
-abbrev pub effect : PeerReply → Verdict → Told → ReplyEffect
-effect answer verdict told = record { answer = answer; verdict = verdict; told = told }
+abbrev pub effect : PeerReply → HoldEnd → Told → ReplyEffect
+effect answer ended told = record { answer = answer; ended = ended; told = told }
 
 -- of no reply, or of one that is no Fulfill and no Reject
 abbrev pub effect_of_none : ReplyEffect
-effect_of_none = effect peer_reply.NoReply (Released cause.NoReply) (Rejected local.PeerUnreachable)
+effect_of_none = effect peer_reply.NoReply (Released cause.NoReply) (Reject (Own local.PeerUnreachable))
 
 -- of a Fulfill, by the condition that its preimage is to meet
 abbrev pub effect_of_fulfill : List ℕ → List ℕ → ReplyEffect
 effect_of_fulfill condition preimage =
-    if meets condition preimage then effect (peer_reply.Fulfill preimage) Fulfilled Passed
-    else effect peer_reply.BadFulfill (Released cause.WrongPreimage) (Rejected local.WrongCondition)
+    if meets condition preimage then effect (peer_reply.Fulfill preimage) Fulfilled Fulfill
+    else effect peer_reply.BadFulfill (Released cause.WrongPreimage) (Reject (Own local.WrongCondition))
 
 -- of a packet
 abbrev pub effect_of_packet : List ℕ → Result PlainPacket PacketFault → ReplyEffect
 effect_of_packet condition (Ok (fulfill f)) = effect_of_fulfill condition f.preimage
-effect_of_packet condition (Ok (reject r)) = effect (peer_reply.Reject r.code) (Released (cause.Peer r.code)) Passed
+effect_of_packet condition (Ok (reject r)) = effect (peer_reply.Reject r.code) (Released (cause.Peer r.code)) (Reject (Peer r.code))
 effect_of_packet condition (Ok (prepare p)) = effect_of_none
 effect_of_packet condition (Err fault) = effect_of_none
 
@@ -126,6 +130,13 @@ effect_of_packet condition (Err fault) = effect_of_none
 abbrev pub effect_of : List ℕ → Option (List ℕ) → ReplyEffect
 effect_of condition (Some octets) = effect_of_packet condition (reading octets)
 effect_of condition None = effect_of_none
+
+-- what the link is told of the octets that came: whether they are a Fulfill or a Reject
+abbrev pub kind_of : PeerReply → ReplyKind
+kind_of (peer_reply.Fulfill preimage) = Answer
+kind_of peer_reply.BadFulfill = Answer
+kind_of (peer_reply.Reject code) = Answer
+kind_of peer_reply.NoReply = NoAnswer
 
 -- ---- ending
 
@@ -135,7 +146,7 @@ IsAnsweredAt o now hold answer before after reply =
     IsReplyAt o.desk (λ book. answer_step book (by before.actor now) hold answer) before after reply
 
 -- how a hold ended, and the number of the entry that says so
-abbrev pub end_of : Outcome → ℕ × Verdict
+abbrev pub end_of : Outcome → ℕ × HoldEnd
 end_of (outcome.Fulfilled entry) = (entry, Fulfilled)
 end_of (outcome.Released entry c) = (entry, Released c)
 
@@ -150,24 +161,28 @@ count_of None = 0
 count_of (Some n) = 1
 
 -- what the books say of a hold that ended by this entry
-abbrev pub record_of_end : Order → Held → Verdict → ℕ → Record
-record_of_end o held verdict entry = record { number = entry; what = recorded.Answered (record { hold = held.number; from = o.from; to = held.to; amount = o.packet.amount; out = held.out; condition = o.packet.condition; verdict = verdict }) }
+abbrev pub record_of_end : Order → Held → HoldEnd → ℕ → Record
+record_of_end o held ended entry = record { number = entry; what = recorded.Answered (record { hold = held.number; from = o.from; to = held.to; amount = o.packet.amount; out = held.out; condition = o.packet.condition; ended = ended }) }
 
 -- The hold ended by what came back: the sender is told that, and the worker keeps the record.
 abbrev pub EndsInTime : Order → Held → ReplyEffect → ℕ → List Record → List Record → Told → Type 0
-EndsInTime o held c entry kept kept' told = (told ≡ c.told) × (kept' ≡ kept ++ record_of_end o held c.verdict entry ∷ [])
+EndsInTime o held c entry kept kept' told = (told ≡ c.told) × (kept' ≡ kept ++ record_of_end o held c.ended entry ∷ [])
+
+-- that time ran out
+abbrev pub late : Told
+late = Reject (Own local.TransferTimedOut)
 
 -- The hold was over, or ended otherwise: the sender is told that time ran out, and the worker keeps nothing.
 abbrev pub EndsLate : List Record → List Record → Told → Type 0
-EndsLate kept kept' told = (told ≡ Rejected local.TransferTimedOut) × (kept' ≡ kept)
+EndsLate kept kept' told = (told ≡ late) × (kept' ≡ kept)
 
 -- An end that the book has counts by what came back just where it is the one that this comes to. Where the book has none, the hold
 -- was over.
 abbrev pub Ends : Order → Held → ReplyEffect → Result Outcome NotOpen → List Record → List Record → Told → Type 0
 Ends o held c (Err fault) kept kept' told = EndsLate kept kept' told
 Ends o held c (Ok outcome) kept kept' told =
-    (((end_of outcome).1 ≡ c.verdict) × EndsInTime o held c (end_of outcome).0 kept kept' told)
-    ⊎ (((end_of outcome).1 ≢ c.verdict) × EndsLate kept kept' told)
+    (((end_of outcome).1 ≡ c.ended) × EndsInTime o held c (end_of outcome).0 kept kept' told)
+    ⊎ (((end_of outcome).1 ≢ c.ended) × EndsLate kept kept' told)
 
 -- What came back is told to a book at a moment that the clock gives, and the worker's share and records are raised by that.
 pub record IsEnded (o : Order) (held : Held) (c : ReplyEffect) (moments moments' : Option (List ℤ)) (before after : Holding) (told : Told) (entry : Option ℕ) : Type 0 where
@@ -183,21 +198,28 @@ pub record IsEnded (o : Order) (held : Held) (c : ReplyEffect) (moments moments'
 
 -- the octets that the sender is answered: those that came, or a Reject of the connector's own
 abbrev pub IsTold : Configuration → Option (List ℕ) → Told → List ℕ → Type 0
-IsTold C came Passed octets = came ≡ Some octets
-IsTold C came (Rejected why) octets = Spells octets (reject (local_reject C why))
+IsTold C came Fulfill octets = came ≡ Some octets
+IsTold C came (Reject (Peer code)) octets = came ≡ Some octets
+IsTold C came (Reject (Own why)) octets = Spells octets (reject (local_reject C why))
+
+-- the Reject that the sender is told, if it is one
+abbrev pub reject_told : Told → Option ToldReject
+reject_told Fulfill = None
+reject_told (Reject r) = Some r
 
 -- Nothing is booked, and no peer is handed anything.
-pub record IsRefused (o : Order) (before after : PlainWorker) : Type 0 where
+pub record IsRefused (o : Order) (before after : PlainWorker) (rejected : Option ToldReject) : Type 0 where
   pub why : LocalReject
   pub reason : IsHoldRefusal o before.moments after.moments before.share after.share why
   pub told : Spells after.reply (reject (local_reject o.desk.config why))
+  pub named : rejected ≡ Some (Own why)
   pub share : after.share ≡ before.share
   pub records : after.records ≡ before.records
   pub links : (after.sent ≡ before.sent) × (after.engine ≡ before.engine)
 
 -- A hold is booked, then the next peer is asked, then what came back is booked. Between the two sessions nothing is known of the
 -- book.
-pub record IsSent (o : Order) (before after : PlainWorker) (hold : ℕ) (answer : Option ℕ) : Type 0 where
+pub record IsSent (o : Order) (before after : PlainWorker) (hold : ℕ) (answer : Option ℕ) (rejected : Option ToldReject) : Type 0 where
   pub held : Held
   pub number : held.number ≡ hold
   pub share : Portion
@@ -209,9 +231,10 @@ pub record IsSent (o : Order) (before after : PlainWorker) (hold : ℕ) (answer 
   pub ended : IsEnded o held (effect_of o.packet.condition came) moments after.moments (holding share before.records) (holding after.share after.records) told answer
   pub engine : after.engine ≡ before.engine
   pub reply : IsTold o.desk.config came told after.reply
+  pub named : rejected ≡ reject_told told
 
--- by what the receipt names: an answer only beside a hold
-abbrev pub IsForwardedBy : Order → PlainWorker → PlainWorker → Option ℕ → Option ℕ → Type 0
-IsForwardedBy o before after None None = IsRefused o before after
-IsForwardedBy o before after None (Some answer) = ⊥
-IsForwardedBy o before after (Some hold) answer = IsSent o before after hold answer
+-- by what the receipt names: an answer only beside a hold, and the Reject that the sender was told
+abbrev pub IsForwardedBy : Order → PlainWorker → PlainWorker → Option ℕ → Option ℕ → Option ToldReject → Type 0
+IsForwardedBy o before after None None rejected = IsRefused o before after rejected
+IsForwardedBy o before after None (Some answer) rejected = ⊥
+IsForwardedBy o before after (Some hold) answer rejected = IsSent o before after hold answer rejected

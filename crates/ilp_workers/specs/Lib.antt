@@ -1,4 +1,4 @@
-pub mod Links
+pub use Rattle.ilp_link_traits.specs.Links
 pub mod Rejects
 pub mod Rows
 pub mod Worker

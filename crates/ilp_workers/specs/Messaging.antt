@@ -9,9 +9,13 @@ use Rattle.ilp_packet.specs.Reading.{reading}
 use Rattle.ilp_accounts.specs.Configuration.{Configuration, peer_at}
 use Rattle.ilp_workers.specs.declared.rejects.LocalReject.{LocalReject}
 use Rattle.ilp_workers.specs.declared.rejects.LocalReject.TheVariants as local
+use Rattle.ilp_workers.specs.declared.rejects.ToldReject.{ToldReject}
+use Rattle.ilp_workers.specs.declared.rejects.ToldReject.TheVariants.{Own}
 use Rattle.ilp_workers.specs.declared.messaging.MessageFault.{MessageFault}
 use Rattle.ilp_workers.specs.declared.messaging.MessageFault.TheVariants as message_fault
-use Rattle.ilp_workers.specs.Links.{Tells, Sending, sending, ToEngine, messaging, messaged}
+use Rattle.ilp_link_traits.specs.declared.links.ReplyKind.{ReplyKind}
+use Rattle.ilp_link_traits.specs.declared.links.ReplyKind.TheVariants.{Answer, NoAnswer}
+use Rattle.ilp_link_traits.specs.Links.{Tells, Sending, sending, ToEngine, messaging, messaged}
 use Rattle.ilp_workers.specs.Rejects.{local_reject}
 use Rattle.ilp_workers.specs.Worker.{PlainWorker}
 use Rattle.ilp_workers.specs.Forwarding.{within_years}
@@ -75,6 +79,11 @@ abbrev pub answer_packet : Configuration → Result (List ℕ) LocalReject → P
 answer_packet C (Ok octets) = fulfill (zero_fulfill octets)
 answer_packet C (Err why) = reject (local_reject C why)
 
+-- the Reject that the sender of a message is told, if it is one
+abbrev pub reject_in : Result (List ℕ) LocalReject → Option ToldReject
+reject_in (Ok octets) = None
+reject_in (Err why) = Some (Own why)
+
 -- the engine is handed nothing, and this is why
 abbrev pub IsKeptBack : LocalReject → Option (List ToEngine) → Option (List ToEngine) → Result (List ℕ) LocalReject → Type 0
 IsKeptBack why told told' answer = (answer ≡ Err why) × (told' ≡ told)
@@ -91,12 +100,13 @@ IsEngineAnswer (Some why) from packet told told' answer = IsKeptBack why told to
 IsEngineAnswer None from packet told told' answer = IsKeptBack local.InternalError told told' answer ⊎ IsHandedOver from packet told told' answer
 
 -- A Prepare for the engine here is answered by one moment of the clock. Nothing is booked, and no peer is handed anything.
-pub record IsMessaged (C : Configuration) (from : ℕ) (packet : PlainPrepare) (before after : PlainWorker) : Type 0 where
+pub record IsMessaged (C : Configuration) (from : ℕ) (packet : PlainPrepare) (before after : PlainWorker) (rejected : Option ToldReject) : Type 0 where
   pub now : ℤ
   pub asked : Tells before.moments now after.moments
   pub answer : Result (List ℕ) LocalReject
   pub answered : IsEngineAnswer (message_refusal C from now packet) from packet before.engine after.engine answer
   pub reply : Spells after.reply (answer_packet C answer)
+  pub named : rejected ≡ reject_in answer
   pub share : after.share ≡ before.share
   pub records : after.records ≡ before.records
   pub sent : after.sent ≡ before.sent
@@ -118,6 +128,18 @@ peer_answer_in (Err fault) = None
 abbrev pub peer_answer_of : Option (List ℕ) → Option (List ℕ)
 peer_answer_of (Some octets) = peer_answer_in (reading octets)
 peer_answer_of None = None
+
+-- what the link is told of a packet: whether it is a Fulfill or a Reject
+abbrev pub kind_in : Result PlainPacket PacketFault → ReplyKind
+kind_in (Ok (prepare p)) = NoAnswer
+kind_in (Ok (fulfill f)) = Answer
+kind_in (Ok (reject r)) = Answer
+kind_in (Err fault) = NoAnswer
+
+-- the same, of the octets that came back, if any did
+abbrev pub kind_of_reply : Option (List ℕ) → ReplyKind
+kind_of_reply (Some octets) = kind_in (reading octets)
+kind_of_reply None = NoAnswer
 
 -- The peer is handed one packet with the message, and this came back for it.
 pub record IsPassedOn (C : Configuration) (peer : ℕ) (octets : List ℕ) (now : ℤ) (sent sent' : Option (List Sending)) (came : Option (List ℕ)) : Type 0 where

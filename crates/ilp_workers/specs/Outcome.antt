@@ -7,14 +7,16 @@ use Rattle.ilp_book.specs.declared.calls.Held.{Held}
 use Rattle.ilp_book.specs.declared.fault.HoldFault.{HoldFault}
 use Rattle.ilp_book.specs.declared.fault.HoldFault.TheVariants as hold_fault
 use Rattle.ilp_book.specs.HoldStep.{Incoming}
-use Rattle.ilp_desk.specs.declared.record.Verdict.TheVariants.{Fulfilled}
+use Rattle.ilp_desk.specs.declared.record.HoldEnd.TheVariants.{Fulfilled}
 use Rattle.ilp_desk.specs.Desk.{PlainDesk}
 use Rattle.ilp_desk.specs.Portion.{portion}
 use Rattle.ilp_desk.specs.Totals.{packets}
 use Rattle.ilp_workers.specs.declared.reply.Receipt.{Receipt}
 use Rattle.ilp_workers.specs.declared.rejects.LocalReject.{LocalReject}
 use Rattle.ilp_workers.specs.declared.rejects.LocalReject.TheVariants as local
-use Rattle.ilp_workers.specs.Rejects.{local_reject}
+use Rattle.ilp_workers.specs.declared.rejects.ToldReject.{ToldReject}
+use Rattle.ilp_workers.specs.declared.rejects.ToldReject.TheVariants.{Own}
+use Rattle.ilp_workers.specs.Rejects.{local_reject, told_code}
 use Rattle.ilp_workers.specs.Worker.{PlainWorker}
 use Rattle.ilp_workers.specs.Forwarding.{order, record_of_end}
 use Rattle.ilp_workers.specs.Arrivals.{Arrival}
@@ -31,13 +33,17 @@ pub record IsFulfilled (a : Arrival) (before after : PlainWorker) (receipt : Rec
   pub met : meets packet.condition answer.preimage ≡ true
   pub holds : receipt.hold ≡ Some held.number
   pub answers : receipt.answer ≡ Some entry
+  pub unrejected : receipt.rejected ≡ None
   pub raised : after.share ≡ portion before.share.actor (before.share.entries + 2)
   pub records : after.records ≡ before.records ++ record_of_end (order a.desk a.from packet) held Fulfilled entry ∷ []
 
--- The sender is answered a Reject, and the worker keeps as many packets as before.
-pub record IsRejected (before after : PlainWorker) : Type 0 where
+-- The sender is answered a Reject, which the receipt names, and the worker keeps as many packets as before.
+pub record IsRejected (before after : PlainWorker) (receipt : Receipt) : Type 0 where
   pub answer : PlainReject
   pub reply : Spells after.reply (reject answer)
+  pub told : ToldReject
+  pub named : receipt.rejected ≡ Some told
+  pub code : answer.code ≡ told_code told
   pub records : packets after.records ≡ packets before.records
 
 -- ---- refusals that no moment changes
@@ -53,8 +59,12 @@ standing_refusal C sent =
     let max = (peer_at C sent.from).max_packet in
     if nat_lt max sent.packet.amount then Some (hold_fault.AmountTooLarge max) else route_refusal sent.from sent.route
 
+-- The sender is answered this Reject of the connector's own, which the receipt names.
+abbrev pub IsToldOwn : PlainDesk → PlainWorker → Receipt → LocalReject → Type 0
+IsToldOwn desk after receipt why = Spells after.reply (reject (local_reject desk.config why)) × (receipt.rejected ≡ Some (Own why))
+
 -- The sender is answered this Reject of the connector's own, or that it had no memory. Nothing is booked.
 pub record IsRefusedAs (desk : PlainDesk) (after : PlainWorker) (receipt : Receipt) (why : LocalReject) : Type 0 where
-  pub reply : Spells after.reply (reject (local_reject desk.config why)) ⊎ Spells after.reply (reject (local_reject desk.config local.InternalError))
+  pub reply : IsToldOwn desk after receipt why ⊎ IsToldOwn desk after receipt local.InternalError
   pub holds : receipt.hold ≡ None
   pub answers : receipt.answer ≡ None

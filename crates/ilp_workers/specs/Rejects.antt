@@ -7,6 +7,8 @@ use Rattle.ilp_accounts.specs.Configuration.{Configuration}
 use Rattle.ilp_book.specs.declared.fault.HoldFault.{HoldFault}
 use Rattle.ilp_book.specs.declared.fault.HoldFault.TheVariants as hold_fault
 use Rattle.ilp_workers.specs.declared.rejects.LocalReject.{LocalReject}
+use Rattle.ilp_workers.specs.declared.rejects.ToldReject.{ToldReject}
+use Rattle.ilp_workers.specs.declared.rejects.ToldReject.TheVariants.{Own, Peer}
 use Rattle.ilp_workers.specs.declared.rejects.LocalReject.TheVariants.{Unreachable, InvalidAmount, WrongCondition, AmountTooLarge, InternalError, PeerUnreachable, ConnectorBusy, InsufficientLiquidity, TransferTimedOut, InsufficientSourceAmount, InsufficientTimeout}
 
 abbrev pub code_of : LocalReject → List ℕ
@@ -21,6 +23,11 @@ code_of InsufficientLiquidity = codes "T04"
 code_of TransferTimedOut = codes "R00"
 code_of InsufficientSourceAmount = codes "R01"
 code_of InsufficientTimeout = codes "R02"
+
+-- the code of the Reject that a sender was told
+abbrev pub told_code : ToldReject → List ℕ
+told_code (Own why) = code_of why
+told_code (Peer code) = code
 
 abbrev pub message_of : LocalReject → List ℕ
 message_of Unreachable = codes "unreachable"

@@ -4,7 +4,7 @@ use Rattle.ilp_desk.specs.declared.record.Record.{Record}
 use Rattle.ilp_desk.specs.Portion.{Portion}
 use Rattle.ilp_workers.specs.declared.reply.Buffer.{Buffer}
 use Rattle.ilp_workers.specs.declared.reply.Buffer.TheVariants.{Incoming, Outgoing, Rejected}
-use Rattle.ilp_workers.specs.Links.{Sending, ToEngine}
+use Rattle.ilp_link_traits.specs.Links.{Sending, ToEngine}
 
 -- its share, the records of what it booked, what its links tell (the moments of its clock, what peers were handed, and what
 -- engines were handed), and the octets by which the sender of the last packet is answered

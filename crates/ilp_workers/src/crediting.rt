@@ -5,11 +5,11 @@ ghost use Rattle.ilp_book.specs.SettleStep.{Payment, payment};
 ghost use Rattle.ilp_desk.specs.Portion.{holding};
 ghost use Rattle.ilp_workers.specs.Crediting.{record_of_credit, CreditsAt};
 
-use crate::links::{Clock, EngineLink, Uplink};
 use crate::parts::Parts;
 use ilp_book::{CreditFault, Kept};
 use ilp_desk::{Desk, Naming, Record, Recorded};
 use ilp_journal::Key;
+use ilp_link_traits::{Clock, EngineLink, Uplink};
 use ilp_settlement::{Quantity, credited};
 use std::alloc::Allocator;
 use std::sync::Wait;

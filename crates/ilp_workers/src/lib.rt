@@ -1,10 +1,8 @@
-//! Workers of a desk, which pass packets on and credit settlements, and what every actor of a desk is
-//! given: a clock, and links to peers and engines.
+//! Workers of a desk, which pass packets on, hand messages on, and credit settlements.
 #![tactic(auto)]
 
 mod crediting;
 pub mod laws;
-mod links;
 mod messaging;
 mod parts;
 mod rejects;
@@ -12,8 +10,8 @@ mod reply;
 mod reply_effect;
 mod worker;
 
-pub use links::{Clock, EngineLink, EngineReply, LinkFault, Uplink};
+pub use ilp_link_traits::{Clock, EngineLink, EngineReply, LinkFault, Uplink};
 pub use messaging::MessageFault;
-pub use rejects::LocalReject;
+pub use rejects::{LocalReject, ToldReject};
 pub use reply::{BadPacket, Receipt};
 pub use worker::{NoWorker, Worker};

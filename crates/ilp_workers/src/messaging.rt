@@ -3,18 +3,18 @@ ghost use Rattle.std.specs.Prelude.{◌≡◌, ◌≤◌, [], length, Some, opti
 ghost use Rattle.ilp_terms.specs.Expiry.{IsMoment};
 ghost use Rattle.ilp_packet.specs.Packet.{most_payload, plain_prepare, prepare, fulfill, Spells};
 ghost use Rattle.ilp_book.specs.Configured.{IsKnown};
-ghost use Rattle.ilp_workers.specs.Links.{came_of};
+ghost use Rattle.ilp_link_traits.specs.Links.{came_of};
 ghost use Rattle.ilp_workers.specs.Worker.{worker, reply_of};
 ghost use Rattle.ilp_workers.specs.Forwarding.{within_years};
-ghost use Rattle.ilp_workers.specs.Messaging.{IsForEngine, message_refusal, engine_answer, answered_with, zero_fulfill, longest_fulfill, IsEngineAnswer, IsMessaged, message_expiry, message_prepare, peer_answer_of, Messages};
+ghost use Rattle.ilp_workers.specs.Messaging.{IsForEngine, message_refusal, engine_answer, answered_with, zero_fulfill, longest_fulfill, IsEngineAnswer, IsMessaged, message_expiry, message_prepare, peer_answer_of, kind_of_reply, Messages};
 
-use crate::links::{Clock, EngineLink, LinkFault, Uplink};
-use crate::parts::Parts;
-use crate::rejects::LocalReject;
+use crate::parts::{Parts, note_reply};
+use crate::rejects::{LocalReject, ToldReject};
 use crate::reply::Buffer;
 use crate::reply_effect::Told;
 use ilp_accounts::Config;
 use ilp_desk::Naming;
+use ilp_link_traits::{Clock, EngineLink, LinkFault, ReplyKind, Uplink};
 use ilp_oer::Octets;
 use ilp_packet::{Fulfill, Packet, Prepare, write_fulfill, write_prepare};
 use ilp_terms::LAST_OF_ALL;
@@ -168,8 +168,13 @@ impl<J: Naming, C: Clock + Drop, U: Uplink + Drop, E: EngineLink + Drop, A: Allo
     A,
 > {
     // Hands the data of a Prepare for the engine here to it, and has the sender answered with what
-    // that answers, or with the first refusal.
-    pub(crate) fn hand_over(&mut self, config: &Config, from: u32, packet: &Prepare<'_>)
+    // that answers, or with the first refusal. Tells which Reject that was.
+    pub(crate) fn hand_over(
+        &mut self,
+        config: &Config,
+        from: u32,
+        packet: &Prepare<'_>,
+    ) -> Option<ToldReject>
         requires known { IsKnown config.now from }
         ensures { IsMessaged config.now from (plain_prepare packet.now)
             (worker self.old.share self.old.records.items (C.told self.old.clock) (U.told self.old.uplink)
@@ -177,12 +182,19 @@ impl<J: Naming, C: Clock + Drop, U: Uplink + Drop, E: EngineLink + Drop, A: Allo
             self.old.outgoing.octets self.old.rejected.octets))
             (worker self.new.share self.new.records.items (C.told self.new.clock) (U.told self.new.uplink)
             (E.told self.new.engine) (reply_of self.new.reply_in self.new.incoming.octets
-            self.new.outgoing.octets self.new.rejected.octets)) }
+            self.new.outgoing.octets self.new.rejected.octets)) result }
     {
         let now = self.clock.now();
         match self.message_engine(config, from, packet, now) {
-            Ok(()) => self.reply_in = Buffer::Outgoing,
-            Err(why) => self.tell(config, Told::Rejected(why)),
+            Ok(()) => {
+                self.reply_in = Buffer::Outgoing;
+                None
+            }
+            Err(why) => {
+                let reject = ToldReject::Own(why);
+                self.tell(config, Told::Reject(reject));
+                Some(reject)
+            }
         }
     }
 
@@ -246,7 +258,9 @@ impl<J: Naming, C: Clock + Drop, U: Uplink + Drop, E: EngineLink + Drop, A: Allo
         };
         let packet = self.outgoing.as_slice();
         let came = self.uplink.send(peer, packet, expires, &mut self.incoming);
-        if is_answered(came, self.incoming.as_slice()) {
+        let reply = message_reply(came, self.incoming.as_slice());
+        note_reply(&mut self.uplink, peer, came, reply.kind);
+        if reply.is_answer {
             return Ok(());
         }
         self.incoming.clear();
@@ -254,9 +268,46 @@ impl<J: Naming, C: Clock + Drop, U: Uplink + Drop, E: EngineLink + Drop, A: Allo
     }
 }
 
-// Whether what came for a message is an answer.
-fn is_answered(came: Result<(), LinkFault>, reply: &[u8]) -> bool
-    ensures { result ≡ is_some (peer_answer_of (came_of came reply.now)) }
+// What came back for a message.
+#[derive(Clone, Copy)]
+struct MessageReply {
+    kind: ReplyKind,
+    is_answer: bool,
+}
+
+impl MessageReply {
+    // A Fulfill of 32 zero octets.
+    const ANSWER: MessageReply = MessageReply {
+        kind: ReplyKind::Answer,
+        is_answer: true,
+    };
+
+    // Another Fulfill, or a Reject.
+    const REFUSAL: MessageReply = MessageReply {
+        kind: ReplyKind::Answer,
+        is_answer: false,
+    };
+
+    // Neither a Fulfill nor a Reject, or nothing.
+    const NONE: MessageReply = MessageReply {
+        kind: ReplyKind::NoAnswer,
+        is_answer: false,
+    };
+}
+
+// Reads what came back for a message: the octets of the reply, if the link has no fault.
+fn message_reply(came: Result<(), LinkFault>, reply: &[u8]) -> MessageReply
+    ensures kind { result.kind ≡ kind_of_reply (came_of came reply.now) }
+    ensures answer { result.is_answer ≡ is_some (peer_answer_of (came_of came reply.now)) }
 {
-    came.is_ok() && peer_answer_in(reply).is_some()
+    let Ok(()) = came else {
+        return MessageReply::NONE;
+    };
+    match Packet::read(reply) {
+        Ok(Packet::Fulfill(fulfill)) if fulfill.preimage == &ZERO_PREIMAGE => MessageReply::ANSWER,
+        Ok(Packet::Fulfill(_)) => MessageReply::REFUSAL,
+        Ok(Packet::Reject(_)) => MessageReply::REFUSAL,
+        Ok(Packet::Prepare(_)) => MessageReply::NONE,
+        Err(_) => MessageReply::NONE,
+    }
 }

@@ -6,18 +6,18 @@ ghost use Rattle.ilp_book.specs.Configured.{IsKnown};
 ghost use Rattle.ilp_workers.specs.Rejects.{longest_local_reject};
 ghost use Rattle.ilp_desk.specs.Desk.{PlainDesk};
 ghost use Rattle.ilp_desk.specs.Portion.{holding};
-ghost use Rattle.ilp_workers.specs.declared.links.LinkFault.{LinkFault};
-ghost use Rattle.ilp_workers.specs.Links.{came_of};
+ghost use Rattle.ilp_link_traits.specs.declared.links.LinkFault.{LinkFault};
+ghost use Rattle.ilp_link_traits.specs.Links.{came_of};
 ghost use Rattle.ilp_workers.specs.Worker.{reply_of};
-ghost use Rattle.ilp_workers.specs.Forwarding.{order, onward, IsHoldRefusal, IsHolding, IsSentOn, IsEnded, IsTold, effect_of, end_of, record_of_end};
+ghost use Rattle.ilp_workers.specs.Forwarding.{order, onward, IsHoldRefusal, IsHolding, IsSentOn, IsEnded, IsTold, late, effect_of, end_of, record_of_end};
 
-use crate::links::{Clock, EngineLink, Uplink};
-use crate::rejects::{LONGEST_LOCAL_REJECT, LocalReject, put_local_reject};
+use crate::rejects::{LONGEST_LOCAL_REJECT, LocalReject, ToldReject, put_local_reject};
 use crate::reply::Buffer;
 use crate::reply_effect::{ReplyEffect, Told, effect_by};
 use ilp_accounts::Config;
 use ilp_book::{Held, Outcome};
-use ilp_desk::{AnsweredHold, Desk, End, Naming, Record, Recorded, Share, Verdict};
+use ilp_desk::{AnsweredHold, Desk, End, HoldEnd, Naming, Record, Recorded, Share};
+use ilp_link_traits::{Clock, EngineLink, LinkFault, ReplyKind, Uplink};
 use ilp_oer::Octets;
 use ilp_packet::{Prepare, write_prepare};
 use std::alloc::{AllocError, Allocator, Global};
@@ -102,7 +102,7 @@ impl<J: Naming, C: Clock + Drop, U: Uplink + Drop, E: EngineLink + Drop, A: Allo
         self.outgoing.reserve(len)
     }
 
-    // Hands the Prepare on, and waits for what comes back.
+    // Hands the Prepare on, waits for what comes back, and has the link learn what that is.
     pub(crate) fn send_on(&mut self, packet: &Prepare<'_>, held: &Held) -> ReplyEffect
         requires packet { IsPrepare (onward (plain_prepare packet.now) held.now) }
         requires cleared { self.old.outgoing.octets ≡ [] }
@@ -133,7 +133,9 @@ impl<J: Naming, C: Clock + Drop, U: Uplink + Drop, E: EngineLink + Drop, A: Allo
             held.deadline,
             &mut self.incoming,
         );
-        effect_by(packet.condition, came, self.incoming.as_slice())
+        let effect = effect_by(packet.condition, came, self.incoming.as_slice());
+        note_reply(&mut self.uplink, held.to, came, effect.kind());
+        effect
     }
 
     // Has the desk book what came back, and keeps the record of how the hold ended by that.
@@ -156,20 +158,14 @@ impl<J: Naming, C: Clock + Drop, U: Uplink + Drop, E: EngineLink + Drop, A: Allo
         let later = self.clock.now();
         let answer = effect.answer;
         let Ok(outcome) = desk.answer(rt, &mut self.share, held.number, answer, later) else {
-            return Answered {
-                told: Told::Rejected(LocalReject::TransferTimedOut),
-                entry: None,
-            };
+            return Answered::late(None);
         };
-        let (entry, verdict) = end_of(outcome);
-        if !same(verdict, effect.verdict) {
-            return Answered {
-                told: Told::Rejected(LocalReject::TransferTimedOut),
-                entry: Some(entry),
-            };
+        let (entry, ended) = end_of(outcome);
+        if !same(ended, effect.ended) {
+            return Answered::late(Some(entry));
         }
         self.records
-            .push_reserved(record_of(from, packet, held, verdict, entry));
+            .push_reserved(record_of(from, packet, held, ended, entry));
         Answered {
             told: effect.told,
             entry: Some(entry),
@@ -187,8 +183,9 @@ impl<J: Naming, C: Clock + Drop, U: Uplink + Drop, E: EngineLink + Drop, A: Allo
         ensures links { (self.new.uplink ≡ self.old.uplink) × (self.new.engine ≡ self.old.engine) }
     {
         self.reply_in = match told {
-            Told::Passed => Buffer::Incoming,
-            Told::Rejected(why) => {
+            Told::Fulfill => Buffer::Incoming,
+            Told::Reject(ToldReject::Peer { .. }) => Buffer::Incoming,
+            Told::Reject(ToldReject::Own(why)) => {
                 put_local_reject(&mut self.rejected, config, why);
                 Buffer::Rejected
             }
@@ -235,26 +232,53 @@ pub(crate) struct Answered {
     pub(crate) entry: Option<u32>,
 }
 
-// How a hold ended, and the number of the entry that says so.
-fn end_of(outcome: Outcome) -> (u32, Verdict)
-    ensures { result ≡ end_of outcome }
-{
-    match outcome {
-        Outcome::Fulfilled { entry } => (entry, Verdict::Fulfilled),
-        Outcome::Released { entry, cause } => (entry, Verdict::Released(cause)),
+impl Answered {
+    // Time ran out before what came back was booked.
+    fn late(entry: Option<u32>) -> Answered
+        ensures told { result.told ≡ late }
+        ensures entry { result.entry ≡ entry }
+    {
+        Answered {
+            told: Told::Reject(ToldReject::Own(LocalReject::TransferTimedOut)),
+            entry,
+        }
     }
 }
 
-fn same(one: Verdict, other: Verdict) -> bool
+// Has the link learn what the reply is that it brought, if it brought one.
+pub(crate) fn note_reply<U: Uplink>(
+    uplink: &mut U,
+    from: u32,
+    came: Result<(), LinkFault>,
+    kind: ReplyKind,
+)
+    ensures { U.told uplink.new ≡ U.told uplink.old }
+{
+    if came.is_ok() {
+        uplink.note_reply(from, kind);
+    }
+}
+
+// How a hold ended, and the number of the entry that says so.
+fn end_of(outcome: Outcome) -> (u32, HoldEnd)
+    ensures { result ≡ end_of outcome }
+{
+    match outcome {
+        Outcome::Fulfilled { entry } => (entry, HoldEnd::Fulfilled),
+        Outcome::Released { entry, cause } => (entry, HoldEnd::Released(cause)),
+    }
+}
+
+fn same(one: HoldEnd, other: HoldEnd) -> bool
     ensures { MatchBool result (one ≡ other) (one ≢ other) }
 {
     one == other
 }
 
 // The record of a hold that ended so, by this entry.
-fn record_of(from: u32, packet: &Prepare<'_>, held: &Held, verdict: Verdict, entry: u32) -> Record
+fn record_of(from: u32, packet: &Prepare<'_>, held: &Held, ended: HoldEnd, entry: u32) -> Record
     ensures { (desk : PlainDesk) → result
-        ≡ record_of_end (order desk from (plain_prepare packet.now)) held.now verdict entry }
+        ≡ record_of_end (order desk from (plain_prepare packet.now)) held.now ended entry }
 {
     let ended = AnsweredHold {
         hold: held.number,
@@ -263,7 +287,7 @@ fn record_of(from: u32, packet: &Prepare<'_>, held: &Held, verdict: Verdict, ent
         amount: packet.amount,
         out: held.out,
         condition: *packet.condition,
-        verdict,
+        ended,
     };
     Record {
         number: entry,

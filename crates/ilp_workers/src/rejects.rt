@@ -3,7 +3,7 @@ ghost use Rattle.std.specs.Prelude.{◌≡◌, ◌+◌, ◌≤◌, ◌++◌, len
 ghost use Rattle.std.specs.Int.{w64, to_be_bytes};
 ghost use Rattle.ilp_packet.specs.Packet.{reject, Spells};
 ghost use Rattle.ilp_book.specs.RejectCode.{reject_code};
-ghost use Rattle.ilp_workers.specs.Rejects.{code_of, message_of, payload_of, local_reject, longest_local_reject, reject_of_fault};
+ghost use Rattle.ilp_workers.specs.Rejects.{code_of, told_code, message_of, payload_of, local_reject, longest_local_reject, reject_of_fault};
 
 use ilp_accounts::Config;
 use ilp_assets::QuoteFault;
@@ -107,6 +107,27 @@ impl LocalReject {
             LocalReject::TransferTimedOut => "timed out",
             LocalReject::InsufficientSourceAmount => "insufficient source amount",
             LocalReject::InsufficientTimeout => "insufficient timeout",
+        }
+    }
+}
+
+/// The Reject that the sender of a Prepare was told.
+#[derive(Clone, Copy, Debug, PartialEq, Eq)]
+pub enum ToldReject {
+    /// The connector's own.
+    Own(LocalReject),
+    /// The next peer's, in its own octets, with this error code.
+    Peer { code: [u8; 3] },
+}
+
+impl ToldReject {
+    /// The error code.
+    pub fn code(&self) -> [u8; 3]
+        ensures { result ≡ told_code self.now }
+    {
+        match self {
+            ToldReject::Own(why) => why.code(),
+            ToldReject::Peer { code } => *code,
         }
     }
 }

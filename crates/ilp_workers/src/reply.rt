@@ -1,5 +1,7 @@
 //! What a packet that is to be forwarded is answered.
+ghost use Rattle.std.specs.Prelude.{◌≡◌};
 
+use crate::rejects::ToldReject;
 use ilp_packet::PacketFault;
 use thiserror::Error;
 
@@ -14,21 +16,30 @@ pub enum BadPacket {
     NotPrepare,
 }
 
-/// The numbers of the entries that a call booked.
+/// What became of a Prepare: the numbers of the entries that were booked, and the Reject that its
+/// sender was told.
 #[derive(Clone, Copy, Debug, PartialEq, Eq)]
 pub struct Receipt {
     /// The hold.
     pub hold: Option<u32>,
     /// What ended it.
     pub answer: Option<u32>,
+    /// The Reject that the sender was told; none where it was told a Fulfill.
+    pub rejected: Option<ToldReject>,
 }
 
 impl Receipt {
     // Nothing was booked.
-    pub(crate) const NONE: Receipt = Receipt {
-        hold: None,
-        answer: None,
-    };
+    pub(crate) fn unbooked(rejected: Option<ToldReject>) -> Receipt
+        ensures booked { (result.hold ≡ None) × (result.answer ≡ None) }
+        ensures rejected { result.rejected ≡ rejected }
+    {
+        Receipt {
+            hold: None,
+            answer: None,
+            rejected,
+        }
+    }
 }
 
 // Where the octets stand by which the sender of the last packet is answered.

@@ -1,23 +1,35 @@
 //! What a peer's reply comes to.
 ghost use Rattle.std.specs.Prelude.{◌≡◌};
-ghost use Rattle.ilp_workers.specs.Links.{came_of};
-ghost use Rattle.ilp_workers.specs.Forwarding.{effect_of, effect_of_none, effect_of_fulfill};
+ghost use Rattle.ilp_link_traits.specs.Links.{came_of};
+ghost use Rattle.ilp_workers.specs.Forwarding.{effect_of, effect_of_none, effect_of_fulfill, reject_told, kind_of};
 
-use crate::links::LinkFault;
-use crate::rejects::LocalReject;
+use crate::rejects::{LocalReject, ToldReject};
 use ilp_book::PeerReply;
-use ilp_desk::Verdict;
+use ilp_desk::HoldEnd;
 use ilp_journal::Cause;
+use ilp_link_traits::{LinkFault, ReplyKind};
 use ilp_packet::Packet;
 use ilp_terms::meets;
 
 /// What the sender of a Prepare is told.
 #[derive(Clone, Copy, Debug, PartialEq, Eq)]
 pub enum Told {
-    /// What the peer replied, in its own octets.
-    Passed,
-    /// That the connector rejects the Prepare.
-    Rejected(LocalReject),
+    /// The Fulfill that the peer replied, in its own octets.
+    Fulfill,
+    /// A Reject.
+    Reject(ToldReject),
+}
+
+impl Told {
+    // The Reject, if it is one.
+    pub(crate) fn rejected(self) -> Option<ToldReject>
+        ensures { result ≡ reject_told self }
+    {
+        match self {
+            Told::Fulfill => None,
+            Told::Reject(reject) => Some(reject),
+        }
+    }
 }
 
 /// What a reply comes to: what the book is told, how the hold ends if it is open and in time, and
@@ -25,8 +37,22 @@ pub enum Told {
 #[derive(Clone, Copy, Debug, PartialEq, Eq)]
 pub struct ReplyEffect {
     pub answer: PeerReply,
-    pub verdict: Verdict,
+    pub ended: HoldEnd,
     pub told: Told,
+}
+
+impl ReplyEffect {
+    // What the link is told of the octets that came.
+    pub(crate) fn kind(&self) -> ReplyKind
+        ensures { result ≡ kind_of self.now.answer }
+    {
+        match self.answer {
+            PeerReply::Fulfill(_) => ReplyKind::Answer,
+            PeerReply::BadFulfill => ReplyKind::Answer,
+            PeerReply::Reject(_) => ReplyKind::Answer,
+            PeerReply::NoReply => ReplyKind::NoAnswer,
+        }
+    }
 }
 
 // What came for a Prepare of this condition: the octets of the reply, if the link has no fault.
@@ -44,8 +70,8 @@ pub(crate) fn effect_by(
         Ok(Packet::Fulfill(fulfill)) => effect_by_fulfill(condition, fulfill.preimage),
         Ok(Packet::Reject(reject)) => ReplyEffect {
             answer: PeerReply::Reject(*reject.code),
-            verdict: Verdict::Released(Cause::Peer(*reject.code)),
-            told: Told::Passed,
+            ended: HoldEnd::Released(Cause::Peer(*reject.code)),
+            told: Told::Reject(ToldReject::Peer { code: *reject.code }),
         },
         Ok(Packet::Prepare(_)) => effect_by_none(),
         Err(_) => effect_by_none(),
@@ -59,14 +85,14 @@ fn effect_by_fulfill(condition: &[u8; 32], preimage: &[u8; 32]) -> ReplyEffect
     if meets(condition, preimage) {
         ReplyEffect {
             answer: PeerReply::Fulfill(*preimage),
-            verdict: Verdict::Fulfilled,
-            told: Told::Passed,
+            ended: HoldEnd::Fulfilled,
+            told: Told::Fulfill,
         }
     } else {
         ReplyEffect {
             answer: PeerReply::BadFulfill,
-            verdict: Verdict::Released(Cause::WrongPreimage),
-            told: Told::Rejected(LocalReject::WrongCondition),
+            ended: HoldEnd::Released(Cause::WrongPreimage),
+            told: Told::Reject(ToldReject::Own(LocalReject::WrongCondition)),
         }
     }
 }
@@ -77,7 +103,7 @@ fn effect_by_none() -> ReplyEffect
 {
     ReplyEffect {
         answer: PeerReply::NoReply,
-        verdict: Verdict::Released(Cause::NoReply),
-        told: Told::Rejected(LocalReject::PeerUnreachable),
+        ended: HoldEnd::Released(Cause::NoReply),
+        told: Told::Reject(ToldReject::Own(LocalReject::PeerUnreachable)),
     }
 }

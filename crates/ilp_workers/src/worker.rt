@@ -11,15 +11,15 @@ ghost use Rattle.ilp_workers.specs.Messaging.{peer_answer_of, Messages};
 ghost use Rattle.ilp_workers.specs.Forwarding.{order, IsForwardedBy};
 ghost use Rattle.ilp_workers.specs.Arrivals.{arrival, IsBad, Forwards};
 
-use crate::links::{Clock, EngineLink, Uplink};
 use crate::messaging::{MessageFault, is_for_engine, peer_answer_in};
 use crate::parts::Parts;
-use crate::rejects::LONGEST_LOCAL_REJECT;
+use crate::rejects::{LONGEST_LOCAL_REJECT, ToldReject};
 use crate::reply::{BadPacket, Buffer, Receipt};
 use crate::reply_effect::Told;
 use ilp_book::{CreditFault, Kept};
 use ilp_desk::{Desk, End, Naming, Record, Share};
 use ilp_journal::Key;
+use ilp_link_traits::{Clock, EngineLink, Uplink};
 use ilp_oer::Octets;
 use ilp_packet::{Packet, Prepare};
 use ilp_settlement::Quantity;
@@ -129,7 +129,8 @@ impl<J: Naming, C: Clock + Drop, U: Uplink + Drop, E: EngineLink + Drop, A: Allo
         self.parts.reply()
     }
 
-    /// Forwards the octets that a peer sent (RFC 0027): `reply` has the answer then. The amount of a
+    /// Forwards the octets that a peer sent (RFC 0027): `reply` has the answer then, and the receipt
+    /// names the Reject, where it is one. The amount of a
     /// Prepare is held against the peer's balance, a Prepare of what is left goes to the peer of the
     /// destination's route, and what that peer replies is booked and passed on in its own octets.
     /// Whatever keeps the Prepare from that is a Reject of the connector's own. No lock is held while
@@ -153,8 +154,8 @@ impl<J: Naming, C: Clock + Drop, U: Uplink + Drop, E: EngineLink + Drop, A: Allo
             Err(fault) => return Err(fault),
         };
         if is_for_engine(&prepare) {
-            self.parts.hand_over(desk.config(), from, &prepare);
-            return Ok(Receipt::NONE);
+            let rejected = self.parts.hand_over(desk.config(), from, &prepare);
+            return Ok(Receipt::unbooked(rejected));
         }
         Ok(self.pass_on(rt, desk, from, &prepare, octets.len()))
     }
@@ -173,13 +174,14 @@ impl<J: Naming, C: Clock + Drop, U: Uplink + Drop, E: EngineLink + Drop, A: Allo
         requires packet { IsPrepare (plain_prepare packet.now) }
         requires len { len ≡ size (prepare (plain_prepare packet.now)) }
         ensures { IsForwardedBy (order J.desk from (plain_prepare packet.now)) self.old self.new
-            result.hold result.answer }
+            result.hold result.answer result.rejected }
     {
         let held = match self.parts.hold(rt, desk, from, packet, len) {
             Ok(held) => held,
             Err(why) => {
-                self.parts.tell(desk.config(), Told::Rejected(why));
-                return Receipt::NONE;
+                let reject = ToldReject::Own(why);
+                self.parts.tell(desk.config(), Told::Reject(reject));
+                return Receipt::unbooked(Some(reject));
             }
         };
         let effect = self.parts.send_on(packet, &held);
@@ -188,6 +190,7 @@ impl<J: Naming, C: Clock + Drop, U: Uplink + Drop, E: EngineLink + Drop, A: Allo
         Receipt {
             hold: Some(held.number),
             answer: ended.entry,
+            rejected: ended.told.rejected(),
         }
     }
 

@@ -17,9 +17,9 @@ returns-in_default-clause-closed g c =
     let later = c.now-later.result in
     let reply : Result ℕ NotOpen = Err c.in_default.field-0 in
     let fits : FitsSigned w64 later = search rules in
-    let at : IsClosedAt desk c.args.asked.number c.args.accepted later c.args.self.now.share c.settle_close.new.share reply =
-    subst (λ t. IsClosedAt desk c.args.asked.number c.args.accepted t c.args.self.now.share c.settle_close.new.share reply) (to_z-of_z w64 later fits) c.in_default.ensures in
-    closing_by desk c.args.peer c.args.asked c.args.accepted _ _ (holding c.args.self.now.share kept) (holding c.settle_close.new.share kept) later reply _
+    let at : IsClosedAt desk c.args.asked.number c.args.verdict later c.args.self.now.share c.settle_close.new.share reply =
+    subst (λ t. IsClosedAt desk c.args.asked.number c.args.verdict t c.args.self.now.share c.settle_close.new.share reply) (to_z-of_z w64 later fits) c.in_default.ensures in
+    closing_by desk c.args.peer c.args.asked c.args.said c.args.verdict _ _ (holding c.args.self.now.share kept) (holding c.settle_close.new.share kept) later reply _
     c.now-later.ensures at (sym (append-nil kept)) refl
 
 -- the settlement is closed
@@ -30,7 +30,7 @@ returns-clause-closed g c =
     let later = c.now-later.result in
     let reply : Result ℕ NotOpen = Ok c.in-Ok.entry in
     let fits : FitsSigned w64 later = search rules in
-    let at : IsClosedAt desk c.args.asked.number c.args.accepted later c.args.self.now.share c.settle_close.new.share reply =
-    subst (λ t. IsClosedAt desk c.args.asked.number c.args.accepted t c.args.self.now.share c.settle_close.new.share reply) (to_z-of_z w64 later fits) c.in-Ok.ensures in
-    closing_by desk c.args.peer c.args.asked c.args.accepted _ _ (holding c.args.self.now.share kept) (holding c.settle_close.new.share c.push_reserved.new.self.items) later reply _
+    let at : IsClosedAt desk c.args.asked.number c.args.verdict later c.args.self.now.share c.settle_close.new.share reply =
+    subst (λ t. IsClosedAt desk c.args.asked.number c.args.verdict t c.args.self.now.share c.settle_close.new.share reply) (to_z-of_z w64 later fits) c.in-Ok.ensures in
+    closing_by desk c.args.peer c.args.asked c.args.said c.args.verdict _ _ (holding c.args.self.now.share kept) (holding c.settle_close.new.share c.push_reserved.new.self.items) later reply _
     c.now-later.ensures at (c.push_reserved.ensures.items ∙ ap (λ r. kept ++ r ∷ []) c.record_of.ensures) refl

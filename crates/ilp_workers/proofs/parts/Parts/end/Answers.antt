@@ -47,7 +47,7 @@ returns-clause-ended g c =
     let fits : FitsSigned w64 later = search rules in
     let at : IsAnsweredAt o later held.number c.args.effect.now.answer c.args.self.now.share c.answer.new.share reply =
     subst (λ t. IsAnsweredAt o t held.number c.args.effect.now.answer c.args.self.now.share c.answer.new.share reply) (to_z-of_z w64 later fits) c.in-Ok.ensures in
-    let told = c.record_of.ensures g.J.Naming.desk ∙ ap (λ verdict. record_of_end o held verdict entry) c.if-not-same.ensures in
+    let told = c.record_of.ensures g.J.Naming.desk ∙ ap (λ ended. record_of_end o held ended entry) c.if-not-same.ensures in
     ended_by o held c.args.effect.now (g.C.Clock.told c.args.self.now.clock) (g.C.Clock.told c.now-later.new.self)
     (holding c.args.self.now.share kept) (holding c.answer.new.share c.push_reserved.new.self.items) _ (Some entry) later reply c.now-later.ensures at
-    (ap (λ r. Some r.0) (sym c.end_of-entry.ensures)) (inl (ap (λ r. r.1) (sym c.end_of-entry.ensures) ∙ c.if-not-same.ensures, (refl, c.push_reserved.ensures.items ∙ ap (λ r. kept ++ r ∷ []) (told ∙ ap (λ r. record_of_end o held c.args.effect.now.verdict r.0) c.end_of-entry.ensures))))
+    (ap (λ r. Some r.0) (sym c.end_of-entry.ensures)) (inl (ap (λ r. r.1) (sym c.end_of-entry.ensures) ∙ c.if-not-same.ensures, (refl, c.push_reserved.ensures.items ∙ ap (λ r. kept ++ r ∷ []) (told ∙ ap (λ r. record_of_end o held c.args.effect.now.ended r.0) c.end_of-entry.ensures))))

@@ -4,7 +4,7 @@ use Rattle.std.specs.Int.{w64}
 use Rattle.std.proofs.lemmas.Int.{to_z-of_z}
 use Rattle.ilp_packet.specs.Packet.{plain_prepare}
 use Rattle.ilp_desk.specs.Portion.{Portion}
-use Rattle.ilp_workers.specs.Links.{Tells}
+use Rattle.ilp_link_traits.specs.Links.{Tells}
 use Rattle.ilp_workers.specs.Forwarding.{order, IsHeldAt}
 use Rattle.ilp_workers.proofs.Sessions.{held_raises, refused_raises_none, held_on_its_way}
 use Rattle.ilp_workers.proofs.parts.Parts.hold.Given as given

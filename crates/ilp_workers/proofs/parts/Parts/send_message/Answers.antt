@@ -2,7 +2,7 @@ use Rattle.std.proofs.Common.{refl, sym, ap, ◌∙◌, rules, arith, subst}
 use Rattle.std.specs.Prelude.{FitsSigned, is_some}
 use Rattle.std.specs.Int.{w64}
 use Rattle.std.proofs.lemmas.Int.{to_z-of_z}
-use Rattle.ilp_workers.specs.Links.{came_of}
+use Rattle.ilp_link_traits.specs.Links.{came_of}
 use Rattle.ilp_workers.specs.Messaging.{message_expiry, peer_answer_of, IsPassedOn}
 use Rattle.ilp_workers.proofs.EngineMessages.{answer_came, no_answer_came, passed_on}
 use Rattle.ilp_workers.proofs.parts.Parts.send_message.Goals as goal

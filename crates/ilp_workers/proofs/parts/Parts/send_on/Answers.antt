@@ -3,7 +3,7 @@ use Rattle.std.specs.Prelude.{FitsSigned}
 use Rattle.std.specs.Int.{w64}
 use Rattle.std.proofs.lemmas.Int.{to_z-of_z}
 use Rattle.ilp_packet.specs.Packet.{PlainPrepare, plain_prepare, prepare, Spells}
-use Rattle.ilp_workers.specs.Links.{Tells, sending, came_of}
+use Rattle.ilp_link_traits.specs.Links.{Tells, sending, came_of}
 use Rattle.ilp_workers.specs.Forwarding.{effect_of}
 use Rattle.ilp_workers.proofs.Sending.{written_alone}
 use Rattle.ilp_workers.proofs.parts.Parts.send_on.Goals as goal

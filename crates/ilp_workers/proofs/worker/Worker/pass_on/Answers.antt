@@ -1,6 +1,7 @@
 use Rattle.std.proofs.Common.{ap, ◌∙◌, Some, None, sym, subst, arith}
 use Rattle.ilp_packet.specs.Packet.{plain_prepare}
-use Rattle.ilp_workers.specs.declared.reply_effect.Told.TheVariants.{Rejected}
+use Rattle.ilp_workers.specs.declared.rejects.ToldReject.TheVariants.{Own}
+use Rattle.ilp_workers.specs.declared.reply_effect.Told.TheVariants.{Reject}
 use Rattle.ilp_workers.specs.Worker.{PlainWorker, worker, reply_of}
 use Rattle.ilp_workers.specs.Forwarding.{order, IsTold, IsForwardedBy}
 use Rattle.ilp_workers.proofs.Passing.{sent_by, same_worker}
@@ -22,12 +23,13 @@ returns-in-Err g c =
     let reply = reply_of new.reply_in new.incoming.octets new.outgoing.octets new.rejected.octets in
     let before = worker old.share old.records.items (g.C.Clock.told old.clock) (g.U.Uplink.told old.uplink) (g.E.EngineLink.told old.engine) (reply_of old.reply_in old.incoming.octets old.outgoing.octets old.rejected.octets) in
     let between = worker held.share held.records.items (g.C.Clock.told held.clock) (g.U.Uplink.told held.uplink) (g.E.EngineLink.told held.engine) reply in
-    let told : IsTold g.J.Naming.desk.config (Some held.incoming.octets) (Rejected c.in-Err.why) reply =
-    subst (λ C. IsTold C (Some held.incoming.octets) (Rejected c.in-Err.why) reply) c.config.ensures c.tell.ensures.told in
-    let refused : IsForwardedBy o before between None None = record {
+    let told : IsTold g.J.Naming.desk.config (Some held.incoming.octets) (Reject (Own c.in-Err.why)) reply =
+    subst (λ C. IsTold C (Some held.incoming.octets) (Reject (Own c.in-Err.why)) reply) c.config.ensures c.tell.ensures.told in
+    let refused : IsForwardedBy o before between None None (Some (Own c.in-Err.why)) = record {
       why = c.in-Err.why;
       reason = c.in-Err.ensures.refused;
       told = told;
+      named = refl;
       share = c.in-Err.ensures.share;
       records = c.in-Err.ensures.records;
       links = (ap g.U.Uplink.told c.in-Err.ensures.links.0, ap g.E.EngineLink.told c.in-Err.ensures.links.1);
@@ -36,8 +38,9 @@ returns-in-Err g c =
     (g.U.Uplink.told held.uplink) (g.U.Uplink.told new.uplink) (g.E.EngineLink.told held.engine) (g.E.EngineLink.told new.engine) reply
     c.tell.ensures.share (ap (λ r. r.items) c.tell.ensures.records) (ap g.C.Clock.told c.tell.ensures.clock)
     (ap g.U.Uplink.told c.tell.ensures.links.0) (ap g.E.EngineLink.told c.tell.ensures.links.1) in
-    subst (λ (w : PlainWorker). IsForwardedBy o c.args.self.now w None None) (sym same)
-    (subst (λ (w : PlainWorker). IsForwardedBy o w between None None) c.self.view_is refused)
+    rw c.unbooked.ensures.rejected
+    (subst (λ (w : PlainWorker). IsForwardedBy o c.args.self.now w None None (Some (Own c.in-Err.why))) (sym same)
+    (subst (λ (w : PlainWorker). IsForwardedBy o w between None None (Some (Own c.in-Err.why))) c.self.view_is refused))
 
 -- the hold, what the peer was asked, the end, and what the sender is told of it
 pub returns : goal.returns
@@ -55,17 +58,17 @@ returns g c =
     let between = worker ended.share ended.records.items (g.C.Clock.told ended.clock) (g.U.Uplink.told ended.uplink) (g.E.EngineLink.told ended.engine) reply in
     let told : IsTold g.J.Naming.desk.config (Some ended.incoming.octets) c.end-ended.result.told reply =
     subst (λ C. IsTold C (Some ended.incoming.octets) c.end-ended.result.told reply) c.config-2.ensures c.tell-2.ensures.told in
-    let sent : IsForwardedBy o before between (Some hold.number) answer = sent_by o before between hold held.share asked.share
+    let sent : IsForwardedBy o before between (Some hold.number) answer c.rejected.result = sent_by o before between hold held.share asked.share
     (g.C.Clock.told held.clock) (g.C.Clock.told asked.clock) asked.records.items (g.U.Uplink.told held.uplink) (g.U.Uplink.told asked.uplink)
-    c.send_on-effect.ensures.asked.0 asked.incoming.octets c.send_on-effect.result c.end-ended.result.told answer
+    c.send_on-effect.ensures.asked.0 asked.incoming.octets c.send_on-effect.result c.end-ended.result.told answer c.rejected.result
     c.in-Ok.ensures.held (ap g.U.Uplink.told c.in-Ok.ensures.links.0) c.send_on-effect.ensures.asked.1 (ap g.U.Uplink.told c.end-ended.ensures.links.0)
     c.send_on-effect.ensures.asked.2 (ap g.C.Clock.told c.send_on-effect.ensures.clock) c.send_on-effect.ensures.share
     (ap (λ r. r.items) c.send_on-effect.ensures.records ∙ c.in-Ok.ensures.records) c.end-ended.ensures.ended
     (ap g.E.EngineLink.told c.end-ended.ensures.links.1 ∙ (ap g.E.EngineLink.told c.send_on-effect.ensures.engine ∙ ap g.E.EngineLink.told c.in-Ok.ensures.links.1))
-    (subst (λ i. IsTold g.J.Naming.desk.config (Some i) c.end-ended.result.told reply) (ap (λ o. o.octets) c.end-ended.ensures.incoming) told) in
+    (subst (λ i. IsTold g.J.Naming.desk.config (Some i) c.end-ended.result.told reply) (ap (λ o. o.octets) c.end-ended.ensures.incoming) told) c.rejected.ensures in
     let same = same_worker ended.share new.share ended.records.items new.records.items (g.C.Clock.told ended.clock) (g.C.Clock.told new.clock)
     (g.U.Uplink.told ended.uplink) (g.U.Uplink.told new.uplink) (g.E.EngineLink.told ended.engine) (g.E.EngineLink.told new.engine) reply
     c.tell-2.ensures.share (ap (λ r. r.items) c.tell-2.ensures.records) (ap g.C.Clock.told c.tell-2.ensures.clock)
     (ap g.U.Uplink.told c.tell-2.ensures.links.0) (ap g.E.EngineLink.told c.tell-2.ensures.links.1) in
-    subst (λ (w : PlainWorker). IsForwardedBy o c.args.self.now w (Some hold.number) answer) (sym same)
-    (subst (λ (w : PlainWorker). IsForwardedBy o w between (Some hold.number) answer) c.self.view_is sent)
+    subst (λ (w : PlainWorker). IsForwardedBy o c.args.self.now w (Some hold.number) answer c.rejected.result) (sym same)
+    (subst (λ (w : PlainWorker). IsForwardedBy o w between (Some hold.number) answer c.rejected.result) c.self.view_is sent)

@@ -1,4 +1,4 @@
-use Rattle.ilp_server.proofs.exchange.post.Goals as goal
+use Rattle.ilp_client.proofs.exchange.post.Goals as goal
 
 -- of any fault but that of a failed read, what the reading says
 pub returns-in-Err-clause-timely : goal.returns-in-Err-clause-timely

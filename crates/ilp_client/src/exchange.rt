@@ -3,7 +3,7 @@ ghost use Rattle.std.specs.Prelude.{◌≡◌, IfSome, IsErrOf};
 ghost use Rattle.ilp_io.specs.Counts.{CountsUp, Tallies, TalliesUpTo};
 ghost use Rattle.ilp_http.specs.Limits.{most_reads};
 ghost use Rattle.ilp_http.specs.Writing.{request_text};
-ghost use Rattle.ilp_server.specs.Exchange.{IsRequestWritten, IsResponseRead, IsReadInTime, failed_writes, failed_reads};
+ghost use Rattle.ilp_client.specs.Exchange.{IsRequestWritten, IsResponseRead, IsReadInTime, failed_writes, failed_reads};
 
 use ilp_http::{Buffer, Outgoing, Response, ResponseFault, read_response, write_request};
 use ilp_io::{Sink, Source};

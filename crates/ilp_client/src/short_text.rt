@@ -1,6 +1,6 @@
 //! A short text.
 ghost use Rattle.std.specs.Prelude.{◌≡◌, ◌+◌, ◌≤◌, ◌++◌, length};
-ghost use Rattle.ilp_server.specs.declared.short_text.TheConstants.{ROOM};
+ghost use Rattle.ilp_client.specs.declared.short_text.TheConstants.{ROOM};
 
 use std::marker::Model;
 

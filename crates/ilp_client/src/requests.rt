@@ -4,7 +4,7 @@ ghost use Rattle.std.specs.Prelude.{◌≡◌, ◌+◌, ◌<◌, ◌≤◌, [], 
 ghost use Rattle.ilp_accounts.specs.Configuration.{peer_at};
 ghost use Rattle.ilp_http.specs.declared.status.Kind.TheVariants as kind;
 ghost use Rattle.ilp_settlement.specs.Targets as targets;
-ghost use Rattle.ilp_server.specs.Requests.{IsHead, token_line, key_line, account_text};
+ghost use Rattle.ilp_client.specs.Requests.{IsHead, token_line, key_line, account_text};
 
 use crate::short_text::ShortText;
 use ilp_accounts::Config;

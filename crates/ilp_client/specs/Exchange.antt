@@ -7,8 +7,8 @@ use Rattle.ilp_http.specs.ResponseAnswer.{IsResponseFault, AnswersInTime}
 use Rattle.ilp_http.specs.ResponseAnswer as response
 use Rattle.ilp_http.specs.declared.response.Response.{Response}
 use Rattle.ilp_http.specs.declared.response.ResponseFault.TheVariants.{Failed}
-use Rattle.ilp_server.specs.declared.exchange.PostFault.{PostFault}
-use Rattle.ilp_server.specs.declared.exchange.PostFault.TheVariants.{Unsent, Unanswered}
+use Rattle.ilp_client.specs.declared.exchange.PostFault.{PostFault}
+use Rattle.ilp_client.specs.declared.exchange.PostFault.TheVariants.{Unsent, Unanswered}
 
 -- The octets were written: all of them, or where the request is unsent not all.
 abbrev pub IsRequestWritten : {T : Type 0} → Option (List ℕ) → Option (List ℕ) → List ℕ → Result T PostFault → Type 0

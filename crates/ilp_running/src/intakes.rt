@@ -1,4 +1,4 @@
-//! How a close reaches the intakes and the workers.
+//! What reaches the intakes of both sides, and when a close is over.
 
 use crate::places::HeldBack;
 use ilp_intake::IntakeHandle;
@@ -17,10 +17,10 @@ pub(crate) fn ending_after(max_hold_ms: u32) -> Duration {
     Duration::from_millis(u64::from(max_hold_ms).saturating_add(MARGIN_MS))
 }
 
-/// What reaches the intakes of both sides, and whether what still waits is served. Threads share it by
-/// reference.
+/// What reaches the intakes of both sides, and whether what still waits there is served after a close.
+/// Threads share it by reference.
 #[derive(Drop)]
-pub(crate) struct Ending {
+pub(crate) struct Intakes {
     peers: IntakeHandle,
     engines: IntakeHandle,
     // For how long connections are served once it is closed.
@@ -30,10 +30,10 @@ pub(crate) struct Ending {
     over: AtomicU64,
 }
 
-impl Ending {
-    /// It is not closed.
-    pub(crate) fn new(peers: IntakeHandle, engines: IntakeHandle, after: Duration) -> Ending {
-        Ending {
+impl Intakes {
+    /// The intakes of these handles, which accept. After a close they are served for so long.
+    pub(crate) fn new(peers: IntakeHandle, engines: IntakeHandle, after: Duration) -> Intakes {
+        Intakes {
             peers,
             engines,
             after,
@@ -49,11 +49,11 @@ impl Ending {
                 .over
                 .compare_exchange(u64::MAX, over, Ordering::SeqCst, Ordering::SeqCst);
         }
-        self.close_intakes();
+        self.accept_no_more();
     }
 
     /// Has both sides accept no more.
-    pub(crate) fn close_intakes(&self) {
+    pub(crate) fn accept_no_more(&self) {
         self.peers.close();
         self.engines.close();
     }

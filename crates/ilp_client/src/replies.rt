@@ -1,11 +1,11 @@
 //! What a response of a peer or of a settlement engine comes to.
 ghost use Rattle.std.specs.Prelude.{◌≡◌, ◌&&◌, not};
-ghost use Rattle.ilp_server.specs.Replies as replies;
-ghost use Rattle.ilp_server.specs.Replies.{link_octets};
+ghost use Rattle.ilp_client.specs.Replies as replies;
+ghost use Rattle.ilp_client.specs.Replies.{link_octets};
 
 use crate::exchange::PostFault;
 use ilp_http::Response;
-use ilp_workers::{EngineReply, LinkFault};
+use ilp_link_traits::{EngineReply, LinkFault};
 
 /// A peer's answer to a packet (RFC 0035): the body of a 200. Every other status is a fault of the
 /// link, those from 100 to 199 among them, and so is no response.
@@ -33,15 +33,29 @@ pub fn message_reply<'b>(came: Result<Response<'b>, PostFault>) -> Result<&'b [u
 
 /// What an engine says of a settlement (RFC 0038): 200 to 299 is `Accepted`, and 400 to 499
 /// `Refused`, but for 409, which says that the key is in use. Every other status is `Unknown`, 409
-/// among them, and so is no response: the engine may or may not have taken the settlement on.
+/// among them, and so is no response: the engine may or may not have taken the settlement on. The
+/// reply has the status of what isn't `Accepted`, and none where no response came.
 pub fn settlement_reply(came: Result<Response<'_>, PostFault>) -> EngineReply
     ensures { result ≡ replies.settlement_reply came.entry }
 {
     match came {
-        Ok(response) if is_success(response.status) => EngineReply::Accepted,
-        Ok(response) if is_refused(response.status) => EngineReply::Refused,
-        Ok(_) => EngineReply::Unknown,
-        Err(_) => EngineReply::Unknown,
+        Ok(response) => said_by(response.status),
+        Err(_) => EngineReply::Unknown { status: None },
+    }
+}
+
+// What an engine says of a settlement by this status.
+fn said_by(status: u16) -> EngineReply
+    ensures { result ≡ replies.settlement_status status }
+{
+    if is_success(status) {
+        EngineReply::Accepted
+    } else if is_refused(status) {
+        EngineReply::Refused { status }
+    } else {
+        EngineReply::Unknown {
+            status: Some(status),
+        }
     }
 }
 

@@ -1,7 +1,7 @@
 -- What links tell of what they were handed, and of what came back. A link that tells nothing is bound by nothing here.
 use Rattle.std.specs.Prelude.{◌≡◌, ℕ, ℤ, Bool, List, [], ◌∷◌, ◌++◌, Option, Some, None, Result, Ok, Err, IsSomeAnd, ⊤}
-use Rattle.ilp_workers.specs.declared.links.LinkFault.{LinkFault}
-use Rattle.ilp_workers.specs.declared.links.EngineReply.{EngineReply}
+use Rattle.ilp_link_traits.specs.declared.links.LinkFault.{LinkFault}
+use Rattle.ilp_link_traits.specs.declared.links.EngineReply.{EngineReply}
 
 -- the octets that came back, if any did
 abbrev pub came_of : Result (Unit {0}) LinkFault → List ℕ → Option (List ℕ)

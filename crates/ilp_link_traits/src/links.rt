@@ -1,6 +1,6 @@
-//! What the actors of a desk are given: a clock, and ways to peers and to settlement engines.
+//! A clock, and ways to peers and to settlement engines.
 ghost use Rattle.std.specs.Prelude.{◌≡◌, []};
-ghost use Rattle.ilp_workers.specs.Links.{Tells, came_of, sending, asking, settling, messaging, asked, settled, messaged};
+ghost use Rattle.ilp_link_traits.specs.Links.{Tells, came_of, sending, asking, settling, messaging, asked, settled, messaged};
 
 use ilp_oer::Octets;
 use std::alloc::Allocator;
@@ -16,10 +16,19 @@ pub struct LinkFault;
 pub enum EngineReply {
     /// It takes the settlement on.
     Accepted,
-    /// It does not, and never will under this key.
-    Refused,
-    /// It may or may not have taken it on.
-    Unknown,
+    /// It does not, and never will under this key. It said so by this status of HTTP.
+    Refused { status: u16 },
+    /// It may or may not have taken it on: no response came, or one with a status that says neither.
+    Unknown { status: Option<u16> },
+}
+
+/// What the octets are that a peer replied to a Prepare (RFC 0027).
+#[derive(Clone, Copy, Debug, PartialEq, Eq)]
+pub enum ReplyKind {
+    /// A Fulfill or a Reject.
+    Answer,
+    /// Neither: another packet, or none.
+    NoAnswer,
 }
 
 /// Where moments come from. Where it tells, `told` is the moments that it gave.
@@ -36,7 +45,7 @@ pub trait Clock {
 /// The way to the peers. Where it tells, `told` is what it was handed, each with what came back.
 pub trait Uplink {
     ghost use Rattle.std.specs.Prelude.{List, Option, None};
-    ghost use Rattle.ilp_workers.specs.Links.{Sending};
+    ghost use Rattle.ilp_link_traits.specs.Links.{Sending};
 
     ghost told: { Self → Option (List Sending) } = { λ _. None };
 
@@ -53,13 +62,19 @@ pub trait Uplink {
         requires { reply.old.octets ≡ [] }
         ensures { Tells (told self.old)
             (sending to packet.now deadline (came_of result reply.new.octets)) (told self.new) };
+
+    /// By this the link learns what the octets are that this peer replied last, from whoever read
+    /// them. It hands nothing to anybody. A link that doesn't care leaves it as it is.
+    fn note_reply(&mut self, from: u32, kind: ReplyKind)
+        ensures { told self.new ≡ told self.old }
+    {}
 }
 
 /// The way to the peers' settlement engines (RFC 0038). Where it tells, `told` is what it was
 /// handed, each with what came back.
 pub trait EngineLink {
     ghost use Rattle.std.specs.Prelude.{List, Option, None};
-    ghost use Rattle.ilp_workers.specs.Links.{ToEngine};
+    ghost use Rattle.ilp_link_traits.specs.Links.{ToEngine};
 
     ghost told: { Self → Option (List ToEngine) } = { λ _. None };
 

@@ -2,10 +2,10 @@
 use Rattle.std.specs.Prelude.{ℕ, List, Bool, false, not, ◌&&◌, ◌||◌, ◌==◌, nat_le, if◌then◌else◌, Option, Some, None, Result, Ok, Err}
 use Rattle.std.specs.Borrow.{Bor}
 use Rattle.ilp_http.specs.declared.response.Response.{Response}
-use Rattle.ilp_workers.specs.declared.links.EngineReply.{EngineReply}
-use Rattle.ilp_workers.specs.declared.links.EngineReply.TheVariants.{Accepted, Refused, Unknown}
-use Rattle.ilp_workers.specs.declared.links.LinkFault.{LinkFault}
-use Rattle.ilp_server.specs.declared.exchange.PostFault.{PostFault}
+use Rattle.ilp_link_traits.specs.declared.links.EngineReply.{EngineReply}
+use Rattle.ilp_link_traits.specs.declared.links.EngineReply.TheVariants.{Accepted, Refused, Unknown}
+use Rattle.ilp_link_traits.specs.declared.links.LinkFault.{LinkFault}
+use Rattle.ilp_client.specs.declared.exchange.PostFault.{PostFault}
 
 -- 200 to 299 (RFC 9110, section 15.3)
 abbrev pub is_success : ℕ → Bool
@@ -37,12 +37,14 @@ message_reply (Err fault) = None
 -- what a status says of a settlement
 abbrev pub settlement_status : ℕ → EngineReply
 settlement_status status =
-    if is_success status then Accepted else if is_client_error status && not (is_conflict status) then Refused else Unknown
+    if is_success status then Accepted
+    else if is_client_error status && not (is_conflict status) then Refused status
+    else Unknown (Some status)
 
--- what an engine says of a settlement: nothing where no response came
+-- what an engine says of a settlement: neither yes nor no where no response came
 abbrev pub settlement_reply : Result Response PostFault → EngineReply
 settlement_reply (Ok came) = settlement_status came.status
-settlement_reply (Err fault) = Unknown
+settlement_reply (Err fault) = Unknown None
 
 -- an engine has the account that it was told of
 abbrev pub has_account : Result Response PostFault → Bool

@@ -1,0 +1,3 @@
+pub mod Requests
+pub mod Exchange
+pub mod Replies

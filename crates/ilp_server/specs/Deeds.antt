@@ -1,0 +1,27 @@
+-- What a request brought about that an operator is told of.
+use Rattle.std.specs.Prelude.{ℕ, if◌then◌else◌, Option, Some, None, Result, Ok, Err}
+use Rattle.ilp_book.specs.declared.calls.Kept.{Kept}
+use Rattle.ilp_workers.specs.declared.rejects.ToldReject.{ToldReject}
+use Rattle.ilp_server.specs.declared.unserved.NotServed.{NotServed}
+use Rattle.ilp_server.specs.declared.served.Served.{Served}
+use Rattle.ilp_server.specs.declared.served.Served.TheVariants.{Packet, Settlement, Message, Report, Close}
+use Rattle.ilp_server.specs.declared.handled.Deed.{Deed}
+use Rattle.ilp_server.specs.declared.handled.Deed.TheVariants.{Nothing, Credited, Rejected}
+
+-- a credit, if it was made now
+abbrev pub credit_deed : ℕ → Kept → Deed
+credit_deed peer kept = if kept.fresh then Credited peer kept.number kept.amount else Nothing
+
+-- the Reject that the sender of a packet is answered, if it is one
+abbrev pub packet_deed : ℕ → Option ToldReject → Deed
+packet_deed peer (Some reject) = Rejected peer reject
+packet_deed peer None = Nothing
+
+-- what was done, by what became of the request
+abbrev pub deed_of : Result Served NotServed → Deed
+deed_of (Ok (Packet peer rejected)) = packet_deed peer rejected
+deed_of (Ok (Settlement peer kept text)) = credit_deed peer kept
+deed_of (Ok Message) = Nothing
+deed_of (Ok (Report text)) = Nothing
+deed_of (Ok Close) = Nothing
+deed_of (Err why) = Nothing
