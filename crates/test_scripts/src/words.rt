@@ -2,12 +2,12 @@
 ghost use Rattle.std.specs.Prelude.{IfOk};
 ghost use Rattle.ilp_terms.specs.Expiry.{IsMoment};
 
-use crate::fault::RowFault;
 use ilp_oer::Octets;
 use ilp_packet::{
     Fulfill, Prepare, Reject, is_address, write_fulfill, write_prepare, write_reject,
 };
 use std::alloc::Global;
+use test_row_texts::RowFault;
 
 // The SHA-256 digest of 32 zero octets (by Python's hashlib).
 const CONDITION: [u8; 32] = [

@@ -1,6 +1,5 @@
 //! Packets that are cut short or go on, as lines of a script.
 
-use crate::fault::RowFault;
 use crate::scripts::print_replayed;
 use crate::words::in_hexadecimal;
 use ilp_accounts::Config;

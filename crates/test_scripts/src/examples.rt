@@ -3,7 +3,7 @@
 
 use crate::scripts::print_replayed;
 use ilp_accounts::{Config, ConfigFault, explain};
-use ilp_connector::check;
+use ilp_offline::check;
 use std::alloc::{AllocError, Global};
 use std::rt::Runtime;
 use std::{fs, io};

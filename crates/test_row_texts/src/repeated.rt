@@ -5,11 +5,7 @@ use std::alloc::{AllocError, Global};
 
 /// Adds a part as many times as words say, which are a number, a space and the part. In the part `\n`
 /// is the end of a line and `#` the number of the part, from 0.
-pub(crate) fn push_repeated(
-    alloc: Global,
-    text: &mut String,
-    repeat: &str,
-) -> Result<(), RowFault> {
+pub fn push_repeated(alloc: Global, text: &mut String, repeat: &str) -> Result<(), RowFault> {
     let Some((count, part)) = repeat.split_once(' ') else {
         return Err(RowFault::NotUnderstood);
     };

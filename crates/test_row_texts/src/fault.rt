@@ -5,9 +5,10 @@ use std::io;
 
 /// Why nothing is told of a row.
 #[derive(Clone, Copy)]
-pub(crate) enum RowFault {
+pub enum RowFault {
     /// The row says what no row says, or is to replace lines that its text doesn't have.
     NotUnderstood,
+    /// A growth of memory was denied.
     Memory,
 }
 
@@ -19,7 +20,7 @@ impl From<AllocError> for RowFault {
 
 impl RowFault {
     /// Prints the name of a row that is not understood. Want of memory ends the program.
-    pub(crate) fn print(self, rt: &impl Print, name: &str) -> io::Result<()> {
+    pub fn print(self, rt: &impl Print, name: &str) -> io::Result<()> {
         match self {
             RowFault::NotUnderstood => println!(rt; "row not understood: {name}"),
             RowFault::Memory => Err(io::Error::from(AllocError)),

@@ -1,8 +1,9 @@
 //! Replays whose reading or writing is cut short, and the greatest length of a script.
 
 use ilp_accounts::Config;
-use ilp_connector::{BUILT_IN, ReplayFault, replay};
+use ilp_config_file::BUILT_IN;
 use ilp_io::{Counting, Narrow, Pieces, Recording, WhenFull};
+use ilp_offline::{ReplayFault, replay};
 use std::alloc::{AllocError, Global};
 use std::test::Fail;
 

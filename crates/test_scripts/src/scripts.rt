@@ -2,7 +2,8 @@
 
 use crate::words::in_hexadecimal;
 use ilp_accounts::{Config, ConfigFault};
-use ilp_connector::{Refusal, ReplayFault, bad_lines, replay};
+use ilp_offline::{ReplayFault, bad_lines, replay};
+use ilp_refusals::Refusal;
 use std::rt::Runtime;
 use std::{fs, io};
 

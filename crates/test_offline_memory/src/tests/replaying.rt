@@ -2,8 +2,8 @@
 
 use super::{GROWTHS, PREPARE, PREPARE_BACK, lending};
 use ilp_accounts::Config;
-use ilp_connector::{ReplayFault, replay};
 use ilp_io::{Pieces, Recording};
+use ilp_offline::{ReplayFault, replay};
 use std::alloc::{AllocError, Global};
 use std::process::Abort;
 use std::test::Fail;

@@ -2,7 +2,9 @@
 
 use super::{GROWTHS, PREPARE};
 use ilp_accounts::Config;
-use ilp_connector::{BUILT_IN, Refusal, bad_lines, describe_packet, reject_words};
+use ilp_config_file::BUILT_IN;
+use ilp_offline::{bad_lines, describe_packet, reject_words};
+use ilp_refusals::Refusal;
 use std::process::Abort;
 use std::test::Fail;
 use test_allocator::DenyingAllocator;
