@@ -13,7 +13,7 @@ const OTHERS_READ: u32 = 0o004;
 
 /// How it is told.
 #[derive(Clone, Copy, PartialEq, Eq)]
-pub(crate) enum Telling {
+pub enum Telling {
     /// Each thing by a line, to whoever checks a configuration.
     Line,
     /// Each by a line with time and level, to whoever runs a connector. That there is one worker alone is
@@ -43,7 +43,7 @@ impl Telling {
 
 /// Tells what is to be looked at in a configuration and its file. Of the built-in one, whose tokens are
 /// known to all, and of one that is refused nothing is told; and where memory is short not all is.
-pub(crate) fn tell_warnings<R: Runtime + AllocGlobal>(
+pub fn tell_warnings<R: Runtime + AllocGlobal>(
     rt: &R,
     path: &str,
     octets: &[u8],
