@@ -2,10 +2,10 @@
 """Vectors for the tests of packets and octet strings, made from the standards alone.
 
 Writes ILPv4 packets (RFC 0027) over the octet strings of RFC 0030, and mistakes in them. With the
-argument `rows` it prints the rows of crates/test_rows/data/packets/vectors.txt, with `cuts` those of
-cuts.txt there, and with `lines` what that program is to print of each: the packet in words
-(docs/PROTOCOL.md), or the fault that a reader meets first; of a row of cuts.txt, how many fronts of
-the packet end too soon. So many `x` in a long field are written `<N 78>` in rows and lines, but for
+argument `rows` it prints the rows of crates/test_scripts/data/packets/vectors.txt, with `cuts` those of
+crates/test_rows/data/packets/cuts.txt, and with `lines` what those programs are to print of each: the
+packet in words (docs/PROTOCOL.md), or the fault that a reader meets first; of a row of cuts.txt, how
+many fronts of the packet end too soon. So many `x` in a long field are written `<N 78>` in rows and lines, but for
 an address, which `lines` has as text. With `strings` it prints the octet strings of
 crates/test_values/src/tests/oer.rt. It shares nothing with the crates.
 """

@@ -1,5 +1,5 @@
 #!/usr/bin/env python3
-"""The reports of scripts, for crates/test_rows/stdout and crates/connector/stdout.
+"""The reports of scripts, for crates/test_scripts/stdout and crates/connector/stdout.
 
 Reckoned from the rules alone (docs/PROTOCOL.md: the quote, the effect of entries on balances, the
 trial balance, the report). A line of a script and what is printed for it, as `entry 1 fulfilled 0`,
@@ -18,10 +18,10 @@ from pathlib import Path
 from typing import NamedTuple
 
 CRATES = Path(__file__).resolve().parents[2] / "crates"
-ROWS = CRATES / "test_rows"
+ROWS = CRATES / "test_scripts"
 CONNECTOR = CRATES / "connector"
 
-# In the order in which crates/test_rows prints them.
+# In the order in which crates/test_scripts prints them.
 SCRIPTS = ("two_peers", "dear_peer", "short_journal", "deep_credit", "deep_credit_short_journal",
            "small_packets", "three_assets", "settlements", "settlements_short_journal",
            "settlements_scales", "settlements_in_parts")
@@ -206,7 +206,7 @@ def fill_example(name, printed):
 
 
 def rows():
-    """The stored lines of crates/test_rows with each report in whole."""
+    """The stored lines of crates/test_scripts with each report in whole."""
     printed = lines_in(ROWS / "stdout")
     begin = printed.index("== a Prepare is fulfilled")
     filled, printed = printed[:begin], printed[begin:]
@@ -223,7 +223,7 @@ def rows():
 
 def stored_run():
     """The stored lines of crates/connector, over the built-in configuration."""
-    source = (CRATES / "ilp_connector/src/built_in.rt").read_text()
+    source = (CRATES / "ilp_config_file/src/built_in.rt").read_text()
     built_in = tomllib.loads(re.search(r'BUILT_IN: &str = r#"(.*?)"#;', source, re.DOTALL)[1])
     lines, rest = fill(built_in, lines_in(CONNECTOR / "stdin"), lines_in(CONNECTOR / "stdout"))
     return lines + rest

@@ -2,29 +2,20 @@
 //! script from standard input over a configuration, or runs a connector of one.
 #![tactic(auto)]
 
-mod carrying;
 mod checking;
-mod configuring;
-mod expecting;
 mod helping;
 mod replaying;
-mod serving;
-mod warning;
 
 use checking::{run_check, run_check_journal};
 use helping::{USAGE, is_help, run_help, run_version};
-use ilp_connector::{Refusal, describe_packet, reject_words};
-use ilp_journal_file::FileFault;
+use ilp_offline::{describe_packet, reject_words};
+use ilp_refusals::Refusal;
+use ilp_starting::{Host, Refused, RunFault, serve};
 use replaying::run_replay;
-use serving::run_serve;
 use std::env;
-use std::fs::File;
 use std::io::ErrorKind;
-use std::net::{Net, TcpListener, TcpStream};
 use std::process::ExitCode;
-use std::rt::{Files, Runtime};
-use std::sync::Wait;
-use std::thread::Threads;
+use std::rt::Runtime;
 
 // What the program is asked for: a command, what it is about, and where a journal is kept.
 #[derive(Drop)]
@@ -38,23 +29,27 @@ struct Words {
 #[derive(Drop)]
 enum Exit {
     Done,
-    Refused(Refusal),
-    // It was refused, and this line says why.
-    Explained(Refusal, String),
+    Refused(Refused),
     // Its words are none of the commands.
     Misused,
     // Standard output could not be written.
     OutputFailed,
 }
 
-/// A journal's file that can't be used. Why was told already.
-impl From<FileFault> for Exit {
-    fn from(fault: FileFault) -> Exit {
-        Exit::Refused(match fault {
-            FileFault::Unread => Refusal::JournalUnread,
-            FileFault::Unwritten => Refusal::WriteFault,
-            FileFault::Memory => Refusal::Memory,
-        })
+// A refusal of which nothing more is said.
+impl From<Refusal> for Exit {
+    fn from(refusal: Refusal) -> Exit {
+        Exit::Refused(Refused::from(refusal))
+    }
+}
+
+// A run that did not end as it was to.
+impl From<RunFault> for Exit {
+    fn from(fault: RunFault) -> Exit {
+        match fault {
+            RunFault::Refused(refused) => Exit::Refused(refused),
+            RunFault::OutputFailed => Exit::OutputFailed,
+        }
     }
 }
 
@@ -71,7 +66,7 @@ fn given_words<R: Runtime + AllocGlobal>(rt: &R) -> Result<Words, Exit> {
     let mut words = match env::args(rt) {
         Ok(args) => args.skip(1),
         Err(error) if error.kind() == ErrorKind::OutOfMemory => {
-            return Err(Exit::Refused(Refusal::Memory));
+            return Err(Exit::from(Refusal::Memory));
         }
         Err(_) => return Err(Exit::Misused),
     };
@@ -86,18 +81,7 @@ fn given_words<R: Runtime + AllocGlobal>(rt: &R) -> Result<Words, Exit> {
 }
 
 // Runs what the words ask for.
-fn run<R>(rt: &R, words: &Words) -> Exit
-where
-    R: Runtime
-        + AllocGlobal
-        + Files<File = File>
-        + Net<Listener = TcpListener, Stream = TcpStream>
-        + Threads
-        + Wait
-        + Copy
-        + Send
-        + Sync,
-{
+fn run<R: Host>(rt: &R, words: &Words) -> Exit {
     let argument = words.argument.as_ref().map(|word| word.as_str());
     let journal = words.journal.as_ref().map(|word| word.as_str());
     match (words.command.as_str(), argument, journal) {
@@ -116,6 +100,14 @@ where
     }
 }
 
+// Runs a connector until it is asked to close.
+fn run_serve<R: Host>(rt: &R, config: &str, journal: Option<&str>) -> Exit {
+    match serve(rt, config, journal) {
+        Ok(()) => Exit::Done,
+        Err(fault) => Exit::from(fault),
+    }
+}
+
 // Prints what a packet in hexadecimal says, and on standard error what a Reject says as text.
 fn run_packet<R: Runtime + AllocGlobal>(rt: &R, text: &str) -> Exit {
     match describe_packet(rt.alloc(), text) {
@@ -124,7 +116,7 @@ fn run_packet<R: Runtime + AllocGlobal>(rt: &R, text: &str) -> Exit {
             tell_words(rt, text);
             exit
         }
-        Err(refusal) => Exit::Refused(refusal),
+        Err(refusal) => Exit::from(refusal),
     }
 }
 
@@ -147,12 +139,7 @@ fn print_line<R: Runtime>(rt: &R, line: &str) -> Exit {
 fn status<R: Runtime + AllocGlobal>(rt: &R, exit: Exit) -> u8 {
     match exit {
         Exit::Done => 0,
-        Exit::Refused(refusal) => status_of_refusal(rt, refusal),
-        Exit::Explained(refusal, why) => {
-            let status = status_of_refusal(rt, refusal);
-            let _ = rt.eprintln(why.as_str());
-            status
-        }
+        Exit::Refused(refused) => status_of_refusal(rt, &refused),
         Exit::Misused => {
             let _ = rt.eprintln(USAGE);
             2
@@ -161,10 +148,15 @@ fn status<R: Runtime + AllocGlobal>(rt: &R, exit: Exit) -> u8 {
     }
 }
 
-// Prints a refusal, and gives the exit status of the program that it ends.
-fn status_of_refusal<R: Runtime>(rt: &R, refusal: Refusal) -> u8 {
-    match rt.println(format_args!("refused {refusal}")) {
+// Prints a refusal, tells why it came where that is said, and gives the exit status of the program that
+// it ends.
+fn status_of_refusal<R: Runtime>(rt: &R, refused: &Refused) -> u8 {
+    let status = match rt.println(format_args!("refused {refused}")) {
         Ok(()) => 1,
         Err(_) => 3,
+    };
+    if let Some(why) = &refused.why {
+        let _ = rt.eprintln(why.as_str());
     }
+    status
 }

@@ -1,10 +1,11 @@
 //! The command `replay`.
 
 use crate::Exit;
-use crate::configuring::configured;
 use ilp_accounts::Config;
-use ilp_connector::{Refusal, ReplayFault, SCRIPT_LIMIT, bad_lines, replay};
 use ilp_io::{ReadFault, read_to_limit};
+use ilp_offline::{ReplayFault, SCRIPT_LIMIT, bad_lines, replay};
+use ilp_refusals::Refusal;
+use ilp_starting::configured;
 use std::io;
 use std::rt::Runtime;
 
@@ -12,7 +13,7 @@ use std::rt::Runtime;
 pub(crate) fn run_replay<R: Runtime + AllocGlobal>(rt: &R, path: &str) -> Exit {
     match configured(rt, path) {
         Ok(config) => replay_over(rt, &config),
-        Err(exit) => exit,
+        Err(refused) => Exit::Refused(refused),
     }
 }
 
@@ -20,9 +21,9 @@ pub(crate) fn run_replay<R: Runtime + AllocGlobal>(rt: &R, path: &str) -> Exit {
 fn replay_over<R: Runtime + AllocGlobal>(rt: &R, config: &Config) -> Exit {
     match read_to_limit(rt.alloc(), &mut rt.reader(), SCRIPT_LIMIT) {
         Ok(script) => replay_script(rt, config, &script),
-        Err(ReadFault::Failed) => Exit::Refused(Refusal::ReadFault),
-        Err(ReadFault::TooLong) => Exit::Refused(Refusal::ScriptTooLong),
-        Err(ReadFault::Memory) => Exit::Refused(Refusal::Memory),
+        Err(ReadFault::Failed) => Exit::from(Refusal::ReadFault),
+        Err(ReadFault::TooLong) => Exit::from(Refusal::ScriptTooLong),
+        Err(ReadFault::Memory) => Exit::from(Refusal::Memory),
     }
 }
 
@@ -36,7 +37,7 @@ fn replay_script<R: Runtime + AllocGlobal>(rt: &R, config: &Config, script: &[u8
             Exit::Done
         }
         Err(ReplayFault::WriteFault) => Exit::OutputFailed,
-        Err(fault) => Exit::Refused(fault.refusal()),
+        Err(fault) => Exit::from(fault.refusal()),
     }
 }
 

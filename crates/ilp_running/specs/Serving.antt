@@ -11,8 +11,8 @@ use Rattle.ilp_desk.specs.Portion.{Holding}
 use Rattle.ilp_desk.specs.Gathering.{IsGathered, IsWhyNotGathered}
 use Rattle.ilp_desk.specs.declared.gathering.WhyNotGathered.{WhyNotGathered}
 use Rattle.ilp_desk.specs.declared.gathering.WhyNotGathered.TheVariants as why
-use Rattle.ilp_connector.specs.declared.refusal.Refusal.{Refusal}
-use Rattle.ilp_connector.specs.declared.refusal.Refusal.TheVariants as refusals
+use Rattle.ilp_refusals.specs.declared.refusal.Refusal.{Refusal}
+use Rattle.ilp_refusals.specs.declared.refusal.Refusal.TheVariants as refusals
 use Rattle.ilp_running.specs.declared.fault.ServeFault.{ServeFault}
 use Rattle.ilp_running.specs.declared.fault.ServeFault.TheVariants.{Unprinted, NotGathered, Write}
 use Rattle.ilp_running.specs.declared.fault.Unprinted.TheVariants.{Memory, Listen, Spawn}

@@ -2,8 +2,8 @@
 ghost use Rattle.std.specs.Prelude.{◌≡◌};
 ghost use Rattle.ilp_running.specs.Serving.{fault_refusal};
 
-use ilp_connector::Refusal;
 use ilp_desk::WhyNotGathered;
+use ilp_refusals::Refusal;
 use ilp_server::Side;
 use std::alloc::AllocError;
 use std::thread::SpawnError;

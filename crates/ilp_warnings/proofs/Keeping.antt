@@ -3,10 +3,10 @@ use Rattle.std.proofs.Common.{◌≡◌, ℕ, ◌+◌, ◌<◌, ◌≤◌, nat_l
 use Rattle.std.proofs.lemmas.Bool.Decides.{nat_tests}
 use Rattle.ilp_fields.specs.declared.fault.Field.TheVariants as field
 use Rattle.ilp_accounts.specs.Configuration.{Configuration, peer_at}
-use Rattle.ilp_warnings.specs.declared.warning.Place.TheVariants.{Peer}
+use Rattle.ilp_warnings.specs.declared.warning.ConfigTable.TheVariants.{Peer}
 use Rattle.ilp_warnings.specs.declared.warning.Warning.{Warning}
 use Rattle.ilp_warnings.specs.declared.warning.Warning.TheVariants.{NoAddress}
-use Rattle.ilp_warnings.specs.Meaning.{IsAddress}
+use Rattle.ilp_warnings.specs.Meaning.{IsSocketAddress}
 use Rattle.ilp_warnings.specs.Complete.{KeepsAll, AreTopTold, AreTokensTold, AreAddressesTold, IsPeerTold, ArePeersTold, AreRoutesTold}
 
 -- what follows on success
@@ -68,7 +68,7 @@ module _ (old new : List Warning) (keeps : KeepsAll old new) where
   pub addresses_kept : (C : Configuration) (peer : ℕ) → AreAddressesTold C peer old → AreAddressesTold C peer new
   addresses_kept C peer told = record {
     host = λ h. keeps _ (told.host h);
-    engine = if_kept (λ x. ¬ IsAddress x) (NoAddress (Peer peer) field.Engine) (peer_at C peer).engine told.engine;
+    engine = if_kept (λ x. ¬ IsSocketAddress x) (NoAddress (Peer peer) field.Engine) (peer_at C peer).engine told.engine;
   }
 
   pub peer_kept : (C : Configuration) (targets : List ℕ) (peer : ℕ) → IsPeerTold C targets peer old → IsPeerTold C targets peer new

@@ -3,10 +3,10 @@ use Rattle.std.specs.Prelude.{◌≡◌, ℕ, ◌<◌, ◌≤◌, List, [], leng
 use Rattle.ilp_fields.specs.declared.fault.Field.TheVariants as field
 use Rattle.ilp_accounts.specs.Limits.{most_routes}
 use Rattle.ilp_accounts.specs.Configuration.{Configuration, peer_at}
-use Rattle.ilp_warnings.specs.declared.warning.Place.TheVariants.{Top, Peer}
+use Rattle.ilp_warnings.specs.declared.warning.ConfigTable.TheVariants.{Top, Peer}
 use Rattle.ilp_warnings.specs.declared.warning.Warning.{Warning}
 use Rattle.ilp_warnings.specs.declared.warning.Warning.TheVariants.{NoAddress, OpenEngines, OneWorker, ShortHolds, NoRoutes, ShortToken, ExampleToken, SameTokens, Unreached, Unpriced}
-use Rattle.ilp_warnings.specs.Meaning.{IsAddress, IsClosed, IsShort, IsExample, IsUnreached, IsUnpriced}
+use Rattle.ilp_warnings.specs.Meaning.{IsSocketAddress, IsClosed, IsShort, IsExample, IsUnreached, IsUnpriced}
 
 -- what was told stays told
 abbrev pub KeepsAll : List Warning → List Warning → Type 0
@@ -14,8 +14,8 @@ KeepsAll old new = (w : Warning) → Contains old w → Contains new w
 
 -- of the settings at the top
 pub record AreTopTold (C : Configuration) (told : List Warning) : Type 0 where
-  pub listen : ¬ IsAddress C.settings.listen → Contains told (NoAddress Top field.Listen)
-  pub engine_listen : ¬ IsAddress C.settings.engine_listen → Contains told (NoAddress Top field.EngineListen)
+  pub listen : ¬ IsSocketAddress C.settings.listen → Contains told (NoAddress Top field.Listen)
+  pub engine_listen : ¬ IsSocketAddress C.settings.engine_listen → Contains told (NoAddress Top field.EngineListen)
   pub engines : ¬ IsClosed C.settings.engine_listen → Contains told OpenEngines
   pub worker : C.settings.workers ≡ 1 → Contains told OneWorker
   pub holds : C.settings.max_hold_ms ≤ C.settings.window_ms → Contains told ShortHolds
@@ -31,8 +31,8 @@ pub record AreTokensTold (C : Configuration) (peer : ℕ) (told : List Warning) 
 
 -- of the places where a peer and its engine are reached
 pub record AreAddressesTold (C : Configuration) (peer : ℕ) (told : List Warning) : Type 0 where
-  pub host : ¬ IsAddress (peer_at C peer).host → Contains told (NoAddress (Peer peer) field.Host)
-  pub engine : IfSome (peer_at C peer).engine (λ text. ¬ IsAddress text → Contains told (NoAddress (Peer peer) field.Engine))
+  pub host : ¬ IsSocketAddress (peer_at C peer).host → Contains told (NoAddress (Peer peer) field.Host)
+  pub engine : IfSome (peer_at C peer).engine (λ text. ¬ IsSocketAddress text → Contains told (NoAddress (Peer peer) field.Engine))
 
 -- of a peer, where routes lead to these
 pub record IsPeerTold (C : Configuration) (targets : List ℕ) (peer : ℕ) (told : List Warning) : Type 0 where

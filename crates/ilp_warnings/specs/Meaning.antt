@@ -12,8 +12,8 @@ use Rattle.ilp_accounts.specs.declared.peer.Levels.{Levels}
 -- ---- addresses
 
 -- the text is IP:PORT
-abbrev pub IsAddress : List ℕ → Type 0
-IsAddress text = (address : SocketAddr) × IsSocketText text address
+abbrev pub IsSocketAddress : List ℕ → Type 0
+IsSocketAddress text = (address : SocketAddr) × IsSocketText text address
 
 -- the address is of this machine alone
 abbrev pub IsLoopback : SocketAddr → Type 0
@@ -25,7 +25,7 @@ IsOpen text = (address : SocketAddr) × (IsSocketText text address × ¬ IsLoopb
 
 -- the text names an address of this machine alone, or none
 abbrev pub IsClosed : List ℕ → Type 0
-IsClosed text = (¬ IsAddress text) ⊎ ((address : SocketAddr) × (IsSocketText text address × IsLoopback address))
+IsClosed text = (¬ IsSocketAddress text) ⊎ ((address : SocketAddr) × (IsSocketText text address × IsLoopback address))
 
 -- both texts name one address, whose port is not left to the system
 abbrev pub IsShared : List ℕ → List ℕ → Type 0

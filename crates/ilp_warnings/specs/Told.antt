@@ -13,12 +13,12 @@ use Rattle.ilp_fields.specs.Forms.{is_digit, is_capital, is_small}
 use Rattle.ilp_fields.specs.Fields.{elements_of}
 use Rattle.ilp_fields.specs.Keys as keys
 use Rattle.ilp_accounts.specs.Configuration.{Configuration, peer_at}
-use Rattle.ilp_warnings.specs.declared.warning.Place.{Place}
-use Rattle.ilp_warnings.specs.declared.warning.Place.TheVariants.{Top, Asset, Price, Peer, Route}
+use Rattle.ilp_warnings.specs.declared.warning.ConfigTable.{ConfigTable}
+use Rattle.ilp_warnings.specs.declared.warning.ConfigTable.TheVariants.{Top, Asset, Price, Peer, Route}
 use Rattle.ilp_warnings.specs.declared.warning.Warning.{Warning}
 use Rattle.ilp_warnings.specs.declared.warning.Warning.TheVariants.{Unknown, Displaced, NoAddress, OpenEngines, SharedListen, OneWorker, ShortHolds, NoRoutes, ShortToken, ExampleToken, SameTokens, SharedHost, OnePacket, Unreached, Unpriced}
-use Rattle.ilp_warnings.specs.declared.source.Source.{Source}
-use Rattle.ilp_warnings.specs.Meaning.{IsAddress, IsOpen, IsShared, IsShort, IsExample, HaveSameHost, ReachesAtOnce, IsUnreached, IsUnpriced}
+use Rattle.ilp_warnings.specs.declared.examined.Examined.{Examined}
+use Rattle.ilp_warnings.specs.Meaning.{IsSocketAddress, IsOpen, IsShared, IsShort, IsExample, HaveSameHost, ReachesAtOnce, IsUnreached, IsUnpriced}
 
 -- ---- fields that are not known
 
@@ -26,13 +26,13 @@ use Rattle.ilp_warnings.specs.Meaning.{IsAddress, IsOpen, IsShared, IsShort, IsE
 abbrev pub top_fields : List Field
 top_fields = field.Address ∷ field.Run ∷ field.Listen ∷ field.EngineListen ∷ field.Path ∷ field.Workers ∷ field.Journal ∷ field.WindowMs ∷ field.MaxHoldMs ∷ field.SweepMs ∷ field.SettleMs ∷ []
 
--- the fields and arrays that are known at a place
-abbrev pub known_at : Place → List Field
-known_at Top = field.Address ∷ field.Run ∷ field.Listen ∷ field.EngineListen ∷ field.Path ∷ field.Workers ∷ field.Journal ∷ field.WindowMs ∷ field.MaxHoldMs ∷ field.SweepMs ∷ field.SettleMs ∷ field.Asset ∷ field.Price ∷ field.Peer ∷ field.Route ∷ []
-known_at (Asset n) = field.Code ∷ field.Scale ∷ []
-known_at (Price n) = field.From ∷ field.To ∷ field.P ∷ field.Q ∷ []
-known_at (Peer n) = field.Name ∷ field.Asset ∷ field.Token ∷ field.OutToken ∷ field.Host ∷ field.OutPath ∷ field.Least ∷ field.FeePpm ∷ field.MaxPacket ∷ field.Engine ∷ field.Threshold ∷ field.SettleTo ∷ field.SettleMax ∷ []
-known_at (Route n) = field.Prefix ∷ field.Peer ∷ []
+-- the fields and arrays that are known in a table
+abbrev pub known_in : ConfigTable → List Field
+known_in Top = field.Address ∷ field.Run ∷ field.Listen ∷ field.EngineListen ∷ field.Path ∷ field.Workers ∷ field.Journal ∷ field.WindowMs ∷ field.MaxHoldMs ∷ field.SweepMs ∷ field.SettleMs ∷ field.Asset ∷ field.Price ∷ field.Peer ∷ field.Route ∷ []
+known_in (Asset n) = field.Code ∷ field.Scale ∷ []
+known_in (Price n) = field.From ∷ field.To ∷ field.P ∷ field.Q ∷ []
+known_in (Peer n) = field.Name ∷ field.Asset ∷ field.Token ∷ field.OutToken ∷ field.Host ∷ field.OutPath ∷ field.Least ∷ field.FeePpm ∷ field.MaxPacket ∷ field.Engine ∷ field.Threshold ∷ field.SettleTo ∷ field.SettleMax ∷ []
+known_in (Route n) = field.Prefix ∷ field.Peer ∷ []
 
 -- none of these fields has the key
 abbrev pub IsNoneOf : List Field → List ℕ → Type 0
@@ -42,8 +42,8 @@ IsNoneOf fields key = All (λ f. keys.key f ≢ key) fields
 abbrev pub element : Field → Members → ℕ → Option Members
 element array t n = option_and_then as_table (slice_get (elements_of array t) n)
 
--- the table at a place
-abbrev pub table_at : Members → Place → Option Members
+-- what stands in a table of a configuration
+abbrev pub table_at : Members → ConfigTable → Option Members
 table_at t Top = Some t
 table_at t (Asset n) = element field.Asset t n
 table_at t (Price n) = element field.Price t n
@@ -55,12 +55,12 @@ abbrev pub keys_of : Members → List (List ℕ)
 keys_of no_members = []
 keys_of (member key value rest) = key ∷ keys_of rest
 
--- the table at the place has a field of this key, which is not known there
-pub record IsUnknown (t : Members) (place : Place) (key : List ℕ) : Type 0 where
+-- the table has a field of this key, which is not known there
+pub record IsUnknown (t : Members) (within : ConfigTable) (key : List ℕ) : Type 0 where
   pub members : Members
-  pub there : table_at t place ≡ Some members
+  pub there : table_at t within ≡ Some members
   pub has : Contains (keys_of members) key
-  pub unknown : IsNoneOf (known_at place) key
+  pub unknown : IsNoneOf (known_in within) key
 
 -- A-Z a-z 0-9 _ -
 abbrev pub is_plain_octet : ℕ → Bool
@@ -78,14 +78,14 @@ told_key key = if is_plain key then Some key else None
 abbrev pub IsNear : List ℕ → Field → Type 0
 IsNear key f = levenshtein_row nat_eq (chars key) (chars (keys.key f)) (length (chars (keys.key f))) ≤ 2
 
--- a field that is known at a place, and near to a key
-abbrev pub IsMeant : Place → List ℕ → Field → Type 0
-IsMeant place key f = Contains (known_at place) f × IsNear key f
+-- a field that is known in a table, and near to a key
+abbrev pub IsMeant : ConfigTable → List ℕ → Field → Type 0
+IsMeant within key f = Contains (known_in within) f × IsNear key f
 
 -- ---- all warnings
 
 -- the text of a field that is to be IP:PORT
-abbrev pub address_at : Configuration → Place → Field → Option (List ℕ)
+abbrev pub address_at : Configuration → ConfigTable → Field → Option (List ℕ)
 address_at C Top field.Listen = Some C.settings.listen
 address_at C Top field.EngineListen = Some C.settings.engine_listen
 address_at C (Peer n) field.Host = Some (peer_at C n).host
@@ -100,9 +100,9 @@ token_at C peer _ = None
 
 -- A warning is so: of a configuration, the table that it was read from, and the peers to which its routes lead.
 abbrev pub Warrants : Members → Configuration → List ℕ → Warning → Type 0
-Warrants t C targets (Unknown place shown meant) = (key : List ℕ) × (IsUnknown t place key × (option_map string_bytes shown ≡ told_key key) × IfSome meant (IsMeant place key))
-Warrants t C targets (Displaced place f) = IsUnknown t place (keys.key f) × Contains top_fields f
-Warrants t C targets (NoAddress place f) = IsSomeAnd (address_at C place f) (λ text. ¬ IsAddress text)
+Warrants t C targets (Unknown within shown meant) = (key : List ℕ) × (IsUnknown t within key × (option_map string_bytes shown ≡ told_key key) × IfSome meant (IsMeant within key))
+Warrants t C targets (Displaced within f) = IsUnknown t within (keys.key f) × Contains top_fields f
+Warrants t C targets (NoAddress within f) = IsSomeAnd (address_at C within f) (λ text. ¬ IsSocketAddress text)
 Warrants t C targets OpenEngines = IsOpen C.settings.engine_listen
 Warrants t C targets SharedListen = IsShared C.settings.listen C.settings.engine_listen
 Warrants t C targets OneWorker = C.settings.workers ≡ 1
@@ -117,12 +117,12 @@ Warrants t C targets (Unreached peer) = IsUnreached targets peer
 Warrants t C targets (Unpriced route peer) = (slice_get targets route ≡ Some peer) × IsUnpriced C peer
 
 -- what is told is so
-abbrev pub IsWarranted : Source → Warning → Type 0
-IsWarranted source warning = Warrants (table_view source.table.now) source.config.now source.targets.now warning
+abbrev pub IsWarranted : Examined → Warning → Type 0
+IsWarranted examined warning = Warrants (table_view examined.table.now) examined.config.now examined.targets.now warning
 
-abbrev pub AreWarranted : Source → List Warning → Type 0
-AreWarranted source told = All (IsWarranted source) told
+abbrev pub AreWarranted : Examined → List Warning → Type 0
+AreWarranted examined told = All (IsWarranted examined) told
 
--- the value that stands at a place, and none where nothing stands there
-abbrev pub IsAt : Source → Place → Option (Bor Value) → Type 0
-IsAt source place value = IfSome value (λ v. table_at (table_view source.table.now) place ≡ as_table (view v.now))
+-- the value of a table, and none where it is not there
+abbrev pub IsAt : Examined → ConfigTable → Option (Bor Value) → Type 0
+IsAt examined within value = IfSome value (λ v. table_at (table_view examined.table.now) within ≡ as_table (view v.now))

@@ -1,13 +1,13 @@
 //! Texts that are to name addresses.
 ghost use Rattle.std.specs.Prelude.{◌≡◌, ◌↔◌, ◌≢◌, false, IsTrue};
 ghost use Rattle.std.specs.Net.Socket.{socket_port};
-ghost use Rattle.ilp_warnings.specs.Meaning.{IsAddress, IsOpen, IsClosed, IsShared};
+ghost use Rattle.ilp_warnings.specs.Meaning.{IsSocketAddress, IsOpen, IsClosed, IsShared};
 
 use std::net::SocketAddr;
 
 /// Whether a text is `IP:PORT`.
 pub(crate) fn is_address(text: &str) -> bool
-    ensures { IsTrue result ↔ IsAddress text.now }
+    ensures { IsTrue result ↔ IsSocketAddress text.now }
 {
     text.parse::<SocketAddr>().is_ok()
 }

@@ -3,12 +3,12 @@ ghost use Rattle.std.specs.Prelude.{◌≡◌, Some, Contains, IfOk, OnOk, IfSom
 ghost use Rattle.std.specs.List.{list_all};
 ghost use Rattle.toml.specs.View.{table_view};
 ghost use Rattle.ilp_warnings.specs.Complete.{KeepsAll};
-ghost use Rattle.ilp_warnings.specs.Told.{AreWarranted, IsWarranted, IsUnknown, table_at, keys_of, known_at, top_fields, is_plain, is_plain_octet, IsNear};
+ghost use Rattle.ilp_warnings.specs.Told.{AreWarranted, IsWarranted, IsUnknown, table_at, keys_of, known_in, top_fields, is_plain, is_plain_octet, IsNear};
 
-use crate::known::{known_at, named, top_fields};
-use crate::source::Source;
+use crate::examined::Examined;
+use crate::known::{known_in, named, top_fields};
 use crate::telling::tell;
-use crate::warning::{Place, Warning};
+use crate::warning::{ConfigTable, Warning};
 use ilp_accounts::Field;
 use std::alloc::{AllocError, Global};
 use strsim::levenshtein;
@@ -20,65 +20,65 @@ const MAX_KEY: usize = 64;
 // How many edits lead to a near key at most.
 const MAX_EDITS: usize = 2;
 
-/// Tells each field of a table that is not known at its place.
+/// Tells each field of a table that is not known there.
 pub(crate) fn tell_fields(
-    source: Source<'_>,
+    examined: Examined<'_>,
     told: &mut Vec<Warning>,
-    place: Place,
+    within: ConfigTable,
     table: &Table,
 ) -> Result<(), AllocError>
-    requires there { table_at (table_view source.table.now) place ≡ Some (table_view table.now) }
-    requires sound { AreWarranted source told.old.items }
-    ensures sound { OnOk result (AreWarranted source.entry told.new.items) }
+    requires there { table_at (table_view examined.table.now) within ≡ Some (table_view table.now) }
+    requires sound { AreWarranted examined told.old.items }
+    ensures sound { OnOk result (AreWarranted examined.entry told.new.items) }
     ensures kept { OnOk result (KeepsAll told.old.items told.new.items) }
 {
     for (key, _) in table.iter() {
-        tell_field(source, told, place, table, key.as_str())?;
+        tell_field(examined, told, within, table, key.as_str())?;
     }
     Ok(())
 }
 
-// Tells the field of this key, where it is not known at its place.
+// Tells the field of this key, where it is not known in its table.
 fn tell_field(
-    source: Source<'_>,
+    examined: Examined<'_>,
     told: &mut Vec<Warning>,
-    place: Place,
+    within: ConfigTable,
     table: &Table,
     key: &str,
 ) -> Result<(), AllocError>
-    requires there { table_at (table_view source.table.now) place ≡ Some (table_view table.now) }
+    requires there { table_at (table_view examined.table.now) within ≡ Some (table_view table.now) }
     requires has { Contains (keys_of (table_view table.now)) key.now }
-    requires sound { AreWarranted source told.old.items }
-    ensures sound { OnOk result (AreWarranted source.entry told.new.items) }
+    requires sound { AreWarranted examined told.old.items }
+    ensures sound { OnOk result (AreWarranted examined.entry told.new.items) }
     ensures kept { OnOk result (KeepsAll told.old.items told.new.items) }
 {
     let _table = table;
-    if named(known_at(place), key).is_some() {
+    if named(known_in(within), key).is_some() {
         return Ok(());
     }
-    let warning = unknown(source, place, key)?;
-    tell(source, told, true, warning)
+    let warning = unknown(examined, within, key)?;
+    tell(examined, told, true, warning)
 }
 
-// What is told of a field that is not known at its place.
-fn unknown(source: Source<'_>, place: Place, key: &str) -> Result<Warning, AllocError>
-    requires { IsUnknown (table_view source.table.now) place key.now }
-    ensures { IfOk result (IsWarranted source.entry) }
+// What is told of a field that is not known in its table.
+fn unknown(examined: Examined<'_>, within: ConfigTable, key: &str) -> Result<Warning, AllocError>
+    requires { IsUnknown (table_view examined.table.now) within key.now }
+    ensures { IfOk result (IsWarranted examined.entry) }
 {
     if let Some(field) = named(top_fields(), key) {
-        return Ok(Warning::Displaced { place, field });
+        return Ok(Warning::Displaced { within, field });
     }
     if !is_plain(key.as_bytes()) {
         return Ok(Warning::Unknown {
-            place,
+            within,
             key: None,
             meant: None,
         });
     }
-    let meant = nearest(source.alloc, known_at(place), key)?;
+    let meant = nearest(examined.alloc, known_in(within), key)?;
     Ok(Warning::Unknown {
-        place,
-        key: Some(String::from_str(source.alloc, key)?),
+        within,
+        key: Some(String::from_str(examined.alloc, key)?),
         meant,
     })
 }

@@ -1,17 +1,17 @@
 //! Which fields are known where.
 ghost use Rattle.std.specs.Prelude.{◌≡◌, Contains, IfNone, IfSome};
 ghost use Rattle.ilp_fields.specs.Keys.{key};
-ghost use Rattle.ilp_warnings.specs.Told.{known_at, top_fields, IsNoneOf};
+ghost use Rattle.ilp_warnings.specs.Told.{known_in, top_fields, IsNoneOf};
 
-use crate::warning::Place;
+use crate::warning::ConfigTable;
 use ilp_accounts::Field;
 
-/// The fields and arrays that are known at a place.
-pub(crate) fn known_at(place: Place) -> &'static [Field]
-    ensures { result.now ≡ known_at place }
+/// The fields and arrays that are known in a table.
+pub(crate) fn known_in(within: ConfigTable) -> &'static [Field]
+    ensures { result.now ≡ known_in within }
 {
-    match place {
-        Place::Top => &[
+    match within {
+        ConfigTable::Top => &[
             Field::Address,
             Field::Run,
             Field::Listen,
@@ -28,9 +28,9 @@ pub(crate) fn known_at(place: Place) -> &'static [Field]
             Field::Peer,
             Field::Route,
         ],
-        Place::Asset(_) => &[Field::Code, Field::Scale],
-        Place::Price(_) => &[Field::From, Field::To, Field::P, Field::Q],
-        Place::Peer(_) => &[
+        ConfigTable::Asset(_) => &[Field::Code, Field::Scale],
+        ConfigTable::Price(_) => &[Field::From, Field::To, Field::P, Field::Q],
+        ConfigTable::Peer(_) => &[
             Field::Name,
             Field::Asset,
             Field::Token,
@@ -45,7 +45,7 @@ pub(crate) fn known_at(place: Place) -> &'static [Field]
             Field::SettleTo,
             Field::SettleMax,
         ],
-        Place::Route(_) => &[Field::Prefix, Field::Peer],
+        ConfigTable::Route(_) => &[Field::Prefix, Field::Peer],
     }
 }
 

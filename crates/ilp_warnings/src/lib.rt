@@ -2,12 +2,12 @@
 #![tactic(auto)]
 
 mod addresses;
+mod examined;
 mod fields;
 mod known;
 mod line;
 mod peers;
 mod routes;
-mod source;
 mod telling;
 mod tokens;
 mod top;
@@ -15,4 +15,4 @@ mod values;
 mod warning;
 
 pub use telling::warnings;
-pub use warning::{Place, Warning};
+pub use warning::{ConfigTable, Warning};

@@ -1,12 +1,12 @@
 //! A warning as a line for a person.
 
-use crate::warning::{Place, Warning};
+use crate::warning::{ConfigTable, Warning};
 use ilp_accounts::{Config, Field};
 use std::alloc::{AllocError, Global};
 use std::fmt;
 
 impl Warning {
-    /// The warning as one line without its end: its place in the configuration that it was told of,
+    /// The warning as one line without its end: the table of the configuration that it was told of,
     /// and what is to be looked at. It has no token, and no key that could spoil it.
     pub fn line(&self, alloc: Global, config: &Config) -> Result<String, AllocError> {
         let line = Line {
@@ -17,23 +17,23 @@ impl Warning {
     }
 
     // Where it is told.
-    fn place(&self) -> Place {
+    fn within(&self) -> ConfigTable {
         match self {
-            Warning::Unknown { place, .. }
-            | Warning::Displaced { place, .. }
-            | Warning::NoAddress { place, .. } => *place,
+            Warning::Unknown { within, .. }
+            | Warning::Displaced { within, .. }
+            | Warning::NoAddress { within, .. } => *within,
             Warning::ShortToken { peer, .. }
             | Warning::ExampleToken { peer, .. }
             | Warning::SameTokens { peer }
             | Warning::SharedHost { peer, .. }
             | Warning::OnePacket { peer, .. }
-            | Warning::Unreached { peer } => Place::Peer(*peer),
-            Warning::Unpriced { route, .. } => Place::Route(*route),
+            | Warning::Unreached { peer } => ConfigTable::Peer(*peer),
+            Warning::Unpriced { route, .. } => ConfigTable::Route(*route),
             Warning::OpenEngines
             | Warning::SharedListen
             | Warning::OneWorker
             | Warning::ShortHolds
-            | Warning::NoRoutes => Place::Top,
+            | Warning::NoRoutes => ConfigTable::Top,
         }
     }
 }
@@ -47,10 +47,10 @@ struct Line<'a> {
 
 impl fmt::Display for Line<'_> {
     fn fmt<W: fmt::Write>(&self, f: &mut fmt::Formatter<W>) -> fmt::Result {
-        write_place(f, self.config, self.warning.place())?;
+        write_table(f, self.config, self.warning.within())?;
         f.write_str(": ")?;
         match self.warning {
-            Warning::Unknown { place, key, meant } => write_unknown(f, *place, key, *meant),
+            Warning::Unknown { within, key, meant } => write_unknown(f, *within, key, *meant),
             Warning::Displaced { field, .. } => write!(
                 f,
                 "`{field}` is a field of the top: it belongs before the first table"
@@ -68,16 +68,16 @@ impl fmt::Display for Line<'_> {
             ),
             Warning::SharedHost { other, .. } => {
                 f.write_str("`host` and `out_path` are those of ")?;
-                write_place(f, self.config, Place::Peer(*other))
+                write_table(f, self.config, ConfigTable::Peer(*other))
             }
             Warning::OnePacket { sender, .. } => {
                 f.write_str("one packet of ")?;
-                write_place(f, self.config, Place::Peer(*sender))?;
+                write_table(f, self.config, ConfigTable::Peer(*sender))?;
                 f.write_str(" can take the balance from `settle_to` to `threshold`")
             }
             Warning::Unpriced { peer, .. } => {
                 f.write_str("no other peer's asset has a price in that of ")?;
-                write_place(f, self.config, Place::Peer(*peer))?;
+                write_table(f, self.config, ConfigTable::Peer(*peer))?;
                 f.write_str(", so no packet can take it")
             }
             plain => f.write_str(text(plain)),
@@ -113,15 +113,15 @@ fn text(warning: &Warning) -> &'static str {
     }
 }
 
-// Writes a place: a table by its number, from 1, and an asset or a peer by its name too.
-fn write_place<W: fmt::Write>(
+// Writes which table it is: by its number, from 1, and an asset or a peer by its name too.
+fn write_table<W: fmt::Write>(
     f: &mut fmt::Formatter<W>,
     config: &Config,
-    place: Place,
+    within: ConfigTable,
 ) -> fmt::Result {
-    match place {
-        Place::Top => f.write_str("at the top"),
-        Place::Asset(asset) => {
+    match within {
+        ConfigTable::Top => f.write_str("at the top"),
+        ConfigTable::Asset(asset) => {
             let number = u64::from(asset) + 1;
             write!(f, "[[asset]] {number}")?;
             match config.assets().asset(asset) {
@@ -129,8 +129,8 @@ fn write_place<W: fmt::Write>(
                 None => Ok(()),
             }
         }
-        Place::Price(price) => write!(f, "[[price]] {}", u64::from(price) + 1),
-        Place::Peer(peer) => {
+        ConfigTable::Price(price) => write!(f, "[[price]] {}", u64::from(price) + 1),
+        ConfigTable::Peer(peer) => {
             let number = u64::from(peer) + 1;
             write!(f, "[[peer]] {number}")?;
             if peer < config.peers() {
@@ -138,45 +138,45 @@ fn write_place<W: fmt::Write>(
             }
             Ok(())
         }
-        Place::Route(route) => write!(f, "[[route]] {}", u64::from(route) + 1),
+        ConfigTable::Route(route) => write!(f, "[[route]] {}", u64::from(route) + 1),
     }
 }
 
 // Writes that a field is not known, and which one may be meant.
 fn write_unknown<W: fmt::Write>(
     f: &mut fmt::Formatter<W>,
-    place: Place,
+    within: ConfigTable,
     key: &Option<String>,
     meant: Option<Field>,
 ) -> fmt::Result {
-    let whole = whole(place);
+    let whole = whole(within);
     match key {
         Some(key) => write!(f, "`{key}` is no field of {whole}, and is ignored")?,
         None => write!(f, "a field that {whole} doesn't have is ignored")?,
     }
     match meant {
-        Some(field) if is_array(place, field) => write!(f, ": `[[{field}]]` may be meant"),
+        Some(field) if is_array(within, field) => write!(f, ": `[[{field}]]` may be meant"),
         Some(field) => write!(f, ": `{field}` may be meant"),
         None => Ok(()),
     }
 }
 
-// Whether a field of this place is an array of tables.
-fn is_array(place: Place, field: Field) -> bool {
-    place == Place::Top
+// Whether a field of this table is an array of tables.
+fn is_array(within: ConfigTable, field: Field) -> bool {
+    within == ConfigTable::Top
         && matches!(
             field,
             Field::Asset | Field::Price | Field::Peer | Field::Route
         )
 }
 
-// What has a field at a place.
-fn whole(place: Place) -> &'static str {
-    match place {
-        Place::Top => "the top",
-        Place::Asset(_) => "an asset",
-        Place::Price(_) => "a price",
-        Place::Peer(_) => "a peer",
-        Place::Route(_) => "a route",
+// What has the fields of a table.
+fn whole(within: ConfigTable) -> &'static str {
+    match within {
+        ConfigTable::Top => "the top",
+        ConfigTable::Asset(_) => "an asset",
+        ConfigTable::Price(_) => "a price",
+        ConfigTable::Peer(_) => "a peer",
+        ConfigTable::Route(_) => "a route",
     }
 }

@@ -2,52 +2,52 @@
 ghost use Rattle.std.specs.Prelude.{Contains, ◌≡◌, ◌≢◌, ◌↔◌, ◌<◌, length, Some, IfSome, OnOk, IsTrue};
 ghost use Rattle.ilp_accounts.specs.Configuration.{peer_at};
 ghost use Rattle.ilp_warnings.specs.Complete.{KeepsAll, IsPeerTold, AreTokensTold, AreAddressesTold};
-ghost use Rattle.ilp_warnings.specs.Meaning.{IsAddress, IsShort, IsExample, HaveSameHost, ReachesAtOnce};
+ghost use Rattle.ilp_warnings.specs.Meaning.{IsSocketAddress, IsShort, IsExample, HaveSameHost, ReachesAtOnce};
 ghost use Rattle.ilp_warnings.specs.Told.{AreWarranted, token_at};
 
+use crate::examined::Examined;
 use crate::routes::is_unreached;
-use crate::source::Source;
 use crate::telling::{tell, tell_address};
 use crate::tokens::{is_example, is_short};
-use crate::warning::{Place, Warning};
+use crate::warning::{ConfigTable, Warning};
 use ilp_accounts::{Config, Field};
 use std::alloc::AllocError;
 
 /// Tells of a peer.
 pub(crate) fn tell_peer(
-    source: Source<'_>,
+    examined: Examined<'_>,
     told: &mut Vec<Warning>,
     peer: u32,
 ) -> Result<(), AllocError>
-    requires known { peer < length source.config.now.peers }
-    requires sound { AreWarranted source told.old.items }
-    ensures sound { OnOk result (AreWarranted source.entry told.new.items) }
+    requires known { peer < length examined.config.now.peers }
+    requires sound { AreWarranted examined told.old.items }
+    ensures sound { OnOk result (AreWarranted examined.entry told.new.items) }
     ensures kept { OnOk result (KeepsAll told.old.items told.new.items) }
-    ensures peer { OnOk result (IsPeerTold source.entry.config.now source.entry.targets.now
+    ensures peer { OnOk result (IsPeerTold examined.entry.config.now examined.entry.targets.now
         peer told.new.items) }
 {
-    tell_tokens(source, told, peer)?;
-    tell_addresses(source, told, peer)?;
-    tell_same_host(source, told, peer)?;
-    tell_one_packet(source, told, peer)?;
-    let unreached = is_unreached(source.targets, peer);
-    tell(source, told, unreached, Warning::Unreached { peer })
+    tell_tokens(examined, told, peer)?;
+    tell_addresses(examined, told, peer)?;
+    tell_same_host(examined, told, peer)?;
+    tell_one_packet(examined, told, peer)?;
+    let unreached = is_unreached(examined.targets, peer);
+    tell(examined, told, unreached, Warning::Unreached { peer })
 }
 
 // Tells of the tokens of a peer.
-fn tell_tokens(source: Source<'_>, told: &mut Vec<Warning>, peer: u32) -> Result<(), AllocError>
-    requires known { peer < length source.config.now.peers }
-    requires sound { AreWarranted source told.old.items }
-    ensures sound { OnOk result (AreWarranted source.entry told.new.items) }
+fn tell_tokens(examined: Examined<'_>, told: &mut Vec<Warning>, peer: u32) -> Result<(), AllocError>
+    requires known { peer < length examined.config.now.peers }
+    requires sound { AreWarranted examined told.old.items }
+    ensures sound { OnOk result (AreWarranted examined.entry told.new.items) }
     ensures kept { OnOk result (KeepsAll told.old.items told.new.items) }
-    ensures tokens { OnOk result (AreTokensTold source.entry.config.now peer told.new.items) }
+    ensures tokens { OnOk result (AreTokensTold examined.entry.config.now peer told.new.items) }
 {
-    let token = source.config.token(peer);
-    let out_token = source.config.out_token(peer);
-    tell_token(source, told, peer, Field::Token, token)?;
-    tell_token(source, told, peer, Field::OutToken, out_token)?;
+    let token = examined.config.token(peer);
+    let out_token = examined.config.out_token(peer);
+    tell_token(examined, told, peer, Field::Token, token)?;
+    tell_token(examined, told, peer, Field::OutToken, out_token)?;
     tell(
-        source,
+        examined,
         told,
         token == out_token,
         Warning::SameTokens { peer },
@@ -56,15 +56,15 @@ fn tell_tokens(source: Source<'_>, told: &mut Vec<Warning>, peer: u32) -> Result
 
 // Tells of one of the tokens of a peer.
 fn tell_token(
-    source: Source<'_>,
+    examined: Examined<'_>,
     told: &mut Vec<Warning>,
     peer: u32,
     field: Field,
     token: &str,
 ) -> Result<(), AllocError>
-    requires token { token_at source.config.now peer field ≡ Some token.now }
-    requires sound { AreWarranted source told.old.items }
-    ensures sound { OnOk result (AreWarranted source.entry told.new.items) }
+    requires token { token_at examined.config.now peer field ≡ Some token.now }
+    requires sound { AreWarranted examined told.old.items }
+    ensures sound { OnOk result (AreWarranted examined.entry told.new.items) }
     ensures kept { OnOk result (KeepsAll told.old.items told.new.items) }
     ensures short { OnOk result (IsShort token.now
         → Contains told.new.items (Warning.ShortToken peer field)) }
@@ -72,10 +72,15 @@ fn tell_token(
         → Contains told.new.items (Warning.ExampleToken peer field)) }
 {
     let is_short = is_short(token);
-    tell(source, told, is_short, Warning::ShortToken { peer, field })?;
+    tell(
+        examined,
+        told,
+        is_short,
+        Warning::ShortToken { peer, field },
+    )?;
     let is_example = is_example(token);
     tell(
-        source,
+        examined,
         told,
         is_example,
         Warning::ExampleToken { peer, field },
@@ -83,57 +88,75 @@ fn tell_token(
 }
 
 // Tells of the places where a peer and its engine are to be reached.
-fn tell_addresses(source: Source<'_>, told: &mut Vec<Warning>, peer: u32) -> Result<(), AllocError>
-    requires known { peer < length source.config.now.peers }
-    requires sound { AreWarranted source told.old.items }
-    ensures sound { OnOk result (AreWarranted source.entry told.new.items) }
+fn tell_addresses(
+    examined: Examined<'_>,
+    told: &mut Vec<Warning>,
+    peer: u32,
+) -> Result<(), AllocError>
+    requires known { peer < length examined.config.now.peers }
+    requires sound { AreWarranted examined told.old.items }
+    ensures sound { OnOk result (AreWarranted examined.entry told.new.items) }
     ensures kept { OnOk result (KeepsAll told.old.items told.new.items) }
-    ensures addresses { OnOk result (AreAddressesTold source.entry.config.now
+    ensures addresses { OnOk result (AreAddressesTold examined.entry.config.now
         peer told.new.items) }
 {
-    let host = source.config.host(peer);
-    tell_address(source, told, Place::Peer(peer), Field::Host, host)?;
-    tell_engine(source, told, peer)
+    let host = examined.config.host(peer);
+    tell_address(examined, told, ConfigTable::Peer(peer), Field::Host, host)?;
+    tell_engine(examined, told, peer)
 }
 
 // Tells of the place where the engine of a peer is to be reached.
-fn tell_engine(source: Source<'_>, told: &mut Vec<Warning>, peer: u32) -> Result<(), AllocError>
-    requires known { peer < length source.config.now.peers }
-    requires sound { AreWarranted source told.old.items }
-    ensures sound { OnOk result (AreWarranted source.entry told.new.items) }
+fn tell_engine(examined: Examined<'_>, told: &mut Vec<Warning>, peer: u32) -> Result<(), AllocError>
+    requires known { peer < length examined.config.now.peers }
+    requires sound { AreWarranted examined told.old.items }
+    ensures sound { OnOk result (AreWarranted examined.entry told.new.items) }
     ensures kept { OnOk result (KeepsAll told.old.items told.new.items) }
-    ensures engine { OnOk result (IfSome (peer_at source.entry.config.now peer).engine
-        (λ text. ¬ IsAddress text
-        → Contains told.new.items (Warning.NoAddress (Place.Peer peer) Field.Engine))) }
+    ensures engine { OnOk result (IfSome (peer_at examined.entry.config.now peer).engine
+        (λ text. ¬ IsSocketAddress text
+        → Contains told.new.items (Warning.NoAddress (ConfigTable.Peer peer) Field.Engine))) }
 {
-    match source.config.engine(peer) {
-        Some(engine) => tell_address(source, told, Place::Peer(peer), Field::Engine, engine),
+    match examined.config.engine(peer) {
+        Some(engine) => tell_address(
+            examined,
+            told,
+            ConfigTable::Peer(peer),
+            Field::Engine,
+            engine,
+        ),
         None => Ok(()),
     }
 }
 
 // Tells of another peer at the same place.
-fn tell_same_host(source: Source<'_>, told: &mut Vec<Warning>, peer: u32) -> Result<(), AllocError>
-    requires known { peer < length source.config.now.peers }
-    requires sound { AreWarranted source told.old.items }
-    ensures sound { OnOk result (AreWarranted source.entry told.new.items) }
+fn tell_same_host(
+    examined: Examined<'_>,
+    told: &mut Vec<Warning>,
+    peer: u32,
+) -> Result<(), AllocError>
+    requires known { peer < length examined.config.now.peers }
+    requires sound { AreWarranted examined told.old.items }
+    ensures sound { OnOk result (AreWarranted examined.entry told.new.items) }
     ensures kept { OnOk result (KeepsAll told.old.items told.new.items) }
 {
-    match same_host_before(source.config, peer) {
-        Some(other) => tell(source, told, true, Warning::SharedHost { peer, other }),
+    match same_host_before(examined.config, peer) {
+        Some(other) => tell(examined, told, true, Warning::SharedHost { peer, other }),
         None => Ok(()),
     }
 }
 
 // Tells of another peer of which one packet reaches the threshold of this one.
-fn tell_one_packet(source: Source<'_>, told: &mut Vec<Warning>, peer: u32) -> Result<(), AllocError>
-    requires known { peer < length source.config.now.peers }
-    requires sound { AreWarranted source told.old.items }
-    ensures sound { OnOk result (AreWarranted source.entry told.new.items) }
+fn tell_one_packet(
+    examined: Examined<'_>,
+    told: &mut Vec<Warning>,
+    peer: u32,
+) -> Result<(), AllocError>
+    requires known { peer < length examined.config.now.peers }
+    requires sound { AreWarranted examined told.old.items }
+    ensures sound { OnOk result (AreWarranted examined.entry told.new.items) }
     ensures kept { OnOk result (KeepsAll told.old.items told.new.items) }
 {
-    match one_packet_of(source.config, peer) {
-        Some(sender) => tell(source, told, true, Warning::OnePacket { peer, sender }),
+    match one_packet_of(examined.config, peer) {
+        Some(sender) => tell(examined, told, true, Warning::OnePacket { peer, sender }),
         None => Ok(()),
     }
 }

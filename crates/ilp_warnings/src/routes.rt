@@ -8,7 +8,7 @@ ghost use Rattle.ilp_warnings.specs.Complete.{KeepsAll, IsRouteTold};
 ghost use Rattle.ilp_warnings.specs.Told.{AreWarranted};
 ghost use Rattle.ilp_warnings.specs.Meaning.{IsUnreached, IsUnpriced, CanSend};
 
-use crate::source::Source;
+use crate::examined::Examined;
 use crate::telling::tell;
 use crate::values::text_of;
 use crate::warning::Warning;
@@ -63,23 +63,23 @@ pub(crate) fn is_unreached(targets: &[u32], peer: u32) -> bool
 
 /// Tells of a route to this peer.
 pub(crate) fn tell_route(
-    source: Source<'_>,
+    examined: Examined<'_>,
     told: &mut Vec<Warning>,
     route: u32,
     peer: u32,
 ) -> Result<(), AllocError>
-    requires known { peer < length source.config.now.peers }
-    requires leads { slice_get source.targets.now route ≡ Some peer }
-    requires sound { AreWarranted source told.old.items }
-    ensures sound { OnOk result (AreWarranted source.entry told.new.items) }
+    requires known { peer < length examined.config.now.peers }
+    requires leads { slice_get examined.targets.now route ≡ Some peer }
+    requires sound { AreWarranted examined told.old.items }
+    ensures sound { OnOk result (AreWarranted examined.entry told.new.items) }
     ensures kept { OnOk result (KeepsAll told.old.items told.new.items) }
-    ensures route { OnOk result (IsRouteTold source.entry.config.now source.entry.targets.now
+    ensures route { OnOk result (IsRouteTold examined.entry.config.now examined.entry.targets.now
         route told.new.items) }
 {
     tell(
-        source,
+        examined,
         told,
-        is_unpriced(source.config, peer),
+        is_unpriced(examined.config, peer),
         Warning::Unpriced { route, peer },
     )
 }

@@ -2,9 +2,9 @@
 
 use ilp_accounts::Field;
 
-/// A place in a configuration. A table of an array is named by its place in the array, from 0.
+/// A table of a configuration. One of an array is named by its place in the array, from 0.
 #[derive(Clone, Copy, Debug, PartialEq, Eq)]
-pub enum Place {
+pub enum ConfigTable {
     /// Outside of the tables of all arrays.
     Top,
     Asset(u32),
@@ -19,7 +19,7 @@ pub enum Place {
 pub enum Warning {
     /// A field or a table that is not known there, and so is ignored.
     Unknown {
-        place: Place,
+        within: ConfigTable,
         /// Its key, where that is of letters, digits, `_` and `-`, and at most 64 octets long.
         key: Option<String>,
         /// The known one with the nearest key, where one is near.
@@ -27,12 +27,12 @@ pub enum Warning {
     },
     /// A field of the top that stands below the head of a table, and so belongs to that.
     Displaced {
-        place: Place,
+        within: ConfigTable,
         field: Field,
     },
     /// The text of this field is no `IP:PORT`.
     NoAddress {
-        place: Place,
+        within: ConfigTable,
         field: Field,
     },
     /// Others than this machine's programs may reach the side of engines.

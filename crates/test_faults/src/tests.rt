@@ -8,7 +8,6 @@ mod lookups;
 mod octet_strings;
 mod quantities;
 mod reading;
-mod replaying;
 mod reporting;
 mod writing;
 mod writing_packets;

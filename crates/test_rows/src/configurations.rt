@@ -1,5 +1,5 @@
 //! Many small configurations, most of them a text with some lines replaced, and what is told of each;
-//! what each reader gives of some; and what `check` says of others.
+//! what each reader gives of some; and how much others have.
 
 mod checks;
 mod draft;

@@ -1,11 +1,11 @@
 //! Amounts of one asset, and what becomes of them in another.
 ghost use Rattle.std.specs.Prelude.{◌≤◌};
 
-use crate::fault::RowFault;
 use ilp_assets::{Asset, AssetFault, AssetTable, Price, Quote, QuoteFault};
 use std::alloc::Global;
 use std::rt::Files;
 use std::{fs, io};
+use test_row_texts::RowFault;
 
 // The most millionths that a fee has.
 const MOST_PPM: u32 = 1_000_000;

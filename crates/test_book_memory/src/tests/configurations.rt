@@ -1,8 +1,9 @@
 //! Reading the octets of a configuration.
 
 use super::GROWTHS;
-use ilp_connector::{BUILT_IN, Refusal, read_config};
+use ilp_config_file::{BUILT_IN, read_config};
 use ilp_io::Pieces;
+use ilp_refusals::Refusal;
 use std::test::Fail;
 use test_allocator::DenyingAllocator;
 

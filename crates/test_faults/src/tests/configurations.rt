@@ -1,8 +1,9 @@
 //! Configurations read to their end, up to their limit and where a read fails.
 
 use ilp_accounts::{Config, Levels};
-use ilp_connector::{BUILT_IN, Refusal, read_config};
+use ilp_config_file::{BUILT_IN, read_config};
 use ilp_io::Pieces;
+use ilp_refusals::Refusal;
 use std::alloc::{AllocError, Global};
 use std::process::Abort;
 use std::test::Fail;

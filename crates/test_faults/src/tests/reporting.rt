@@ -2,7 +2,7 @@
 
 use ilp_accounts::Config;
 use ilp_book::{Book, Outcome, PeerReply};
-use ilp_connector::BUILT_IN;
+use ilp_config_file::BUILT_IN;
 use ilp_io::{Narrow, WhenFull, WriteFault};
 use ilp_packet::Prepare;
 use ilp_report::{Snapshot, print};

@@ -1,8 +1,7 @@
 //! A text, in which the lines of a row replace some lines.
 
-use crate::fault::RowFault;
-use crate::repeated::push_repeated;
 use std::alloc::Global;
+use test_row_texts::{RowFault, push_repeated};
 
 /// The text that a row makes of another.
 ///

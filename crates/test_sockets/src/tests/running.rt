@@ -14,7 +14,7 @@ use super::{START, Settable, Still};
 use conversation::{Others, converse};
 use ilp_accounts::Config;
 use ilp_book::Book;
-use ilp_connector::BUILT_IN;
+use ilp_config_file::BUILT_IN;
 use ilp_links::{Hurry, TcpLinks};
 use ilp_notices::Notices;
 use ilp_running::serve;

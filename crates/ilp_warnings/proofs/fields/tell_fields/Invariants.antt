@@ -6,4 +6,4 @@ use Rattle.ilp_warnings.proofs.fields.tell_fields.Given as goal
 
 abbrev pub invariant-loop-key : goal.invariant-loop-key
 invariant-loop-key l =
-    HasKeys (keys_of (table_view l.table)) l.key-iterator × AreWarranted l.source l.told.items × KeepsAll l.initial.told.items l.told.items
+    HasKeys (keys_of (table_view l.table)) l.key-iterator × AreWarranted l.examined l.told.items × KeepsAll l.initial.told.items l.told.items

@@ -1,5 +1,5 @@
 use Rattle.std.proofs.Common.{subst}
-use Rattle.ilp_warnings.specs.Meaning.{IsAddress}
+use Rattle.ilp_warnings.specs.Meaning.{IsSocketAddress}
 use Rattle.ilp_warnings.proofs.Keeping.{on_ok, on_ok_both}
 use Rattle.ilp_warnings.proofs.peers.tell_addresses.Goals as goal
 
@@ -10,7 +10,7 @@ pub returns-clause-addresses : goal.returns-clause-addresses
 returns-clause-addresses c =
     on_ok_both c.tell_engine.result
     (λ k told. record {
-      host = λ h. k _ (c.in_ok-tell_address.ensures.told (λ is. h (subst IsAddress c.host-host.ensures is)));
+      host = λ h. k _ (c.in_ok-tell_address.ensures.told (λ is. h (subst IsSocketAddress c.host-host.ensures is)));
       engine = told;
     })
     c.tell_engine.ensures.kept c.tell_engine.ensures.engine

@@ -8,7 +8,7 @@ returns-clause-kept c =
 
 pub returns-clause-peer : goal.returns-clause-peer
 returns-clause-peer c =
-    let C = c.args.source.config.now in
+    let C = c.args.examined.config.now in
     on_ok_both c.tell.result
     (λ k told.
     let later : KeepsAll c.tell_addresses.new.told.items c.tell.new.told.items = λ w has. k w (c.in_ok-tell_one_packet.ensures.kept w (c.in_ok-tell_same_host.ensures.kept w has)) in

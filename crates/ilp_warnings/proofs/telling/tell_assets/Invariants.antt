@@ -3,4 +3,4 @@ use Rattle.ilp_warnings.specs.Complete.{KeepsAll}
 use Rattle.ilp_warnings.proofs.telling.tell_assets.Given as goal
 
 abbrev pub invariant-loop-asset : goal.invariant-loop-asset
-invariant-loop-asset l = AreWarranted l.source l.told.items × KeepsAll l.initial.told.items l.told.items
+invariant-loop-asset l = AreWarranted l.examined l.told.items × KeepsAll l.initial.told.items l.told.items

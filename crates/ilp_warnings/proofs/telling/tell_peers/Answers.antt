@@ -6,8 +6,8 @@ use Rattle.ilp_warnings.proofs.telling.tell_peers.Goals as goal
 -- each turn keeps what was told, and tells of one more peer
 pub loop-peer-preserved : goal.loop-peer-preserved
 loop-peer-preserved c =
-    let C = c.args.source.config.now in
-    let targets = c.args.source.targets.now in
+    let C = c.args.examined.config.now in
+    let targets = c.args.examined.targets.now in
     let turn = c.loop-peer in
     let peer = c.in_ok-tell_peer.ensures in
     let later : KeepsAll turn.told.items c.tell_peer.new.told.items = λ w has. peer.kept w (c.in_ok-tell_table.ensures.kept w has) in (

@@ -7,14 +7,14 @@ use Rattle.ilp_warnings.proofs.telling.tell_routes.Goals as goal
 -- a route that leads somewhere stands among those that were gone through
 pub returns-clause-routes : goal.returns-clause-routes
 returns-clause-routes c = λ route below peer leads h.
-    let inside = slice_get_within c.args.source.targets.now route peer leads in
+    let inside = slice_get_within c.args.examined.targets.now route peer leads in
     c.loop-route.invariant.2 route (omega (arith, below, inside, c.min-route-end.ensures, c.loop-route-test.false)) peer leads h
 
 -- each turn keeps what was told, and tells of one more route
 pub loop-route-preserved : goal.loop-route-preserved
 loop-route-preserved c =
-    let C = c.args.source.config.now in
-    let targets = c.args.source.targets.now in
+    let C = c.args.examined.config.now in
+    let targets = c.args.examined.targets.now in
     let turn = c.loop-route in
     let route = c.in_ok-tell_route.ensures in
     let later : KeepsAll turn.told.items c.tell_route.new.told.items = λ w has. route.kept w (c.in_ok-tell_table.ensures.kept w has) in (

@@ -4,5 +4,5 @@ use Rattle.ilp_warnings.proofs.telling.tell_routes.Given as goal
 
 abbrev pub invariant-loop-route : goal.invariant-loop-route
 invariant-loop-route l =
-    AreWarranted l.source l.told.items × KeepsAll l.initial.told.items l.told.items
-    × AreRoutesTold l.source.config.now l.source.targets.now l.route l.told.items
+    AreWarranted l.examined l.told.items × KeepsAll l.initial.told.items l.told.items
+    × AreRoutesTold l.examined.config.now l.examined.targets.now l.route l.told.items

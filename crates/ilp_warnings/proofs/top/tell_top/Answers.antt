@@ -1,5 +1,5 @@
 use Rattle.std.proofs.Common.{subst, rules}
-use Rattle.ilp_warnings.specs.Meaning.{IsAddress, IsClosed}
+use Rattle.ilp_warnings.specs.Meaning.{IsSocketAddress, IsClosed}
 use Rattle.ilp_warnings.specs.Complete.{KeepsAll}
 use Rattle.ilp_warnings.proofs.Keeping.{on_ok, on_ok_both, must}
 use Rattle.ilp_warnings.proofs.top.tell_top.Goals as goal
@@ -21,8 +21,8 @@ returns-clause-top c =
     let after_sides : KeepsAll c.tell_address-2.new.told.items c.tell-5.new.told.items = λ w has. after_open w (c.in_ok-tell.ensures.kept w has) in
     let after_listen : KeepsAll c.tell_address.new.told.items c.tell-5.new.told.items = λ w has. after_sides w (c.in_ok-tell_address-2.ensures.kept w has) in
     record {
-      listen = λ h. after_listen _ (c.in_ok-tell_address.ensures.told (λ is. h (subst IsAddress c.listen-listen.ensures is)));
-      engine_listen = λ h. after_sides _ (c.in_ok-tell_address-2.ensures.told (λ is. h (subst IsAddress c.engine_listen-engine_listen.ensures is)));
+      listen = λ h. after_listen _ (c.in_ok-tell_address.ensures.told (λ is. h (subst IsSocketAddress c.listen-listen.ensures is)));
+      engine_listen = λ h. after_sides _ (c.in_ok-tell_address-2.ensures.told (λ is. h (subst IsSocketAddress c.engine_listen-engine_listen.ensures is)));
       engines = λ h. after_open _ (c.in_ok-tell.ensures.told (must c.is_open.result (λ e. subst IsClosed c.engine_listen-engine_listen.ensures (c.is_open.ensures.closed e)) h));
       worker = λ h. after_worker _ (c.in_ok-tell-3.ensures.told (search (rules, h)));
       holds = λ h. after_holds _ (c.in_ok-tell-4.ensures.told (search (rules, h)));

@@ -1,0 +1,3 @@
+pub mod ConfigReading
+pub use Rattle.ilp_io.specs.Counts
+pub use Rattle.ilp_io.specs.Reading

@@ -1,0 +1,8 @@
+use Rattle.std.proofs.Common.{◌∙◌, sym}
+use Rattle.ilp_offline.proofs.Fields.{IsUtf8-printable}
+use Rattle.ilp_offline.proofs.describe.spoken.Goals as goal
+
+pub unreachable-requires : goal.unreachable-requires
+unreachable-requires g c =
+    let fault = c.in-Err.ensures in
+    fault.cases.0 (IsUtf8-printable c.args.octets.now (sym c.is_printable.ensures ∙ c.if-not-is_printable.false))

@@ -1,0 +1,12 @@
+pub mod BadLines
+pub mod Calls
+pub mod CheckText
+pub mod PacketText
+pub mod Replay
+pub mod Script
+pub mod Seen
+pub mod Text
+pub use Rattle.ilp_io.specs.Counts
+pub use Rattle.ilp_io.specs.Reading
+pub use Rattle.ilp_io.specs.Writing
+pub use Rattle.ilp_refusals.specs.Refusals

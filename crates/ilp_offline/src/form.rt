@@ -1,0 +1,347 @@
+//! What a line of a script asks for.
+ghost use Rattle.std.specs.Prelude.{◌≡◌, ◌<◌, ◌≤◌, ◌^◌, ◌∷◌, length, IfOk, OnErr, IfSome, option_map};
+ghost use Rattle.std.specs.Char.{is_ascii_digit};
+ghost use Rattle.std.specs.List.{list_all, slice_split};
+ghost use Rattle.ilp_accounts.specs.Configuration.{peer_names, place_named};
+ghost use Rattle.ilp_offline.specs.Script as script;
+ghost use Rattle.ilp_book.specs.SettleStep.{verdict_of};
+ghost use Rattle.ilp_journal.specs.Keys.{IsKey};
+ghost use Rattle.ilp_offline.specs.Script.{moment_digits, form_of, form_of_fields, fields_of, is_space, is_printable, number_in};
+ghost use Rattle.ilp_offline.specs.Seen.{form_seen, IsOfPeers, fields_after, field_list};
+
+use crate::lines::first_place;
+use ilp_accounts::Config;
+use ilp_journal::Key;
+use std::alloc::AllocError;
+use std::str;
+
+/// The most digits of a moment.
+pub(crate) const MOMENT_DIGITS: usize = 15;
+
+/// The most digits of an entry's number.
+pub(crate) const ENTRY_DIGITS: usize = 9;
+
+/// What a line asks for. Packets are hexadecimal text, which is decoded later, and quantities are
+/// JSON, which is read later.
+#[derive(Drop)]
+pub(crate) enum Form<'a> {
+    Hold {
+        now: i64,
+        peer: u32,
+        packet: &'a [u8],
+    },
+    Answer {
+        now: i64,
+        number: u32,
+        packet: Option<&'a [u8]>,
+    },
+    Expire {
+        now: i64,
+    },
+    Credit {
+        now: i64,
+        peer: u32,
+        key: Key,
+        json: &'a [u8],
+    },
+    Ask {
+        now: i64,
+        peer: u32,
+    },
+    Close {
+        now: i64,
+        number: u32,
+        accepted: bool,
+    },
+    Report,
+    Silent,
+    Bad,
+}
+
+/// The fields of a line, of which the fifth is the rest of the line.
+#[derive(Clone, Copy)]
+pub(crate) enum Fields<'a> {
+    One(&'a [u8]),
+    Two(&'a [u8], &'a [u8]),
+    Three(&'a [u8], &'a [u8], &'a [u8]),
+    Four(&'a [u8], &'a [u8], &'a [u8], &'a [u8]),
+    Five(&'a [u8], &'a [u8], &'a [u8], &'a [u8], &'a [u8]),
+}
+
+impl<'a> Fields<'a> {
+    /// The first field.
+    pub(crate) fn first(self) -> &'a [u8] {
+        match self {
+            Fields::One(first)
+            | Fields::Two(first, _)
+            | Fields::Three(first, _, _)
+            | Fields::Four(first, _, _, _)
+            | Fields::Five(first, _, _, _, _) => first,
+        }
+    }
+}
+
+/// What a line asks for. A key of a settlement lies on the heap of the configuration: `AllocError`
+/// tells that memory is short.
+pub(crate) fn parse<'a>(config: &Config, line: &'a [u8]) -> Result<Form<'a>, AllocError>
+    ensures form { IfOk result (λ form. form_seen form
+        ≡ form_of (peer_names config.now.peers) line.now) }
+    ensures known { IfOk result (λ form. IsOfPeers (length config.now.peers) form) }
+{
+    match line {
+        [] | [b'#', ..] => Ok(Form::Silent),
+        _ => {
+            if !is_printable(line) {
+                return Ok(Form::Bad);
+            }
+            form_of_fields(config, line)
+        }
+    }
+}
+
+// What the fields of a line ask for.
+fn form_of_fields<'a>(config: &Config, line: &'a [u8]) -> Result<Form<'a>, AllocError>
+    ensures form { IfOk result (λ form. form_seen form
+        ≡ form_of_fields (peer_names config.now.peers) (fields_of line.now)) }
+    ensures known { IfOk result (λ form. IsOfPeers (length config.now.peers) form) }
+{
+    match split_fields(line) {
+        Fields::One(word) if word == b"report".as_slice() => Ok(Form::Report),
+        Fields::Two(word, now) if word == b"expire".as_slice() => Ok(expire_form(now)),
+        Fields::Three(word, now, peer) if word == b"ask".as_slice() => {
+            Ok(ask_form(config, now, peer))
+        }
+        Fields::Four(word, now, peer, packet) if word == b"hold".as_slice() => {
+            Ok(hold_form(config, now, peer, packet))
+        }
+        Fields::Four(word, now, number, packet) if word == b"answer".as_slice() => {
+            Ok(answer_form(now, number, packet))
+        }
+        Fields::Four(word, now, number, verdict) if word == b"close".as_slice() => {
+            Ok(close_form(now, number, verdict))
+        }
+        Fields::Five(word, now, peer, key, json) if word == b"credit".as_slice() => {
+            credit_form(config, now, peer, key, json)
+        }
+        _ => Ok(Form::Bad),
+    }
+}
+
+// A Prepare of a peer.
+fn hold_form<'a>(config: &Config, now: &[u8], peer: &[u8], packet: &'a [u8]) -> Form<'a>
+    ensures form { form_seen result ≡ script.hold_form (script.moment_in now.now)
+        (place_named (peer_names config.now.peers) peer.now) packet.now }
+    ensures known { IsOfPeers (length config.now.peers) result }
+{
+    let Some(now) = number_in(now, MOMENT_DIGITS) else {
+        return Form::Bad;
+    };
+    let Some(peer) = peer_named(config, peer) else {
+        return Form::Bad;
+    };
+    if packet.is_empty() {
+        return Form::Bad;
+    }
+    Form::Hold {
+        now: now as i64,
+        peer,
+        packet,
+    }
+}
+
+// The peer of a name.
+fn peer_named(config: &Config, name: &[u8]) -> Option<u32>
+    ensures place { result ≡ place_named (peer_names config.now.peers) name.now }
+    ensures known { IfSome result (λ peer. peer < length config.now.peers) }
+{
+    config.peer_by_name(name)
+}
+
+// The release of a hold whose deadline has come.
+fn expire_form<'a>(now: &[u8]) -> Form<'a>
+    ensures { form_seen result ≡ script.expire_form (script.moment_in now.now) }
+{
+    match number_in(now, MOMENT_DIGITS) {
+        Some(now) => Form::Expire { now: now as i64 },
+        None => Form::Bad,
+    }
+}
+
+// What came back for a hold.
+fn answer_form<'a>(now: &[u8], number: &[u8], packet: &'a [u8]) -> Form<'a>
+    ensures { form_seen result ≡ script.answer_form (script.moment_in now.now)
+        (script.entry_in number.now) packet.now }
+{
+    let Some(now) = number_in(now, MOMENT_DIGITS) else {
+        return Form::Bad;
+    };
+    let Some(number) = number_in(number, ENTRY_DIGITS) else {
+        return Form::Bad;
+    };
+    if packet.is_empty() {
+        return Form::Bad;
+    }
+    let packet = if packet == b"none".as_slice() {
+        None
+    } else {
+        Some(packet)
+    };
+    Form::Answer {
+        now: now as i64,
+        number: number as u32,
+        packet,
+    }
+}
+
+// A settlement from a peer.
+fn credit_form<'a>(
+    config: &Config,
+    now: &[u8],
+    peer: &[u8],
+    key: &[u8],
+    json: &'a [u8],
+) -> Result<Form<'a>, AllocError>
+    ensures form { IfOk result (λ form. form_seen form ≡ script.credit_form
+        (script.moment_in now.now) (place_named (peer_names config.now.peers) peer.now)
+        (script.key_in key.now) json.now) }
+    ensures known { IfOk result (λ form. IsOfPeers (length config.now.peers) form) }
+    ensures denied { OnErr result (IsKey key.now) }
+{
+    let Some(now) = number_in(now, MOMENT_DIGITS) else {
+        return Ok(Form::Bad);
+    };
+    let Some(peer) = peer_named(config, peer) else {
+        return Ok(Form::Bad);
+    };
+    match key_in(config, key)? {
+        Some(key) => Ok(Form::Credit {
+            now: now as i64,
+            peer,
+            key,
+            json,
+        }),
+        None => Ok(Form::Bad),
+    }
+}
+
+// The key that a text is.
+fn key_in(config: &Config, text: &[u8]) -> Result<Option<Key>, AllocError>
+    ensures key { IfOk result (λ key. key ≡ script.key_in text.now) }
+    ensures denied { OnErr result (IsKey text.now) }
+{
+    Key::new(config.allocator(), text)
+}
+
+// A settlement to a peer.
+fn ask_form<'a>(config: &Config, now: &[u8], peer: &[u8]) -> Form<'a>
+    ensures form { form_seen result ≡ script.ask_form (script.moment_in now.now)
+        (place_named (peer_names config.now.peers) peer.now) }
+    ensures known { IsOfPeers (length config.now.peers) result }
+{
+    let Some(now) = number_in(now, MOMENT_DIGITS) else {
+        return Form::Bad;
+    };
+    match peer_named(config, peer) {
+        Some(peer) => Form::Ask {
+            now: now as i64,
+            peer,
+        },
+        None => Form::Bad,
+    }
+}
+
+// What became of a settlement.
+fn close_form<'a>(now: &[u8], number: &[u8], verdict: &[u8]) -> Form<'a>
+    ensures { form_seen result ≡ script.close_form (script.moment_in now.now)
+        (script.entry_in number.now) (script.verdict_in verdict.now) }
+{
+    let Some(now) = number_in(now, MOMENT_DIGITS) else {
+        return Form::Bad;
+    };
+    let Some(number) = number_in(number, ENTRY_DIGITS) else {
+        return Form::Bad;
+    };
+    match verdict_in(verdict) {
+        Some(accepted) => Form::Close {
+            now: now as i64,
+            number: number as u32,
+            accepted,
+        },
+        None => Form::Bad,
+    }
+}
+
+// Whether an engine accepted a settlement.
+fn verdict_in(text: &[u8]) -> Option<bool>
+    ensures { option_map verdict_of result ≡ script.verdict_in text.now }
+{
+    if text == b"yes".as_slice() {
+        Some(true)
+    } else if text == b"no".as_slice() {
+        Some(false)
+    } else {
+        None
+    }
+}
+
+/// Cuts a line at its first four spaces.
+pub(crate) fn split_fields(line: &[u8]) -> Fields<'_>
+    ensures { field_list (fields_of line.now) result }
+{
+    let (first, rest) = cut(line);
+    let Some(rest) = rest else {
+        return Fields::One(first);
+    };
+    let (second, rest) = cut(rest);
+    let Some(rest) = rest else {
+        return Fields::Two(first, second);
+    };
+    let (third, rest) = cut(rest);
+    let Some(rest) = rest else {
+        return Fields::Three(first, second, third);
+    };
+    let (fourth, rest) = cut(rest);
+    match rest {
+        None => Fields::Four(first, second, third, fourth),
+        Some(rest) => Fields::Five(first, second, third, fourth, rest),
+    }
+}
+
+// What stands before the first space, and what follows it.
+fn cut(text: &[u8]) -> (&[u8], Option<&[u8]>)
+    ensures { slice_split is_space text.now ≡ result.0.now ∷ fields_after result.1 }
+{
+    match first_place(text, b' ') {
+        Some(end) => (&text[..end], Some(&text[end + 1..])),
+        None => (text, None),
+    }
+}
+
+/// Whether each octet is a space or visible ASCII.
+pub(crate) fn is_printable(text: &[u8]) -> bool
+    ensures { result ≡ list_all is_printable text.now }
+{
+    text.iter().all(|octet| 32 <= *octet && *octet <= 126)
+}
+
+/// The number that a text of at most so many decimal digits writes.
+pub(crate) fn number_in(text: &[u8], most: usize) -> Option<u64>
+    requires { most ≤ moment_digits }
+    ensures value { result ≡ number_in most text.now }
+    ensures bound { IfSome result (λ number. number < 10 ^ most) }
+{
+    if text.is_empty() || text.len() > most || !is_all_digits(text) {
+        return None;
+    }
+    let Ok(text) = str::from_utf8(text) else {
+        return None;
+    };
+    text.parse().ok()
+}
+
+// Whether each octet is a decimal digit.
+fn is_all_digits(text: &[u8]) -> bool
+    ensures { result ≡ list_all is_ascii_digit text.now }
+{
+    text.iter().all(|octet| octet.is_ascii_digit())
+}

@@ -1,0 +1,116 @@
+//! A run that keeps its journal in a file.
+ghost use Rattle.std.specs.Prelude.{◌≡◌, length, IfOk};
+
+use crate::carrying::book_of;
+use crate::host::Host;
+use crate::refused::{Refused, RunFault};
+use crate::run::{Run, deliver_report};
+use crate::saved::Saved;
+use ilp_book::Book;
+use ilp_io::Recording;
+use ilp_journal_file::JournalFile;
+use ilp_links::SystemClock;
+use ilp_notices::{journal_absent, journal_carried, nothing_to_save};
+use ilp_running::{ServeFault, Unprinted};
+use ilp_workers::Clock;
+
+// A run, and the file of its journal, which no other connector has.
+#[derive(Clone, Copy)]
+struct KeptRun<'r, R> {
+    run: Run<'r, R>,
+    file: &'r JournalFile,
+    path: &'r str,
+}
+
+impl<R: Host> Run<'_, R> {
+    /// Runs a connector from the journal at this path on, and saves that in the end.
+    pub(crate) fn serve_journal(&self, path: &str) -> Result<(), RunFault> {
+        let file = JournalFile::take(self.rt, self.rt.alloc(), path)?;
+        let kept = KeptRun {
+            run: *self,
+            file: &file,
+            path,
+        };
+        kept.serve()
+    }
+}
+
+impl<R: Host> KeptRun<'_, R> {
+    // Runs a connector from what the file has on, and saves it.
+    fn serve(&self) -> Result<(), RunFault> {
+        match self.begin() {
+            Ok(book) => self.serve_marked(book),
+            Err(refused) => Err(RunFault::Refused(refused)),
+        }
+    }
+
+    // The book that the file has. It is told how many entries that begins with, and beside the file there
+    // is a mark from here on until the journal is saved.
+    fn begin(&self) -> Result<Book, Refused>
+        ensures config { IfOk result (λ b. b.config ≡ self.now.run.config.now) }
+        ensures opening { IfOk result (λ b. length b.entries ≡ b.base) }
+    {
+        let book = self.carried()?;
+        self.file
+            .mark(self.run.rt, self.run.config.run(), book.len())?;
+        Ok(book)
+    }
+
+    // The book of the text that the file has, or a new one, and which of both it is told.
+    fn carried(&self) -> Result<Book, Refused>
+        ensures config { IfOk result (λ b. b.config ≡ self.now.run.config.now) }
+        ensures opening { IfOk result (λ b. length b.entries ≡ b.base) }
+    {
+        let rt = self.run.rt;
+        let text = self.file.read(rt, rt.alloc())?;
+        let is_there = text.is_some();
+        let now = SystemClock::new(*rt).now();
+        let book = book_of(rt.alloc(), self.run.config, self.path, text, now)?;
+        if is_there {
+            journal_carried(rt, self.path, book.len());
+        } else {
+            journal_absent(rt, self.path);
+        }
+        Ok(book)
+    }
+
+    // Runs a connector from this book on, beside whose file there is a mark.
+    fn serve_marked(&self, book: Book) -> Result<(), RunFault>
+        requires config { book.config ≡ self.now.run.config.now }
+        requires opening { length book.entries ≡ book.base }
+    {
+        let mut report = Recording::new(self.run.rt.alloc());
+        match self.run.serve(book, &mut report) {
+            Ok(book) => self.end(&book, &report.octets),
+            Err(fault) => {
+                self.leave_unsaved(fault);
+                Err(RunFault::from(fault))
+            }
+        }
+    }
+
+    // Prints the report of a book that was closed, and saves its journal, whatever became of the report.
+    fn end(&self, book: &Book, report: &[u8]) -> Result<(), RunFault>
+        requires config { book.now.config ≡ self.now.run.config.now }
+    {
+        let rt = self.run.rt;
+        let delivered = deliver_report(rt, report);
+        let saved = Saved {
+            book,
+            config: self.run.config,
+        };
+        match self.file.save(rt, rt.alloc(), &saved) {
+            Ok(()) => delivered,
+            Err(fault) => Err(RunFault::from(fault)),
+        }
+    }
+
+    // What becomes of the mark where a connector gave no book back. One that could not listen has booked
+    // nothing, so its mark goes. Any other may have booked something, and the mark stays.
+    fn leave_unsaved(&self, fault: ServeFault) {
+        match fault {
+            ServeFault::Unprinted(Unprinted::Listen(_)) => self.file.withdraw(self.run.rt),
+            _ => nothing_to_save(self.run.rt, self.path),
+        }
+    }
+}

@@ -1,0 +1,86 @@
+//! What of a configuration is allowed and probably not meant, told on standard error.
+
+use ilp_accounts::Config;
+use ilp_notices::configuration_warning;
+use ilp_warnings::{Warning, warnings};
+use std::alloc::AllocError;
+use std::fs;
+use std::os::unix::fs::PermissionsExt;
+use std::rt::Runtime;
+
+// The right of everybody to read a file.
+const OTHERS_READ: u32 = 0o004;
+
+/// How it is told.
+#[derive(Clone, Copy, PartialEq, Eq)]
+pub enum Telling {
+    /// Each thing by a line, to whoever checks a configuration.
+    Line,
+    /// Each by a line with time and level, to whoever runs a connector. That there is one worker alone is
+    /// told by the connector itself.
+    Notice,
+}
+
+impl Telling {
+    // Tells one thing.
+    fn tell<R: Runtime>(self, rt: &R, what: &str) {
+        match self {
+            Telling::Line => {
+                let _ = rt.eprintln(what);
+            }
+            Telling::Notice => configuration_warning(rt, what),
+        }
+    }
+
+    // Whether a warning is told so.
+    fn has(self, warning: &Warning) -> bool {
+        match self {
+            Telling::Line => true,
+            Telling::Notice => !matches!(warning, Warning::OneWorker),
+        }
+    }
+}
+
+/// Tells what is to be looked at in a configuration and its file. Of the built-in one, whose tokens are
+/// known to all, and of one that is refused nothing is told; and where memory is short not all is.
+pub fn tell_warnings<R: Runtime + AllocGlobal>(
+    rt: &R,
+    path: &str,
+    octets: &[u8],
+    telling: Telling,
+) {
+    if path == "-" {
+        return;
+    }
+    if let Ok(config) = Config::read(rt.alloc(), octets) {
+        tell_of_file(rt, path, telling);
+        let _ = tell_all(rt, octets, &config, telling);
+    }
+}
+
+// Tells of a file that everybody on its machine may read, since it has tokens.
+fn tell_of_file<R: Runtime>(rt: &R, path: &str, telling: Telling) {
+    let Ok(metadata) = fs::metadata(rt, path) else {
+        return;
+    };
+    if metadata.permissions().mode() & OTHERS_READ != 0 {
+        telling.tell(rt, "the file has tokens, and others may read it: chmod o-r");
+    }
+}
+
+// Tells of a configuration that was read.
+fn tell_all<R: Runtime + AllocGlobal>(
+    rt: &R,
+    octets: &[u8],
+    config: &Config,
+    telling: Telling,
+) -> Result<(), AllocError> {
+    let found = warnings(rt.alloc(), octets, config)?;
+    for warning in &found {
+        if telling.has(warning) {
+            let line = warning.line(rt.alloc(), config)?;
+            telling.tell(rt, line.as_str());
+        }
+    }
+    Ok(())
+}

@@ -1,0 +1,296 @@
+//! Replaying scripts.
+
+use super::{GROWTHS, PREPARE, PREPARE_BACK, lending};
+use ilp_accounts::Config;
+use ilp_io::{Pieces, Recording};
+use ilp_offline::{ReplayFault, replay};
+use std::alloc::{AllocError, Global};
+use std::process::Abort;
+use std::test::Fail;
+use test_allocator::DenyingAllocator;
+
+// A Fulfill of 32 zero octets, without data.
+const FULFILL: &str = "0d21000000000000000000000000000000000000000000000000000000000000000000";
+
+// A Fulfill of 32 octets `01`, without data.
+const OTHER_FULFILL: &str =
+    "0d21010101010101010101010101010101010101010101010101010101010101010100";
+
+// A Reject of the code F99, without triggeredBy, message and data.
+const REJECT: &str = "0e06463939000000";
+
+// The size of the pieces that a script is read in.
+const PIECE: usize = 50;
+
+// The most octets of a script.
+const MAX_SCRIPT: usize = 1_048_576;
+
+// A line of each form, and of each reply. The holds' deadline is 29 seconds after the first moment.
+fn each_form(alloc: Global) -> Result<String, AllocError> {
+    format!(in alloc;
+        "# each form\n\
+         \n\
+         hold 1735689600000 alice {PREPARE}\n\
+         answer 1735689600500 0 {FULFILL}\n\
+         hold 1735689600500 bob {PREPARE_BACK}\n\
+         answer 1735689600500 2 {REJECT}\n\
+         hold 1735689601000 alice {PREPARE}\n\
+         answer 1735689601000 4 none\n\
+         hold 1735689601000 alice {PREPARE}\n\
+         answer 1735689601000 6 {OTHER_FULFILL}\n\
+         answer 1735689601000 6 {FULFILL}\n\
+         answer 1735689601000 9 none\n\
+         hold 1735689601000 alice 0c\n\
+         hold 1735689601000 alice 0\n\
+         expire\n\
+         hold 1735689601000 alice {PREPARE}\n\
+         answer 1735689629000 8 {FULFILL}\n\
+         hold 1735689629000 alice {PREPARE}\n\
+         expire 1735689629000\n\
+         hold 1735689630000 alice {PREPARE}\n\
+         credit 1735689630000 bob k-1 {{\"amount\":\"1000\",\"scale\":2}}\n\
+         credit 1735689630000 bob k-1 {{\"scale\":2,\"amount\":1000}}\n\
+         credit 1735689630000 bob k-1 {{\"amount\":\"10\",\"scale\":0}}\n\
+         credit 1735689630000 bob k-2 5\n\
+         ask 1735689630000 bob\n\
+         ask 1735689630000 bob\n\
+         ask 1735689630000 alice\n\
+         close 1735689630000 11 no\n\
+         close 1735689630000 11 yes\n\
+         close 1735689630000 0 yes\n\
+         ask 1735689630000 bob\n\
+         close 1735689630000 13 yes\n\
+         report"
+    )
+}
+
+// What these lines print.
+const EACH_TEXT: &str = "held 0 to bob out 100\n\
+    entry 1 fulfilled 0\n\
+    held 2 to alice out 100\n\
+    entry 3 released 2 Peer 463939\n\
+    held 4 to bob out 100\n\
+    entry 5 released 4 NoReply\n\
+    held 6 to bob out 100\n\
+    entry 7 released 6 WrongPreimage\n\
+    not open 6 by 7\n\
+    not open 9\n\
+    bad packet 1 Truncated\n\
+    bad line\n\
+    bad line\n\
+    held 8 to bob out 100\n\
+    entry 9 released 8 Late\n\
+    reject R02 TooShort\n\
+    none due\n\
+    reject R00 Expired\n\
+    entry 10 credited 1000\n\
+    kept 10 credited 1000\n\
+    refused 46 KeyTaken 10\n\
+    refused 31 NotJson\n\
+    entry 11 asked 900\n\
+    refused 47 NotDue 200\n\
+    refused 47 NotDue -100\n\
+    entry 12 undone 11\n\
+    not open 11 by 12\n\
+    not open 0\n\
+    entry 13 asked 900\n\
+    entry 14 confirmed 13\n\
+    balance   alice                                         -100\n\
+    balance   bob                                            200\n\
+    open      alice                                            0\n\
+    open      bob                                              0\n\
+    held      USD/2                                            0\n\
+    fees      USD/2                                            0\n\
+    bought    USD/2                                          100\n\
+    sold      USD/2                                          100\n\
+    settled   USD/2                                          100\n\
+    entries                                                   15\n\
+    fulfilled                                                  1\n";
+
+// The report of twenty holds of 100 by alice, all of them fulfilled.
+const FULL_REPORT: &str = "balance   alice                                        -2000\n\
+    balance   bob                                           2000\n\
+    open      alice                                            0\n\
+    open      bob                                              0\n\
+    held      USD/2                                            0\n\
+    fees      USD/2                                            0\n\
+    bought    USD/2                                         2000\n\
+    sold      USD/2                                         2000\n\
+    settled   USD/2                                            0\n\
+    entries                                                   40\n\
+    fulfilled                                                 20\n";
+
+#[test]
+fn lines_of_each_form(rt: HostRuntime) -> Result<(), Fail> {
+    let script = each_form(rt.alloc())?;
+    replay_each(&rt, script.as_str(), EACH_TEXT)
+}
+
+#[test]
+fn a_journal_that_fills(rt: HostRuntime) -> Result<(), Fail> {
+    let alloc = rt.alloc();
+    let mut script = String::new(alloc);
+    let mut text = String::new(alloc);
+    for number in 0..20u32 {
+        writeln!(script, "hold 1735689600000 alice {PREPARE}")?;
+        writeln!(text, "held {number} to bob out 100")?;
+    }
+    for number in 0..20u32 {
+        let entry = number + 20;
+        writeln!(script, "answer 1735689600000 {number} {FULFILL}")?;
+        writeln!(text, "entry {entry} fulfilled {number}")?;
+    }
+    writeln!(script, "report")?;
+    text.push_str(FULL_REPORT)?;
+    replay_each(&rt, script.as_str(), text.as_str())
+}
+
+// Replays with each growth denied in turn. What is written until then is a front of the text,
+// of whole lines, and no shorter than where an earlier growth was denied.
+fn replay_each(rt: &(impl Abort + AllocGlobal), script: &str, text: &str) -> Result<(), Fail> {
+    let config = lending(rt.alloc())?;
+    replay_over_each(rt, &config, script, text)
+}
+
+fn replay_over_each(
+    rt: &(impl Abort + AllocGlobal),
+    config: &Config,
+    script: &str,
+    text: &str,
+) -> Result<(), Fail> {
+    let mut before = 0;
+    for granted in 0..GROWTHS {
+        let heap = DenyingAllocator::after(rt.alloc(), granted);
+        let mut reader = Pieces::new(script.as_bytes(), PIECE);
+        let mut writer = Recording::new(rt.alloc());
+        let outcome = replay(&heap, config, &mut reader, &mut writer);
+        let written = writer.octets.as_slice();
+        assert_eq!(rt; (reader.failures, writer.failures), (0, 0));
+        if !heap.has_denied() {
+            assert_eq!(rt; outcome, Ok(()));
+            assert_eq!(rt; written, text.as_bytes());
+            assert!(rt; granted > 1);
+            return Ok(());
+        }
+        assert_eq!(rt;
+            outcome,
+            Err(ReplayFault::Memory),
+            "after {granted} growths"
+        );
+        assert!(rt; text.as_bytes().starts_with(written));
+        assert!(rt; written.len() < text.len());
+        assert!(rt; written.is_empty() || written.ends_with(b"\n"));
+        assert!(rt; before <= written.len(), "after {granted} growths");
+        before = written.len();
+    }
+    assert!(rt; false, "some growth was always denied");
+    Ok(())
+}
+
+#[test]
+fn into_a_sink_that_is_denied_memory(rt: HostRuntime) -> Result<(), Fail> {
+    let script = each_form(rt.alloc())?;
+    let config = lending(rt.alloc())?;
+    sink_over_each(&rt, &config, script.as_str())
+}
+
+fn sink_over_each(
+    rt: &(impl Abort + AllocGlobal),
+    config: &Config,
+    script: &str,
+) -> Result<(), Fail> {
+    let mut failed_writes = 0u64;
+    for granted in 0..GROWTHS {
+        let heap = DenyingAllocator::after(rt.alloc(), granted);
+        let mut reader = Pieces::new(script.as_bytes(), PIECE);
+        let mut writer = Recording::new(&heap);
+        let outcome = replay(&heap, config, &mut reader, &mut writer);
+        let written = writer.octets.as_slice();
+        if !heap.has_denied() {
+            assert_eq!(rt; outcome, Ok(()));
+            assert_eq!(rt; written, EACH_TEXT.as_bytes());
+            assert_eq!(rt; writer.failures, 0);
+            assert!(rt; failed_writes > 1);
+            return Ok(());
+        }
+        let fault = if writer.failures == 0 {
+            ReplayFault::Memory
+        } else {
+            ReplayFault::WriteFault
+        };
+        assert_eq!(rt; outcome, Err(fault), "after {granted} growths");
+        assert!(rt; EACH_TEXT.as_bytes().starts_with(written));
+        assert!(rt; written.len() < EACH_TEXT.len());
+        failed_writes = failed_writes.saturating_add(writer.failures);
+    }
+    assert!(rt; false, "some growth was always denied");
+    Ok(())
+}
+
+#[test]
+fn up_to_a_read_that_fails(rt: HostRuntime) -> Result<(), Fail> {
+    let script = each_form(rt.alloc())?;
+    let config = lending(rt.alloc())?;
+    fail_over_each(&rt, &config, script.as_str())
+}
+
+fn fail_over_each(
+    rt: &(impl Abort + AllocGlobal),
+    config: &Config,
+    script: &str,
+) -> Result<(), Fail> {
+    for granted in 0..GROWTHS {
+        let heap = DenyingAllocator::after(rt.alloc(), granted);
+        let mut reader = Pieces::failing(script.as_bytes(), PIECE, script.len());
+        let mut writer = Recording::new(rt.alloc());
+        let outcome = replay(&heap, config, &mut reader, &mut writer);
+        assert!(rt; writer.octets.is_empty());
+        if !heap.has_denied() {
+            assert_eq!(rt; outcome, Err(ReplayFault::ReadFault));
+            assert_eq!(rt; reader.failures, 1);
+            assert!(rt; granted > 1);
+            return Ok(());
+        }
+        assert_eq!(rt;
+            outcome,
+            Err(ReplayFault::Memory),
+            "after {granted} growths"
+        );
+        assert_eq!(rt; reader.failures, 0);
+    }
+    assert!(rt; false, "some growth was always denied");
+    Ok(())
+}
+
+#[test]
+fn a_script_that_is_too_long(rt: HostRuntime) -> Result<(), Fail> {
+    let script = vec![in rt.alloc(); b'x'; MAX_SCRIPT + 1]?;
+    let config = lending(rt.alloc())?;
+    stop_over_each(&rt, &config, &script)
+}
+
+fn stop_over_each(
+    rt: &(impl Abort + AllocGlobal),
+    config: &Config,
+    script: &[u8],
+) -> Result<(), Fail> {
+    for granted in 0..GROWTHS {
+        let heap = DenyingAllocator::after(rt.alloc(), granted);
+        let mut reader = script;
+        let mut writer = Recording::new(rt.alloc());
+        let outcome = replay(&heap, config, &mut reader, &mut writer);
+        assert!(rt; writer.octets.is_empty());
+        if !heap.has_denied() {
+            assert_eq!(rt; outcome, Err(ReplayFault::ScriptTooLong));
+            assert!(rt; granted > 1);
+            return Ok(());
+        }
+        assert_eq!(rt;
+            outcome,
+            Err(ReplayFault::Memory),
+            "after {granted} growths"
+        );
+    }
+    assert!(rt; false, "some growth was always denied");
+    Ok(())
+}
