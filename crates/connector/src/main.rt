@@ -1,5 +1,8 @@
 //! The connector's command line. It describes a packet, checks a configuration and a journal, replays a
 //! script from standard input over a configuration, or runs a connector of one.
+//!
+//! All of it is proved safe, and no more: what its commands do is promised by `ilp_offline` and
+//! `ilp_starting`.
 #![tactic(auto)]
 
 mod checking;

@@ -55,11 +55,7 @@ pub(crate) fn open_settlement<A: Allocator>(
 }
 
 // The number of that settlement.
-fn next_number<A: Allocator>(
-    tallies: &Tallies<A>,
-    peer: u32,
-    tried: Option<u32>,
-) -> Option<u32>
+fn next_number<A: Allocator>(tallies: &Tallies<A>, peer: u32, tried: Option<u32>) -> Option<u32>
     ensures { IsOfEach tallies.now (λ _ _ j. option_or (next_open_number j peer tried)
         (next_open_number j peer None)) result }
 {

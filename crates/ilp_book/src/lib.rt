@@ -1,5 +1,41 @@
 //! The book of a connector (RFC 0027): what each call is answered and which entry it appends, and
 //! what the journal keeps by that.
+//!
+//! # What is proved
+//!
+//! - `Book::hold`, `answer`, `expire_one`, and for settlements `credit`, `ask` and `settle_close`,
+//!   each do exactly one step of the definitions: the reply, with the refusals in their order, and
+//!   at most one entry (`specs/HoldStep.antt`, `specs/AnswerStep.antt`, `specs/SettleStep.antt`).
+//!   The book is lawful afterwards. A refusal leaves it as it was.
+//! - `hold`, `credit` and `ask` may answer `Memory` in place of an acceptance, and then book
+//!   nothing. The others have no condition, allocator or error for want of memory.
+//! - `credit` books a peer's key once. `settle_close` confirms or undoes what is open, else names
+//!   the entry that closed it.
+//! - `Book` keeps that its journal is lawful by its configuration and base (`Lawful.antt` of
+//!   `ilp_rules`), which `entry` tells; that no hold was open at its base (`base`); that its tables
+//!   are those of the journal (`Tables.antt` there); and that there is memory for whatever ends
+//!   what is open.
+//! - `config` tells that the configuration is valid, `balance` that no peer's balance lies below
+//!   its least, `sums` that the books of the asset balance. `balance`, `open_holds`, `fulfilled`
+//!   and `sums` are the sums of the journal, and balances and sums are within 2^96 of 0; `new` is a
+//!   book of no entries; `HoldFault::reject_code` is the RFC's code.
+//! - `open_settlement` is the open settlement to a peer with the least number behind the one that
+//!   was tried last, else of all, with its amount; `most_open_asks`, four, may be open at once.
+//! - `save` writes exactly the text of the journal; where a write fails or takes no octet, a front
+//!   of it that is not all. It has no allocator. Its condition: the configuration is the book's
+//!   own.
+//! - `carry_over` answers the book that `ilp_rules` makes of a text, or why there is none.
+//! - `runs_are_lawful`: over a valid configuration, for every list of the six calls within their
+//!   conditions (known peers, the destination's own route, a key of 1 to 128 octets), of any
+//!   actors, at any times, however short memory is, the journal is lawful, and the books of each
+//!   asset balance. It stays lawful from every lawful book on.
+//! - `first_answer_stands`: of all answers of a hold, and sweeps that take it, the first that finds
+//!   it open appends. Each later answer is told that entry and appends nothing.
+//! - `sweeps_take_the_earliest`: a sweep takes the hold that the rules name (docs/PROTOCOL.md, "a
+//!   hold its answer and a sweep"). Where it takes none, each open hold still has time.
+//! - `settlements_stand`: the first closing of an open settlement stands; each later one is told
+//!   that entry and appends nothing. A credit is kept under its key, and answers whatever its
+//!   peer's engine says under it later, unless that is too large.
 #![tactic(auto)]
 
 mod answers;

@@ -1,5 +1,35 @@
 //! The desk of a connector: one book behind a lock, on which threads book by sessions, each with a
 //! share that counts what it booked.
+//!
+//! # What is proved
+//!
+//! - `Desk::open`, over a book at its base, answers a desk and its actors' shares in order, of no
+//!   entry yet; else the book as it was, with `BadWorkers` just where the workers aren't 1 to 64,
+//!   `Memory` only where they are.
+//! - `LockedBook`, which whoever takes the lock finds, keeps that it is a book of the desk (what
+//!   that is (docs/PROOF.md, "why it holds on every schedule"), `specs/Desk.antt`), whatever other
+//!   threads did; `book` tells it. It also keeps that a ledger stands at the number of entries
+//!   since the opening.
+//! - `LockedBook::hold`, `answer`, `expire_one`, `credit`, `ask` and `settle_close` each do exactly
+//!   one step of the book's definitions, by the actor of the share that is lent, leave a book of
+//!   the desk, and raise the share by the entries that the journal gained.
+//! - `Share`, which can't be cloned, keeps that its actor is the desk's and its entries what it has
+//!   of the ledger.
+//! - `Desk::hold` and the five others take the lock for one session. When it is let go, it is known
+//!   that some book of the desk was found, and what the step makes of it is what was replied and
+//!   booked (`IsReplyAt`).
+//! - `LockedBook::snapshot` copies what the report tells of its book, `Desk::snapshot` of some book
+//!   of the desk; nothing changes.
+//! - `gather` answers the book only where each actor has one end (its share and records) with the
+//!   records that the journal has of that actor since the opening. It takes no memory.
+//! - Then the shares add up to the entries since the opening, and the records to what was fulfilled
+//!   since: how many packets, and each asset's amounts in and out (`specs/Gathering.antt`).
+//! - Else `gather` hands desk and ends back, with `Double`, `Missing` or `Disagrees`, in this
+//!   order, each of its least actor, by the desk's own book. `UnlockedDesk::book` shows that book,
+//!   and `into_desk` puts it under a lock again.
+//! - `whole_ends_are_gathered`: where each actor has one end with its records, nothing is refused.
+//! - `packets_fit`: of a book opened where no hold was open, what was fulfilled since keeps, in
+//!   each asset, within 18446744073709551615. So no sum that actors keep wraps.
 #![tactic(auto)]
 
 mod desk;

@@ -6,6 +6,10 @@
 //!
 //! What a file system does, no clause can say: it stands in the comments, and the cases of
 //! `scripts/check.py` try it on the program.
+//!
+//! # What is proved
+//!
+//! - The names of a journal's files (`Names::of`). All else is proved safe, and no more.
 #![tactic(auto)]
 
 mod fault;

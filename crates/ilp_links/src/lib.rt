@@ -3,6 +3,15 @@
 //!
 //! What a socket gives or takes, and how long that takes, no clause can say: it stands in the
 //! comments, and `test_sockets` tests it over real sockets.
+//!
+//! # What is proved
+//!
+//! Public functions have no clause beyond safety. These links, the clock among them, tell nothing.
+//! Of private functions:
+//!
+//! - `time_left` is 0 from the deadline on, else the difference, and an hour at most.
+//! - `left_until`: a wait that is begun is longer than nothing, so never endless.
+//! - `SystemClock` gives the whole milliseconds of its time.
 #![tactic(auto)]
 
 mod calling;

@@ -3,6 +3,15 @@
 //! A line is `TIME LEVEL TEXT`. It is written at once, so that lines of threads don't mix, and one that
 //! can't be written is passed over. No line has a token, a key or an octet of a packet. What is
 //! written, and when, no clause can say: it stands in the comments, and `test_sockets` tests it.
+//!
+//! # What is proved
+//!
+//! Lines are proved safe, no more. Of private functions:
+//!
+//! - the text of a time has the digits of its moment, as RFC 3339 places them;
+//! - `Pace::after`: a line is due just where its moment has come, and the next rest is the first
+//!   one or twice the last, up to the longest (`specs/Pace.antt`);
+//! - a threshold of the journal is told just where it is reached, and once.
 #![tactic(auto)]
 
 mod doubling;

@@ -1,4 +1,35 @@
 //! The connector's server: what comes over HTTP from peers and from settlement engines.
+//!
+//! # What is proved
+//!
+//! - `answer_connection` reads one request at a side, in at most 4,096 reads, has a worker serve
+//!   it, and writes one response. It relates what source and sink tell, the worker before and
+//!   after, and what is answered (`specs/Connection.antt`).
+//! - It reads what `read_request` answers, and like it no further. Refused octets get their
+//!   refusal's status, and leave the worker as it was.
+//! - What is answered is the table's (docs/PROTOCOL.md, "requests that are served")
+//!   (`specs/Serving.antt`). Of a packet with a known token `Worker::forward`'s relation holds of
+//!   the body, from the token's peer.
+//! - Of a settlement with a key and a quantity, 503 for want of memory may come before a book is
+//!   asked. Else `Worker::credit`'s relation holds of the quantity, the key and the path's peer. Of
+//!   a message `Worker::message`'s relation holds.
+//! - A report is exactly the report of some book of the desk, or 503 where memory is short. It
+//!   changes nothing; nor does a close.
+//! - `Done`: the response with this status was written whole; `Close`: the same of 200, only for a
+//!   close at the engines' side. `Fault`: a write failed before its end; or nothing that is
+//!   answered was read, nothing was written, and the worker is as it was. `Done` and `Fault` have
+//!   the `Deed` (`specs/Deeds.antt`): the credit that was made now, or the Reject that the packet's
+//!   sender is answered, and nothing else.
+//! - `target_of` is what a path asks for at a side (`specs/Targets.antt`), `sender_of` the peer
+//!   whose token the one Authorization field shows, `key_of` the octets of the key in the one
+//!   Idempotency-Key field (`specs/Fields.antt`); each is none just where there is none.
+//! - `work_of` tells octets as remote work of a peer only where they begin with a packet that shows
+//!   its token, or a message to it (`specs/Work.antt`). Of octets that it tells as local nothing is
+//!   said.
+//! - `laws`: in a valid configuration a path asks for at most one thing at a side, and a request is
+//!   from at most one peer.
+//! - `NotServed` is the table of statuses of what is not served (`specs/Statuses.antt`); `unread`
+//!   says what becomes of a connection without a request.
 #![tactic(auto)]
 
 mod answering;

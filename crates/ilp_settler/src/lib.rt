@@ -1,6 +1,32 @@
 //! The sweeper and the settler of a desk: the one releases holds whose deadline has come, the other
 //! has the peers' engines settle what is owed. Each has a share of the desk and a clock, and the
 //! settler a link to the engines.
+//!
+//! # What is proved
+//!
+//! - `Sweeper::turn` releases at most one hold, at a moment of its clock, by the book's sweep, and
+//!   raises its share by one just where it answers a number.
+//! - `Settler::turn` has three steps (`specs/Settler.antt`). Just where the settler doesn't know
+//!   that the peer's engine has an account of the peer, the engine is asked for it, once. Where it
+//!   says no, the turn is `NoAccount`, and nothing else happens; else the settler knows it from
+//!   then on.
+//! - Then a book of the desk is asked at a moment of the clock for a settlement. Where it refuses
+//!   that for another cause than memory, the open settlement behind the one that was tried last for
+//!   this peer is found, else the first of all, by one look (`IsChoosing`). The engine is handed
+//!   just the one that was booked or found: its amount at the scale of the peer's balance, under
+//!   the key of its entry's number. Where there is none, no engine is asked, and the turn is `Idle`
+//!   with the refusal.
+//! - Where the engine accepted or refused it, a book is told so at the clock's next moment. Just
+//!   where it was still open, the answer is `Closed`, and the list grows by that record. Else it is
+//!   `Kept`, as where the engine said neither; then no book is told. Both have the amount and what
+//!   the engine said.
+//! - The error is want of memory: nothing is booked, no engine asked for a settlement, but that it
+//!   has the account is kept.
+//! - `Settler::new` and `into_end` are as the worker's; `Sweeper::new` can't fail.
+//!
+//! Each clause on an actor holds for whatever other threads do between two sessions. That a credit
+//! answered as kept was ever booked, and that the settlement which an engine is handed is open in
+//! the desk's own book, follows from no clause but from the session's code.
 #![tactic(auto)]
 
 mod settler;

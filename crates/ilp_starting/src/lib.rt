@@ -3,6 +3,15 @@
 //!
 //! What files, sockets and standard streams give and take, no clause can say: it stands in the comments,
 //! and the cases of `scripts/check.py` try it on the program.
+//!
+//! # What is proved
+//!
+//! - `book_of`: where there is no text of a journal a connector begins with a new book, else with
+//!   the one as which that text is carried over at a time (`specs/Beginning.antt`, `BeginsWith`).
+//!   `config_of` gives the configuration of the octets that TOML reads.
+//! - Of a private function, `Run::serve`: the book that is given back is a closed one of a desk
+//!   that was opened with that journal (`IsClosed`), and the report is that book's.
+//! - All else is proved safe, and no more.
 #![tactic(auto)]
 
 mod carrying;

@@ -3,6 +3,14 @@
 //! rules, and not from the code. After its calls the book of a run is carried over, and more calls come
 //! over the book that begins then. What is printed is fixed where both agree, and a difference is printed
 //! in place of the line of its run.
+//!
+//! There are six runs of 500 steps of all six calls, one of them over a journal that fills, and one
+//! of 200 steps behind a long journal. Each balance, count, sum and open settlement is compared
+//! with a walk. One peer is settled with in parts, of which four are open time and again. Each of
+//! the six is then carried over, at a start between 20 seconds before its last call and a minute
+//! after it: what is saved behind that is the old text with the ends of the open holds, and it
+//! stays so when it is carried over once more. 100 steps go on over that book. Each of 32 kinds of
+//! replies must come up, and both causes for which a hold ends at a start.
 #![tactic(auto)]
 
 mod calls;
