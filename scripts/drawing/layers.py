@@ -5,7 +5,7 @@
     scripts/drawing/layers.py --check
 
 In crates.txt a line `# == NAME` begins a layer, the lowest first. README gets a line for each layer, and
-ARCHITECTURE a line for each crate, with the first sentence of its lib.rt or main.rt; both show the highest first.
+ARCHITECTURE a line for each crate, with what its lib.rt or main.rt says first; both show the highest first.
 What is written stands between two comments in the page, and nothing else of it is touched. With --check nothing
 is written: the exit status is 1 where a page shows something else, where a crate stands above one that it uses,
 or where one has no folder or no line.
@@ -66,7 +66,7 @@ def first_sentence(name: str) -> str:
                 if not line.startswith("//! "):
                     break
                 lines.append(line[4:])
-            return re.split(r"(?<=[.])\s", " ".join(lines))[0].rstrip(".")
+            return re.split(r"(?<=[.])\s|:\s", " ".join(lines))[0].rstrip(".")
     raise Fault(f"{name} has neither lib.rt nor main.rt")
 
 
