@@ -6,7 +6,7 @@ mod links;
 mod running;
 mod sockets;
 
-use ilp_workers::Clock;
+use ilp_link_traits::Clock;
 use std::sync::atomic::{AtomicI64, Ordering};
 
 // 2025-01-01T00:00:00Z.

@@ -10,7 +10,7 @@ use crate::peers::START;
 use ilp_desk::{Desk, Naming, Share};
 use ilp_http::Buffer;
 use ilp_io::{Narrow, Pieces, Recording, Sink, WhenFull};
-use ilp_server::{ConnectionFault, Handled, Side, answer_connection};
+use ilp_server::{ConnectionFault, Deed, Handled, Side, answer_connection};
 use ilp_workers::Worker;
 use std::io;
 use std::sync::Wait;
@@ -136,7 +136,7 @@ fn is_unread<J: Naming>(
     );
     let is_silent = sink.octets.is_empty();
     let is_kept = Booked::by(rt, desk, worker) == before;
-    handled == Handled::Fault(ConnectionFault::Read) && is_silent && is_kept
+    is_fault(handled, ConnectionFault::Read) && is_silent && is_kept
 }
 
 // Answers a request whole, and then fails at each octet of the response.
@@ -200,7 +200,13 @@ fn is_unwritten<J: Naming>(
     );
     let is_front = sink.recording.octets.as_slice() == front;
     let is_booked = Booked::by(rt, desk, worker) == after;
-    handled == Handled::Fault(ConnectionFault::Write) && is_front && is_booked
+    is_fault(handled, ConnectionFault::Write) && is_front && is_booked
+}
+
+// Whether this is what is told, and no credit and no Reject besides.
+fn is_fault(handled: Handled, fault: ConnectionFault) -> bool {
+    let deed = Deed::Nothing;
+    handled == Handled::Fault { fault, deed }
 }
 
 fn answer_over<J: Naming, W: Sink>(

@@ -17,7 +17,7 @@ impl EngineLink for NoEngine {
     }
 
     fn settle(&mut self, _peer: u32, _key: &str, _amount: u64, _scale: u8) -> EngineReply {
-        EngineReply::Refused
+        EngineReply::Refused { status: 400 }
     }
 
     fn message<A: Allocator>(
@@ -31,8 +31,8 @@ impl EngineLink for NoEngine {
 }
 
 /// What an engine says, in words: of an account `account` or `no-account`, and behind a space of a
-/// settlement `accepted`, `refused` or `unknown`. Behind each comma stands what it says the next time.
-/// The last is what it says from then on.
+/// settlement `accepted`, `refused`, with the status 400, or `unknown`, without a response. Behind each
+/// comma stands what it says the next time. The last is what it says from then on.
 #[derive(Clone, Copy)]
 pub(crate) struct Sayings<'a>(pub(crate) &'a str);
 
@@ -55,8 +55,8 @@ impl<'a> Sayings<'a> {
         let (_account, settlement) = self.next();
         match settlement {
             "accepted" => EngineReply::Accepted,
-            "refused" => EngineReply::Refused,
-            _ => EngineReply::Unknown,
+            "refused" => EngineReply::Refused { status: 400 },
+            _ => EngineReply::Unknown { status: None },
         }
     }
 }
@@ -125,7 +125,7 @@ impl<E: EngineLink + Drop> EngineLink for Wanting<'_, E> {
         if has_room(self.settlements) {
             self.engine.settle(peer, key, amount, scale)
         } else {
-            EngineReply::Unknown
+            EngineReply::Unknown { status: None }
         }
     }
 

@@ -3,8 +3,8 @@
 ghost use Rattle.std.specs.Prelude.{◌≡◌, [], ◌∷◌, ◌++◌, IfSome, IfOk, IsOkAnd, IsSomeAnd};
 ghost use Rattle.ilp_workers.specs.Links.{came_of, sending};
 
+use ilp_link_traits::{LinkFault, ReplyKind, Uplink};
 use ilp_oer::Octets;
-use ilp_workers::{LinkFault, Uplink};
 use std::alloc::{AllocError, Allocator, Global};
 use std::marker::Model;
 
@@ -63,6 +63,10 @@ impl<U: Uplink + Drop> Uplink for Noting<U> {
         let noted = note(self.alloc, to, packet, deadline, result, reply.as_slice());
         self.sent = with(self.sent.take(), noted);
         result
+    }
+
+    fn note_reply(&mut self, from: u32, kind: ReplyKind) {
+        self.uplink.note_reply(from, kind);
     }
 }
 

@@ -1,8 +1,8 @@
 //! What the ends of a desk add up to, and what its book does.
 
 use super::gathering::book_of;
-use ilp_book::Book;
-use ilp_desk::{AnsweredHold, Desk, End, Naming, Record, Recorded, Verdict};
+use ilp_book::{Book, EngineVerdict};
+use ilp_desk::{AnsweredHold, Desk, End, HoldEnd, Naming, Record, Recorded};
 use ilp_journal::{Entry, What};
 use std::io;
 
@@ -40,11 +40,10 @@ impl Totals {
         self.credited = self.credited.wrapping_add(amount);
     }
 
-    fn add_settlement(&mut self, amount: u64, accepted: bool) {
-        if accepted {
-            self.confirmed = self.confirmed.wrapping_add(amount);
-        } else {
-            self.undone = self.undone.wrapping_add(amount);
+    fn add_settlement(&mut self, amount: u64, verdict: EngineVerdict) {
+        match verdict {
+            EngineVerdict::Accepted => self.confirmed = self.confirmed.wrapping_add(amount),
+            EngineVerdict::Refused => self.undone = self.undone.wrapping_add(amount),
         }
     }
 
@@ -55,14 +54,14 @@ impl Totals {
             Recorded::Credited { amount, .. } => self.add_credit(amount),
             Recorded::Closed {
                 amount,
-                accepted,
+                verdict,
                 ..
-            } => self.add_settlement(amount, accepted),
+            } => self.add_settlement(amount, verdict),
         }
     }
 
     fn add_answered(&mut self, hold: &AnsweredHold) {
-        if hold.verdict == Verdict::Fulfilled {
+        if hold.ended == HoldEnd::Fulfilled {
             self.add_payment(hold.amount, hold.out);
         }
     }
@@ -75,8 +74,12 @@ impl Totals {
                 self.add_payment(amount, out);
             }
             What::Credited(credit) => self.add_credit(credit.credited),
-            What::Confirmed { ask } => self.add_settlement(asked_at(book, *ask), true),
-            What::Undone { ask } => self.add_settlement(asked_at(book, *ask), false),
+            What::Confirmed { ask } => {
+                self.add_settlement(asked_at(book, *ask), EngineVerdict::Accepted);
+            }
+            What::Undone { ask } => {
+                self.add_settlement(asked_at(book, *ask), EngineVerdict::Refused);
+            }
             What::Hold(_) | What::Released { .. } | What::Asked(_) => {}
         }
     }

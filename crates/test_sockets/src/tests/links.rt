@@ -12,8 +12,8 @@ use super::sockets::accept;
 use super::{FULFILL, START, Still};
 use calls::{Scene, answer_of, reply_of};
 use hearing::{At, Hearing};
+use ilp_link_traits::{Clock, EngineLink, EngineReply, ReplyKind, Uplink};
 use ilp_links::{Links, SystemClock, TcpLinks, TimedReader, TimedWriter, instant_after};
-use ilp_workers::{Clock, EngineLink, EngineReply, Uplink};
 use stage::{Play, stage};
 use stand_in::Does;
 use std::alloc::Global;
@@ -93,7 +93,8 @@ fn packet_request<R>(scene: Scene<'_, R>) -> io::Result<String> {
     Ok(text)
 }
 
-// What alice may do with a packet, and what comes of it.
+// What alice may do with a packet, and what comes of it. What she replies is read by whoever has the
+// link, and it learns what that is.
 fn send_to_alice<R: Threads + std::time::Clock + Abort + Copy + Sync, U: Uplink>(
     scene: Scene<'_, R>,
     link: &mut U,
@@ -101,7 +102,9 @@ fn send_to_alice<R: Threads + std::time::Clock + Abort + Copy + Sync, U: Uplink>
     let request = packet_request(scene)?;
     let rubbish = b"HTTP/1.1 200 OK\r\nContent-Length: 7\r\n\r\nrubbish";
     scene.replies(link, request.as_bytes(), rubbish, b"rubbish")?;
+    link.note_reply(0, ReplyKind::NoAnswer);
     fulfill(scene, link, request.as_bytes())?;
+    link.note_reply(0, ReplyKind::Answer);
     flood(scene, link, request.len())?;
     fail(scene, link, request.len())
 }
@@ -232,8 +235,8 @@ fn ask_for_settlements<R: Threads + std::time::Clock + Abort + Sync, E: EngineLi
     let refused = scene.settle(link, text.as_bytes(), NOT_FOUND)?;
     let unknown = scene.settle(link, text.as_bytes(), CONFLICT)?;
     assert_eq!(scene.rt; accepted, EngineReply::Accepted);
-    assert_eq!(scene.rt; refused, EngineReply::Refused);
-    assert_eq!(scene.rt; unknown, EngineReply::Unknown);
+    assert_eq!(scene.rt; refused, EngineReply::Refused { status: 404 });
+    assert_eq!(scene.rt; unknown, EngineReply::Unknown { status: Some(409) });
     Ok(())
 }
 
@@ -254,7 +257,10 @@ fn send_messages<R: Threads + std::time::Clock + Abort + Sync, E: EngineLink>(
 fn ask_no_engine<E: EngineLink>(rt: &impl Abort, alloc: Global, link: &mut E) {
     for peer in [0, 3] {
         assert!(rt; !link.account(peer));
-        assert_eq!(rt; link.settle(peer, "r1-7", 250, 2), EngineReply::Unknown);
+        assert_eq!(rt;
+            link.settle(peer, "r1-7", 250, 2),
+            EngineReply::Unknown { status: None }
+        );
         assert!(rt; answer_of(link, alloc, peer).is_none());
     }
 }

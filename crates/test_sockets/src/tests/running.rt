@@ -45,7 +45,7 @@ where
         + Copy
         + Send
         + Sync,
-    C: ilp_workers::Clock + Copy + Drop + Send,
+    C: ilp_link_traits::Clock + Copy + Drop + Send,
 {
     let hurry = Hurry::new();
     let links = TcpLinks::new(*rt, config, clock, notices, &hurry);

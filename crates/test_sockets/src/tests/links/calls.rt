@@ -3,10 +3,10 @@
 use super::stand_in::{Does, stand_in};
 use crate::tests::START;
 use ilp_accounts::Config;
+use ilp_link_traits::{EngineLink, EngineReply, LinkFault, Uplink};
 use ilp_links::Hurry;
 use ilp_notices::Notices;
 use ilp_oer::Octets;
-use ilp_workers::{EngineLink, EngineReply, LinkFault, Uplink};
 use std::alloc::Global;
 use std::io;
 use std::net::{SocketAddr, TcpListener};

@@ -34,7 +34,6 @@ pub(super) enum Event {
     ClockBehind(u64),
     ClockRight,
     Confirmed(u32),
-    RefusedWith(u32, u16),
     Refused(u32),
     KeptOpen(u32),
     Credited(u32),
@@ -69,9 +68,8 @@ fn happen_to_settlements<R: Clock + Eprint>(
 ) {
     match event {
         Event::Confirmed(peer) => notices.settlement_confirmed(rt, config, peer, 7, 250),
-        Event::RefusedWith(peer, status) => notices.settlement_refused_with(peer, status),
         Event::Refused(peer) => {
-            notices.settlement_refused(rt, config, peer, 7, 250, Duration::from_secs(4));
+            notices.settlement_refused(rt, config, peer, 7, 250, 400, Duration::from_secs(4));
         }
         Event::KeptOpen(peer) => notices.settlement_kept_open(rt, config, peer, 7),
         Event::Credited(peer) => notices.credited(rt, config, peer, 7, 250),

@@ -199,12 +199,6 @@ fn settlements_and_engines(rt: HostRuntime) -> Result<(), Fail> {
         Row(
             0,
             Refused(1),
-            "1970-01-01T00:00:00.000Z warn settlement 7 with bob of 250: refused, and the amount is back; the next one waits 4 seconds\n",
-        ),
-        Row(0, RefusedWith(1, 400), ""),
-        Row(
-            0,
-            Refused(1),
             "1970-01-01T00:00:00.000Z warn settlement 7 with bob of 250: refused with the status 400, and the amount is back; the next one waits 4 seconds\n",
         ),
         Row(
