@@ -4,7 +4,7 @@ use crate::journal::Fullness;
 use crate::peers::OfPeer;
 use crate::rejects::Rejects;
 use crate::repeated::Repeated;
-use crate::work::Work;
+use crate::work::WaitingWork;
 use ilp_accounts::Config;
 use std::alloc::{AllocError, Global};
 use std::io::Eprint;
@@ -21,7 +21,7 @@ use std::time::Clock;
 #[derive(Drop)]
 pub struct Notices {
     pub(crate) peers: Vec<OfPeer>,
-    pub(crate) work: Work,
+    pub(crate) work: WaitingWork,
     pub(crate) fullness: Fullness,
     pub(crate) clock: Repeated,
     rejects: Rejects,
@@ -37,7 +37,7 @@ impl Notices {
         }
         Ok(Notices {
             peers,
-            work: Work::new(),
+            work: WaitingWork::new(),
             fullness: Fullness::new(),
             clock: Repeated::new(),
             rejects: Rejects::new(alloc, config.peers())?,

@@ -12,16 +12,16 @@ use std::time::{Clock, Duration};
 
 /// What was told of work that waits. Threads share it by reference.
 #[derive(Drop)]
-pub(crate) struct Work {
+pub(crate) struct WaitingWork {
     itself: Repeated,
     // For how many seconds it waited when that was last said.
     seconds: AtomicU64,
 }
 
-impl Work {
+impl WaitingWork {
     /// None has waited yet.
-    pub(crate) fn new() -> Work {
-        Work {
+    pub(crate) fn new() -> WaitingWork {
+        WaitingWork {
             itself: Repeated::new(),
             seconds: AtomicU64::new(0),
         }

@@ -9,10 +9,10 @@ use crate::saved::Saved;
 use ilp_book::Book;
 use ilp_io::Recording;
 use ilp_journal_file::JournalFile;
+use ilp_link_traits::Clock;
 use ilp_links::SystemClock;
 use ilp_notices::{journal_absent, journal_carried, nothing_to_save};
 use ilp_running::{ServeFault, Unprinted};
-use ilp_workers::Clock;
 
 // A run, and the file of its journal, which no other connector has.
 #[derive(Clone, Copy)]
