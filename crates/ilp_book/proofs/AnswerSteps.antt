@@ -16,13 +16,13 @@ use Rattle.ilp_book.specs.declared.calls.Outcome.{Outcome}
 use Rattle.ilp_book.specs.declared.calls.Outcome.TheVariants as outcome
 use Rattle.ilp_book.specs.declared.fault.NotOpen.{NotOpen}
 use Rattle.ilp_terms.specs.Condition.{meets}
-use Rattle.ilp_book.specs.Book.{PlainBook, By, moment_at, entry_by, with_entry, pushed}
-use Rattle.ilp_book.specs.Open.{earlier, numbered_hold, earliest_from, earliest}
-use Rattle.ilp_book.specs.Lawful.{IsLawful, KeepsRule}
+use Rattle.ilp_rules.specs.Book.{PlainBook, By, moment_at, entry_by, with_entry, pushed}
+use Rattle.ilp_rules.specs.Open.{earlier, numbered_hold, earliest_from, earliest}
+use Rattle.ilp_rules.specs.Lawful.{IsLawful, KeepsRule}
 use Rattle.ilp_book.specs.AnswerStep.{preimage_of, judged_reply, ending, outcome_of, answer_booked, answer_step, due, expire_booked, expire_step}
-use Rattle.ilp_book.proofs.LawfulGrowth.{Admits, lawful_push, limits_now}
+use Rattle.ilp_rules.proofs.LawfulGrowth.{Admits, lawful_push, limits_now}
 use Rattle.ilp_order.proofs.RefusalLemmas.{chosen, is_none_at, is_some_at, some_same, ok_same}
-use Rattle.ilp_book.proofs.InTime.{in_time, calm}
+use Rattle.ilp_rules.proofs.InTime.{in_time, calm}
 
 -- ---- replies that are judged
 
@@ -73,16 +73,6 @@ answer_rule C base j n m h reply is = of (judged_reply h m reply) (reply_tests (
     of (Err c) t = (rw is (released (int_le h.deadline m) c refl t), λ restart. absurd (no_restart (int_le h.deadline m) c t restart))
 
 -- ---- answers
-
--- what is open stands unanswered
-pub open_stands : (j : Entries) (n : ℕ) (h : Hold) → open_hold_at j n ≡ Some h → (is_unanswered j n ≡ true) × (hold_at j n ≡ Some h)
-open_stands j n h e = chosen (is_unanswered j n) (hold_at j n) h e
-
--- an answer of a hold that stands unanswered answers it once
-pub answers_open : (j : Entries) (n : ℕ) (h : Hold) (e : Entry) → hold_at j n ≡ Some h → is_unanswered j n ≡ true → answered e.what ≡ Some n → AnswersOnce j e
-answers_open j n h e stands unanswered names =
-    subst (λ o. IfSome o (λ k. IsSome (hold_at j k) × IsNone (answer_of j k))) (sym names)
-    (is_some_at (hold_at j n) h stands, is_none_at (answer_of j n) unanswered)
 
 -- the end of an open hold is admitted
 answer_admitted : (book : PlainBook) (caller : By) (n : ℕ) (v : Result (List ℕ) Cause) → IsLawful book

@@ -2,13 +2,19 @@
 use Rattle.std.proofs.Common.{◌≡◌, ℕ, zero, suc, ◌+◌, ◌≤◌, ◌⊎◌, inl, inr, ℤ, Bool, true, false, cond, [], ◌∷◌, Option, Some, None, refl, sym, ap, ◌∙◌, subst, arith, add-zero, zero-add}
 use Rattle.std.specs.Prelude.{int_lt, int_le, option_map, option_and_then, ◌≤ℤ◌, ◌<ℤ◌}
 use Rattle.std.proofs.lemmas.Int.{ints}
+use Rattle.std.specs.Ordering.{nat_cmp}
+use Rattle.std.specs.FinMap as fin_map
+use Rattle.std.specs.FinMap.{FinMap, get-empty}
+use Rattle.ilp_holds.specs.Due.{IsNoLater}
 use Rattle.ilp_journal.specs.declared.entry.Hold.{Hold}
 use Rattle.ilp_journal.specs.Journal.{Entries, hold_at, as_hold, is_unanswered, open_hold_at}
-use Rattle.ilp_book.specs.Book.{PlainBook, By, moment_at}
-use Rattle.ilp_book.specs.Open.{earlier, earliest, earliest_from, IsEarliest}
+use Rattle.ilp_rules.specs.Book.{PlainBook, By, moment_at}
+use Rattle.ilp_rules.specs.Open.{earlier, earliest, earliest_from, IsEarliest}
 use Rattle.ilp_book.specs.AnswerStep.{due, expire_booked, expire_step}
 use Rattle.ilp_order.proofs.RefusalLemmas.{chosen, some_same}
-use Rattle.ilp_book.proofs.AnswerSteps.{earliest_stands, open_stands}
+use Rattle.ilp_rules.specs.Tables.{deadline_of, AreOpen}
+use Rattle.ilp_rules.proofs.Standing.{open_stands}
+use Rattle.ilp_book.proofs.AnswerSteps.{earliest_stands}
 
 -- a hold with its number
 abbrev with_number : ℕ → Option Hold → Option (ℕ × Hold)
@@ -233,3 +239,36 @@ unswept_has_time book caller taken n h is_open = of (due book.entries (moment_at
     of : (o : Option ℕ) → due book.entries m ≡ o → (expire_booked book caller o).reply ≡ None → m <ℤ h.deadline
     of (Some k) is e = absurd cc
     of None is e = found (earliest book.entries) refl is
+
+-- ---- in a table of deadlines
+
+-- nothing is open where the table is empty
+pub none_open : (j : Entries) (m : FinMap nat_cmp ℤ) → AreOpen j m → m ≡ fin_map.empty → (n : ℕ) → open_hold_at j n ≡ None
+none_open j m open_now is n = of (open_hold_at j n) (sym (open_now n) ∙ ap (λ (d : FinMap nat_cmp ℤ). fin_map.get d n) is ∙ get-empty nat_cmp n)
+  where
+    of : (o : Option Hold) → deadline_of o ≡ None → o ≡ None
+    of None e = refl
+    of (Some h) e = cc
+
+-- the hold whose deadline comes first in the table is the earliest
+pub first_is_earliest : (j : Entries) (m : FinMap nat_cmp ℤ) (n : ℕ) (deadline : ℤ) (h : Hold) → AreOpen j m → fin_map.get m n ≡ Some deadline
+    → ((k : ℕ) (d : ℤ) → fin_map.get m k ≡ Some d → IsNoLater deadline n d k) → hold_at j n ≡ Some h → earliest j ≡ Some (n, h)
+first_is_earliest j m n deadline h open_now at first stands =
+    let held : (g : Hold) × (open_hold_at j n ≡ Some g) × (g.deadline ≡ deadline) = of (open_hold_at j n) refl (sym (open_now n) ∙ at) in
+    let same : held.0 ≡ h = some_same held.0 h (sym (open_stands j n held.0 held.1).1 ∙ stands) in
+    earliest_is j n h (record {
+      is_open = held.1 ∙ ap Some same;
+      first = λ k g is. subst (λ d. IsNoLater d n g.deadline k) (sym held.2 ∙ ap (λ (x : Hold). x.deadline) same) (first k g.deadline (open_now k ∙ ap deadline_of is));
+    })
+  where
+    of : (o : Option Hold) → open_hold_at j n ≡ o → deadline_of o ≡ Some deadline → (g : Hold) × (open_hold_at j n ≡ Some g) × (g.deadline ≡ deadline)
+    of None is e = absurd cc
+    of (Some g) is e = (g, is, some_same g.deadline deadline e)
+
+-- what the table has first stands in the journal
+pub first_stands : (j : Entries) (m : FinMap nat_cmp ℤ) (n : ℕ) (deadline : ℤ) → AreOpen j m → fin_map.get m n ≡ Some deadline → hold_at j n ≡ None → ⊥
+first_stands j m n deadline open_now at none = of (open_hold_at j n) refl (sym (open_now n) ∙ at)
+  where
+    of : (o : Option Hold) → open_hold_at j n ≡ o → deadline_of o ≡ Some deadline → ⊥
+    of None is e = cc
+    of (Some g) is e = let stands = (open_stands j n g is).1 in cc

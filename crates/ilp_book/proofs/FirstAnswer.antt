@@ -10,10 +10,11 @@ use Rattle.ilp_journal.specs.declared.entry.Cause.TheVariants as cause
 use Rattle.ilp_journal.specs.Journal.{Entries, answered, answer_of, is_number, is_unanswered, hold_at, open_hold_at}
 use Rattle.ilp_journal.proofs.Naming.{answer_of-push, answer_of-append}
 use Rattle.ilp_book.specs.declared.calls.PeerReply.{PeerReply}
-use Rattle.ilp_book.specs.Book.{PlainBook, By, says, moment_at, entry_by, extended, with_entry, pushed}
+use Rattle.ilp_rules.specs.Book.{PlainBook, By, says, moment_at, entry_by, extended, with_entry, pushed}
 use Rattle.ilp_book.specs.AnswerStep.{ending, answer_booked, answer_step, due, expire_booked, expire_step, judged_reply, IsOverBy}
 use Rattle.ilp_order.proofs.RefusalLemmas.{some_same, is_none_at, is_some_at}
-use Rattle.ilp_book.proofs.AnswerSteps.{open_stands, due_facts}
+use Rattle.ilp_rules.proofs.Standing.{open_stands}
+use Rattle.ilp_book.proofs.AnswerSteps.{due_facts}
 
 names_it : (n : ℕ) (v : Result (List ℕ) Cause) → is_number n (answered (ending n v)) ≡ true
 names_it n (Ok preimage) = eq-eqb n n refl

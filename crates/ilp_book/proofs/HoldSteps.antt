@@ -13,7 +13,6 @@ use Rattle.ilp_accounts.specs.Configuration.{Configuration, peer_at}
 use Rattle.ilp_accounts.specs.Valid.{IsValid}
 use Rattle.ilp_journal.specs.declared.entry.What.TheVariants as what
 use Rattle.ilp_journal.specs.declared.entry.Hold.{Hold}
-use Rattle.ilp_journal.specs.Journal.{open_count}
 use Rattle.ilp_journal.specs.Balance.{balance}
 use Rattle.ilp_journal.specs.TrialBalance.{total_in, total_out, has_asset, amount_in, amount_out}
 use Rattle.ilp_packet.specs.Packet.{PlainPrepare}
@@ -22,14 +21,15 @@ use Rattle.ilp_lookup.proofs.RoutedPeer.{IsRoute-routed_peer}
 use Rattle.ilp_book.specs.declared.calls.Held.{Held}
 use Rattle.ilp_book.specs.declared.fault.HoldFault.{HoldFault}
 use Rattle.ilp_book.specs.declared.fault.HoldFault.TheVariants as hold_fault
-use Rattle.ilp_book.specs.Configured.{IsKnown, peer_assets, asset_of, quote_between}
-use Rattle.ilp_book.specs.Lawful.{IsLawful, IsWithinLimits, IsInTime, HasTerms}
-use Rattle.ilp_book.specs.Book.{PlainBook, By, Growth, granted, denied, moment_at, entry_by, has_room, with_entry, Made, Does}
+use Rattle.ilp_rules.specs.Configured.{IsKnown, peer_assets, asset_of, quote_between}
+use Rattle.ilp_rules.specs.Lawful.{IsLawful, IsWithinLimits, HasTerms}
+use Rattle.ilp_rules.specs.Book.{PlainBook, By, Growth, granted, denied, moment_at, entry_by, has_room, with_entry, Made, Does}
 use Rattle.ilp_book.specs.HoldStep.{Incoming, given_route, incoming, with_quote_fault, latest_answer, has_total, hold_terms, hold_fitted, hold_checked, hold_booked, hold_step}
-use Rattle.ilp_book.proofs.Known.{route_known, asset_is, covered}
-use Rattle.ilp_book.proofs.LawfulGrowth.{Admits, counted, at_most, lawful_push, limits_now}
+use Rattle.ilp_rules.proofs.Known.{route_known, asset_is}
+use Rattle.ilp_rules.proofs.LawfulGrowth.{Admits, at_most, lawful_push, limits_now}
+use Rattle.ilp_rules.proofs.Admitting.{hold_admits}
 use Rattle.ilp_order.proofs.RefusalLemmas.{refused_not, found, bound, ok_same, not_true}
-use Rattle.ilp_book.proofs.InTime.{in_time}
+use Rattle.ilp_rules.proofs.InTime.{in_time}
 
 quoted : {A B : Type 0} (r : Result A QuoteFault) (next : A → Result B HoldFault) (y : B) → (with_quote_fault r >>= next) ≡ Ok y → (x : A) × (r ≡ Ok x) × (next x ≡ Ok y)
 quoted (Err fault) next y e = absurd cc
@@ -116,24 +116,6 @@ within C x p v total now new = by_test (has_asset (peer_assets C) x p) (asset_is
     by_test : (b : Bool) → (b ≡ true → asset_of C p ≡ x) → total + cond b v 0 ≤ most
     by_test true h = new (h refl)
     by_test false h = omega (arith, now)
-
--- a hold of allowed terms is admitted where it is in time, and there is room, totals and balance for it
-pub hold_admits : (book : PlainBook) (m : ℤ) (actor : ℕ) (h : Hold) → IsLawful book → IsInTime book.entries (record { moment = m; actor = actor; what = what.Hold h }) → HasTerms book.config m h
-    → has_room book 2 ≡ true → ((peer_at book.config h.from).least +ℤ pos h.amount) ≤ℤ balance book.entries h.from
-    → ((x : ℕ) → total_in (peer_assets book.config) book.base book.entries x + counted book (amount_in (peer_assets book.config) x h) ≤ most)
-    → ((x : ℕ) → total_out (peer_assets book.config) book.base book.entries x + counted book (amount_out (peer_assets book.config) x h) ≤ most)
-    → Admits book (record { moment = m; actor = actor; what = what.Hold h })
-hold_admits book m actor h lawful timely terms room least totals_in totals_out =
-    let limits : IsWithinLimits book = limits_now book lawful in
-    let fits : length book.entries + open_count book.entries + 2 ≤ book.config.settings.journal = leb-true _ _ room in
-    record {
-      rule = terms;
-      moments = timely;
-      cover = λ p known. covered book.config book.entries h.from h.amount p (limits.least p known) least;
-      room = omega (arith, fits);
-      totals_in = totals_in;
-      totals_out = totals_out;
-    }
 
 -- so it is at the moment of a call, where the totals of both assets have room for it
 pub fitted_admitted : (book : PlainBook) (caller : By) (h : Hold) → IsLawful book → HasTerms book.config (moment_at book.entries caller.now) h

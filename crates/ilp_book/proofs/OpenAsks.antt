@@ -1,6 +1,7 @@
 -- Which settlements to a peer are open: their count, and the first of them.
 use Rattle.std.proofs.Common.{◌≡◌, ℕ, suc, ◌+◌, ◌<◌, Bool, true, false, cond, ◌&&◌, List, [], ◌∷◌, Option, Some, None, refl, ap, ◌∙◌, subst, arith}
 use Rattle.std.specs.Prelude.{nat_lt, ◌==◌, slice_get, unwrap_or, option_map, option_and_then, IsSome}
+use Rattle.std.specs.Option.{option_or}
 use Rattle.std.proofs.lemmas.Bool.{ltb-true}
 use Rattle.ilp_journal.specs.declared.entry.Entry.{Entry}
 use Rattle.ilp_journal.specs.declared.entry.What.{What}
@@ -9,19 +10,10 @@ use Rattle.ilp_order.specs.Places.{sum_from, first_from}
 use Rattle.ilp_journal.specs.Journal.{Entries, ask_at, as_ask, is_unclosed, open_asks, paid_to, is_ask_of, is_behind, next_open_number, next_open_ask}
 use Rattle.ilp_book.specs.declared.fault.AskFault.{AskFault}
 use Rattle.ilp_book.specs.declared.fault.AskFault.TheVariants as ask_fault
-use Rattle.ilp_book.specs.Lawful.{most_open_asks}
-use Rattle.ilp_book.specs.SettleStep.{still_open}
+use Rattle.ilp_rules.specs.Lawful.{most_open_asks}
+use Rattle.ilp_book.specs.SettleStep.{still_open, told_ask, open_settlement}
 use Rattle.ilp_order.proofs.RefusalLemmas.{some_same}
-
--- the first place that passes has an element that does
-pub first_found : {X : Type 0} (test : ℕ → X → Bool) (k n : ℕ) (xs : List X) → first_from test k xs ≡ Some n → (i : ℕ) × (x : X) × (n ≡ k + i) × (slice_get xs i ≡ Some x) × (test n x ≡ true)
-first_found test k n [] e = absurd cc
-first_found {X} test k n (y ∷ ys) e = of_test (test k y) refl (λ e. let r = first_found test (k + 1) n ys e in (suc r.0, r.1, r.2 ∙ omega arith, r.3, r.4)) e
-  where
-    of_test : (b : Bool) → test k y ≡ b → (first_from test (k + 1) ys ≡ Some n → (i : ℕ) × (x : X) × (n ≡ k + i) × (slice_get (y ∷ ys) i ≡ Some x) × (test n x ≡ true))
-        → cond b (Some k) (first_from test (k + 1) ys) ≡ Some n → (i : ℕ) × (x : X) × (n ≡ k + i) × (slice_get (y ∷ ys) i ≡ Some x) × (test n x ≡ true)
-    of_test true t rest e = let same : k ≡ n = some_same k n e in (0, y, omega arith, refl, subst (λ m. test m y ≡ true) same t)
-    of_test false t rest e = rest e
+use Rattle.ilp_rules.proofs.Standing.{first_found}
 
 -- a sum of nothing but terms that pass no test
 sum_from-none : {X : Type 0} (test : ℕ → X → Bool) (f : ℕ → X → ℕ) (n : ℕ) (xs : List X) → ((k : ℕ) (x : X) → test k x ≡ false → f k x ≡ 0) → first_from test n xs ≡ None → sum_from f n xs ≡ 0
@@ -100,3 +92,50 @@ none_told j peer few = ap (λ b. cond b None (told_open (next_open_ask j peer No
 -- else the first that is open is told
 pub first_told : (j : Entries) (peer : ℕ) → nat_lt (open_asks j peer) most_open_asks ≡ false → still_open j peer ≡ told_open (next_open_ask j peer None)
 first_told j peer full = ap (λ b. cond b None (told_open (next_open_ask j peer None))) full
+
+-- ---- the settlement that comes next
+
+-- the number of the settlement that comes next
+abbrev pub next_number : Entries → ℕ → Option ℕ → Option ℕ
+next_number j peer tried = option_or (next_open_number j peer tried) (next_open_number j peer None)
+
+next_is : (j : Entries) (peer : ℕ) (after : Option ℕ) (n : ℕ) (a : Ask) → next_open_number j peer after ≡ Some n → ask_at j n ≡ Some a → next_open_ask j peer after ≡ Some (n, a)
+next_is j peer after n a number stands =
+    ap (option_and_then {U = ℕ × Ask} (λ n. option_map (λ (a : Ask). (n, a)) (ask_at j n))) number ∙ ap (option_map {U = ℕ × Ask} (λ (a : Ask). (n, a))) stands
+
+next_none : (j : Entries) (peer : ℕ) (after : Option ℕ) → next_open_number j peer after ≡ None → next_open_ask j peer after ≡ None
+next_none j peer after none = ap (option_and_then {U = ℕ × Ask} (λ n. option_map (λ (a : Ask). (n, a)) (ask_at j n))) none
+
+-- the one of that number is told
+pub told_next : (j : Entries) (peer : ℕ) (tried : Option ℕ) (n : ℕ) (a : Ask) → next_number j peer tried ≡ Some n → ask_at j n ≡ Some a → open_settlement j peer tried ≡ Some (told_ask (n, a))
+told_next j peer tried n a found stands = of (next_open_number j peer tried) refl found
+  where
+    of : (o : Option ℕ) → next_open_number j peer tried ≡ o → option_or o (next_open_number j peer None) ≡ Some n → open_settlement j peer tried ≡ Some (told_ask (n, a))
+    of (Some m) is e =
+        let same : m ≡ n = some_same m n e in
+        ap (λ (x : Option (ℕ × Ask)). option_map told_ask (option_or x (next_open_ask j peer None))) (next_is j peer tried n a (is ∙ ap Some same) stands)
+    of None is e =
+        ap (λ (x : Option (ℕ × Ask)). option_map told_ask (option_or x (next_open_ask j peer None))) (next_none j peer tried is)
+        ∙ ap (option_map told_ask) (next_is j peer None n a e stands)
+
+-- without such a number none is
+pub told_none : (j : Entries) (peer : ℕ) (tried : Option ℕ) → next_number j peer tried ≡ None → open_settlement j peer tried ≡ None
+told_none j peer tried none = of (next_open_number j peer tried) refl none
+  where
+    of : (o : Option ℕ) → next_open_number j peer tried ≡ o → option_or o (next_open_number j peer None) ≡ None → open_settlement j peer tried ≡ None
+    of (Some m) is e = absurd cc
+    of None is e =
+        ap (λ (x : Option (ℕ × Ask)). option_map told_ask (option_or x (next_open_ask j peer None))) (next_none j peer tried is)
+        ∙ ap (option_map told_ask) (next_none j peer None e)
+
+-- what has that number is a settlement
+pub next_is_there : (j : Entries) (peer : ℕ) (tried : Option ℕ) (n : ℕ) → next_number j peer tried ≡ Some n → ask_at j n ≡ None → ⊥
+next_is_there j peer tried n found none = missing (ask_at j n) (of (next_open_number j peer tried) refl found) none
+  where
+    missing : (o : Option Ask) → IsSome o → o ≡ None → ⊥
+    missing None some e = cc
+    missing (Some a) some e = cc
+
+    of : (o : Option ℕ) → next_open_number j peer tried ≡ o → option_or o (next_open_number j peer None) ≡ Some n → IsSome (ask_at j n)
+    of (Some m) is e = next_stands j peer tried n (is ∙ e)
+    of None is e = next_stands j peer None n e

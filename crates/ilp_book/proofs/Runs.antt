@@ -3,13 +3,12 @@ use Rattle.std.proofs.Common.{◌≡◌, ℕ, List, [], ◌∷◌, refl, subst}
 use Rattle.ilp_accounts.specs.Configuration.{Configuration}
 use Rattle.ilp_accounts.specs.Valid.{IsValid}
 use Rattle.ilp_journal.specs.TrialBalance.{IsBalanced}
-use Rattle.ilp_journal.proofs.TrialBalance.{trial_balance}
-use Rattle.ilp_book.specs.Book.{PlainBook, By, Growth, with_entry, new_book}
-use Rattle.ilp_book.specs.Configured.{peer_assets}
-use Rattle.ilp_book.specs.Lawful.{IsLawful}
+use Rattle.ilp_rules.specs.Book.{PlainBook, By, Growth, with_entry, new_book}
+use Rattle.ilp_rules.specs.Configured.{peer_assets}
+use Rattle.ilp_rules.specs.Lawful.{IsLawful}
 use Rattle.ilp_book.specs.Run.{Call, hold, answer, expire, credit, ask, close, Step, made_by, after_step, book_after, IsAllowed, AreAllowed}
-use Rattle.ilp_book.proofs.LawfulGrowth.{lawful_empty}
-use Rattle.ilp_book.proofs.Rules.{answers_once}
+use Rattle.ilp_rules.proofs.LawfulGrowth.{lawful_empty}
+use Rattle.ilp_rules.proofs.Rules.{lawful_balanced}
 use Rattle.ilp_book.proofs.HoldSteps.{hold_lawful}
 use Rattle.ilp_book.proofs.AnswerSteps.{answer_lawful, expire_lawful}
 use Rattle.ilp_book.proofs.SettleSteps.{credit_lawful, ask_lawful, close_lawful}
@@ -29,10 +28,6 @@ pub steps_lawful : (book : PlainBook) (steps : List Step) → IsValid book.confi
 steps_lawful book [] valid lawful allowed = lawful
 steps_lawful book (s ∷ ss) valid lawful allowed =
     steps_lawful (after_step book s) ss valid (call_lawful book s.caller s.growth s.call valid lawful allowed.0) allowed.1
-
--- a lawful book is balanced
-pub lawful_balanced : (book : PlainBook) (x : ℕ) → IsLawful book → IsBalanced (peer_assets book.config) book.entries x
-lawful_balanced book x lawful = trial_balance (peer_assets book.config) x book.entries (answers_once book lawful)
 
 -- from the book of no entries on
 pub runs_lawful : (C : Configuration) (steps : List Step) → IsValid C → AreAllowed C steps → IsLawful (book_after (new_book C) steps)

@@ -24,18 +24,21 @@ use Rattle.ilp_book.specs.declared.fault.CreditFault.{CreditFault}
 use Rattle.ilp_book.specs.declared.fault.CreditFault.TheVariants as credit_fault
 use Rattle.ilp_book.specs.declared.fault.AskFault.{AskFault}
 use Rattle.ilp_book.specs.declared.fault.AskFault.TheVariants as ask_fault
-use Rattle.ilp_book.specs.Configured.{IsKnown}
-use Rattle.ilp_book.specs.Book.{PlainBook, By, Does, Growth, granted, denied, entry_by, has_room, moment_at, pushed, with_entry}
-use Rattle.ilp_book.specs.Open.{as_credit, credit_at, has_key, kept_at}
-use Rattle.ilp_book.specs.Lawful.{IsLawful, IsWithinLimits, IsInTime, IsFreshCredit, IsDueAsk, owed_above}
+use Rattle.ilp_rules.specs.Configured.{IsKnown}
+use Rattle.ilp_rules.specs.Book.{PlainBook, By, Does, Growth, granted, denied, entry_by, has_room, moment_at, pushed, with_entry}
+use Rattle.ilp_rules.specs.Open.{as_credit, credit_at, has_key, kept_at}
+use Rattle.ilp_rules.specs.Lawful.{IsLawful, IsWithinLimits, IsInTime, IsFreshCredit, IsDueAsk, owed_above}
 use Rattle.ilp_settlement.specs.declared.verdict.EngineVerdict.{EngineVerdict}
 use Rattle.ilp_settlement.specs.declared.verdict.EngineVerdict.TheVariants as engine
-use Rattle.ilp_book.specs.SettleStep.{Payment, closing_of_verdict, amount_of, credit_of, kept, credit_fresh, credit_checked, credit_booked, credit_step, still_open, due_amount, ask_fitted, ask_checked, ask_booked, ask_step, close_booked, close_step}
-use Rattle.ilp_book.proofs.Known.{peer_valid, covered}
-use Rattle.ilp_book.proofs.LawfulGrowth.{Admits, at_most, lawful_push, limits_now}
+use Rattle.ilp_book.specs.SettleStep.{Payment, closing_of_verdict, amount_of, credit_of, kept, credit_fresh, credit_checked, credit_booked, credit_step, still_open, ask_fitted, ask_checked, ask_booked, ask_step, close_booked, close_step}
+use Rattle.ilp_rules.specs.Lawful.{due_amount}
+use Rattle.ilp_rules.proofs.Known.{peer_valid}
+use Rattle.ilp_rules.proofs.LawfulGrowth.{Admits, lawful_push, limits_now}
+use Rattle.ilp_rules.proofs.Standing.{first_found}
+use Rattle.ilp_rules.proofs.Admitting.{credit_admits, due_from, ask_admits}
 use Rattle.ilp_order.proofs.RefusalLemmas.{refused_not, none_refused, found, ok_same, some_same, not_true, chosen, is_some_at}
-use Rattle.ilp_book.proofs.InTime.{in_time, calm}
-use Rattle.ilp_book.proofs.OpenAsks.{first_found, few_open}
+use Rattle.ilp_rules.proofs.InTime.{in_time, calm}
+use Rattle.ilp_book.proofs.OpenAsks.{few_open}
 
 -- ---- closings
 
@@ -99,13 +102,6 @@ none_kept j peer key e = of_test (kept_at j peer key) refl e
 pub fresh_credit : (C : Configuration) (j : Entries) (p : Payment) → IsKnown C p.peer → IsKey p.key → kept j p.peer p.key ≡ None → IsFreshCredit C j (credit_of C p)
 fresh_credit C j p known key none = record { known = known; named = key; rounded = refl; fresh = none_kept j p.peer p.key none }
 
--- a fresh credit is admitted where it is in time and there is room
-pub credit_admits : (book : PlainBook) (m : ℤ) (actor : ℕ) (c : Credited) → IsLawful book → IsInTime book.entries (record { moment = m; actor = actor; what = what.Credited c })
-    → IsFreshCredit book.config book.entries c → has_room book 1 ≡ true → Admits book (record { moment = m; actor = actor; what = what.Credited c })
-credit_admits book m actor c lawful timely fresh fits =
-    let room : length book.entries + open_count book.entries + 1 ≤ book.config.settings.journal = leb-true _ _ fits in
-    calm book _ lawful fresh timely (λ _. refl) (λ _. refl) (omega (arith, room))
-
 -- so it is at the moment of a call
 pub credit_admitted : (book : PlainBook) (caller : By) (c : Credited) → IsLawful book → IsFreshCredit book.config book.entries c → has_room book 1 ≡ true
     → Admits book (entry_by book caller (what.Credited c))
@@ -139,30 +135,6 @@ credit_lawful book caller p growth lawful known key =
 
 -- ---- asks
 
--- what is due is asked for from the threshold on
-pub due_from : (o : Option Levels) (peer : PlainPeer) (b : ℤ) (amount : ℕ) → IfSome o (AreOrdered peer) → due_amount b o ≡ Some amount
-    → IsSomeAnd o (λ (v : Levels). (v.threshold ≤ℤ b) × (pos amount ≡ owed_above b v))
-due_from None peer b amount v e = absurd cc
-due_from (Some v) peer b amount h e =
-    let t : (int_le v.threshold b ≡ true) × (◌≡◌ {A = Option ℕ} (Some (nat_abs (owed_above b v))) (Some amount))
-    = chosen (int_le v.threshold b) (Some (nat_abs (owed_above b v))) amount e in
-    let reached : v.threshold ≤ℤ b = late v.threshold b t.0 in
-    let whole : pos (nat_abs (owed_above b v)) ≡ owed_above b v = natural (owed_above b v) (above b v.threshold v.settle_to v.settle_max reached h.settle_to) in
-    (reached, ap pos (sym (some_same _ amount t.1)) ∙ whole)
-  where
-    late : (a b : ℤ) → int_le a b ≡ true → a ≤ℤ b
-    late a b e = omega (arith, ints)
-
-    natural : (z : ℤ) → pos 0 ≤ℤ z → pos (nat_abs z) ≡ z
-    natural (pos n) h = refl
-    natural (negsuc n) h = absurd (never (negsuc n) n refl h)
-      where
-        never : (z : ℤ) (n : ℕ) → z ≡ negsuc n → pos 0 ≤ℤ z → ⊥
-        never z n e h = omega (arith, ints)
-
-    above : (b t s : ℤ) (n : ℕ) → t ≤ℤ b → s <ℤ t → pos 0 ≤ℤ int_min (b -ℤ s) (pos n)
-    above b t s n h k = omega (arith, ints, clamps)
-
 -- an ask of what is due, where none is told to be open, is one that the rules know
 pub due_ask : (C : Configuration) (j : Entries) (peer amount : ℕ) → IsValid C → IsKnown C peer → still_open j peer ≡ None → due_amount (balance j peer) (peer_at C peer).levels ≡ Some amount
     → IsDueAsk C j (record { peer = peer; amount = amount })
@@ -182,32 +154,6 @@ ask_due book new caller peer amount growth result none due does =
     let Asks : Option AskFault → Option ℕ → Type 0 = λ o d. Does book new result (ask_booked book caller growth
     (refuse_some o >>= λ _. found_or d (ask_fault.NotDue owed) >>= λ n. ask_fitted book (record { peer = peer; amount = n }))) in
     subst (λ o. Asks o (due_amount owed (peer_at book.config peer).levels)) (sym none) (subst (Asks None) (sym due) does)
-
--- a due ask leaves the balance at its least or above
-due_covered : (o : Option Levels) (peer : PlainPeer) (b : ℤ) (amount : ℕ) → IfSome o (AreOrdered peer) → IsSomeAnd o (λ (v : Levels). (v.threshold ≤ℤ b) × (pos amount ≡ owed_above b v))
-    → (peer.least +ℤ pos amount) ≤ℤ b
-due_covered None peer b amount h due = absurd due
-due_covered (Some v) peer b amount h due = bounded b peer.least v.settle_to amount v.settle_max due.1 h.least
-  where
-    bounded : (b l s : ℤ) (n limit : ℕ) → pos n ≡ int_min (b -ℤ s) (pos limit) → l ≤ℤ s → (l +ℤ pos n) ≤ℤ b
-    bounded b l s n limit e h = omega (arith, ints, clamps)
-
--- a due ask is admitted where it is in time and there is room
-pub ask_admits : (book : PlainBook) (m : ℤ) (actor : ℕ) (a : Ask) → IsValid book.config → IsLawful book → IsInTime book.entries (record { moment = m; actor = actor; what = what.Asked a })
-    → IsDueAsk book.config book.entries a → has_room book 2 ≡ true → Admits book (record { moment = m; actor = actor; what = what.Asked a })
-ask_admits book m actor a valid lawful timely due fits =
-    let limits : IsWithinLimits book = limits_now book lawful in
-    let room : length book.entries + open_count book.entries + 2 ≤ book.config.settings.journal = leb-true _ _ fits in
-    let p = peer_at book.config a.peer in
-    record {
-      rule = due;
-      moments = timely;
-      cover = λ q q_known. covered book.config book.entries a.peer a.amount q (limits.least q q_known)
-          (due_covered p.levels p (balance book.entries a.peer) a.amount (peer_valid book.config a.peer valid due.known).levels due.due);
-      room = omega (arith, room);
-      totals_in = λ x. omega (arith, at_most (nat_le book.base (length book.entries)) 0, limits.totals_in x);
-      totals_out = λ x. omega (arith, at_most (nat_le book.base (length book.entries)) 0, limits.totals_out x);
-    }
 
 -- so it is at the moment of a call
 pub ask_admitted : (book : PlainBook) (caller : By) (a : Ask) → IsValid book.config → IsLawful book → IsDueAsk book.config book.entries a → has_room book 2 ≡ true

@@ -13,8 +13,8 @@ use Rattle.ilp_book.specs.declared.calls.Outcome.{Outcome}
 use Rattle.ilp_book.specs.declared.calls.Outcome.TheVariants as outcome
 use Rattle.ilp_book.specs.declared.fault.NotOpen.{NotOpen}
 use Rattle.ilp_terms.specs.Condition.{meets}
-use Rattle.ilp_book.specs.Book.{PlainBook, By, Made, says, books, moment_at, extended}
-use Rattle.ilp_book.specs.Open.{earliest}
+use Rattle.ilp_rules.specs.Book.{PlainBook, By, Made, says, books, moment_at, extended}
+use Rattle.ilp_rules.specs.Open.{earliest}
 
 -- the preimage that a reply has, or why there is none
 abbrev pub preimage_of : PeerReply → Result (List ℕ) Cause

@@ -14,8 +14,8 @@ use Rattle.ilp_journal.specs.TrialBalance.{total_in, total_out}
 use Rattle.ilp_book.specs.declared.calls.Held.{Held}
 use Rattle.ilp_book.specs.declared.fault.HoldFault.{HoldFault}
 use Rattle.ilp_book.specs.declared.fault.HoldFault.TheVariants as hold_fault
-use Rattle.ilp_book.specs.Configured.{peer_assets, asset_of, quote_between}
-use Rattle.ilp_book.specs.Book.{PlainBook, By, Growth, granted, denied, Made, says, books, moment_at, has_room}
+use Rattle.ilp_rules.specs.Configured.{peer_assets, asset_of, quote_between}
+use Rattle.ilp_rules.specs.Book.{PlainBook, By, Growth, granted, denied, Made, says, books, moment_at, has_room}
 
 -- a Prepare of the peer `from`, and the peer to which its destination is routed, if there is one
 pub record Incoming : Type 0 where

@@ -17,8 +17,8 @@ use Rattle.ilp_book.specs.declared.calls.Outcome.TheVariants as outcome
 use Rattle.ilp_book.specs.declared.fault.CreditFault.TheVariants as credit_fault
 use Rattle.ilp_book.specs.declared.fault.AskFault.TheVariants as ask_fault
 use Rattle.ilp_terms.specs.Condition.{meets}
-use Rattle.ilp_book.specs.Book.{by, granted, new_book}
-use Rattle.ilp_book.specs.Carried.{begun_with, carried}
+use Rattle.ilp_rules.specs.Book.{by, granted, new_book}
+use Rattle.ilp_rules.specs.Carried.{begun_with, carried}
 use Rattle.ilp_settlement.specs.declared.quantity.Quantity.{Quantity}
 use Rattle.ilp_settlement.specs.declared.verdict.EngineVerdict.TheVariants.{Accepted, Refused}
 use Rattle.ilp_book.specs.Run.{Call, hold, answer, expire, credit, ask, close, CallReply, of_hold, of_answer, of_expire, of_credit, of_ask, of_close, Step, replies_to, book_after}

@@ -13,8 +13,8 @@ use Rattle.ilp_book.specs.declared.calls.Kept.{Kept}
 use Rattle.ilp_book.specs.declared.fault.CreditFault.{CreditFault}
 use Rattle.ilp_book.specs.declared.calls.Asked.{Asked}
 use Rattle.ilp_book.specs.declared.fault.AskFault.{AskFault}
-use Rattle.ilp_book.specs.Configured.{IsKnown}
-use Rattle.ilp_book.specs.Book.{PlainBook, By, Growth, Made, replied_as, with_entry}
+use Rattle.ilp_rules.specs.Configured.{IsKnown}
+use Rattle.ilp_rules.specs.Book.{PlainBook, By, Growth, Made, replied_as, with_entry}
 use Rattle.ilp_book.specs.HoldStep.{Incoming, hold_step}
 use Rattle.ilp_book.specs.AnswerStep.{answer_step, expire_step}
 use Rattle.ilp_book.specs.SettleStep.{Payment, credit_step, ask_step, close_step}

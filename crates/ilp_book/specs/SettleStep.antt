@@ -1,5 +1,5 @@
 -- Settlements from peers, which are credited, and to peers, which are asked for and closed. Refusals stand in their order.
-use Rattle.std.specs.Prelude.{◌≡◌, ℕ, ◌≤◌, ℤ, int_le, nat_abs, true, false, not, ◌&&◌, ◌==◌, List, length, nat_lt, Option, Some, None, Result, Ok, Err, option_and_then, option_map, if◌then◌else◌}
+use Rattle.std.specs.Prelude.{◌≡◌, ℕ, ◌≤◌, ℤ, true, false, not, ◌&&◌, ◌==◌, List, length, nat_lt, Option, Some, None, Result, Ok, Err, option_and_then, option_map, if◌then◌else◌}
 use Rattle.std.specs.Option.{option_or}
 use Rattle.ilp_order.specs.Refusals.{◌>>=◌, refuse_if, refuse_some, found_or}
 use Rattle.ilp_assets.specs.Quote.{most}
@@ -7,7 +7,6 @@ use Rattle.ilp_settlement.specs.declared.quantity.Quantity.{Quantity}
 use Rattle.ilp_settlement.specs.declared.verdict.EngineVerdict.{EngineVerdict}
 use Rattle.ilp_settlement.specs.declared.verdict.EngineVerdict.TheVariants as engine
 use Rattle.ilp_settlement.specs.Quantity.{credited_at}
-use Rattle.ilp_accounts.specs.declared.peer.Levels.{Levels}
 use Rattle.ilp_accounts.specs.Configuration.{Configuration, peer_at}
 use Rattle.ilp_journal.specs.declared.entry.What.{What}
 use Rattle.ilp_journal.specs.declared.entry.What.TheVariants as what
@@ -22,10 +21,10 @@ use Rattle.ilp_book.specs.declared.calls.Asked.{Asked}
 use Rattle.ilp_book.specs.declared.fault.AskFault.{AskFault}
 use Rattle.ilp_book.specs.declared.fault.AskFault.TheVariants as ask_fault
 use Rattle.ilp_book.specs.declared.fault.NotOpen.{NotOpen}
-use Rattle.ilp_book.specs.Configured.{scale_at}
-use Rattle.ilp_book.specs.Book.{PlainBook, By, Growth, granted, denied, Made, says, books, extended, has_room}
-use Rattle.ilp_book.specs.Open.{credit_at, kept_at}
-use Rattle.ilp_book.specs.Lawful.{most_open_asks, owed_above}
+use Rattle.ilp_rules.specs.Configured.{scale_at}
+use Rattle.ilp_rules.specs.Book.{PlainBook, By, Growth, granted, denied, Made, says, books, extended, has_room}
+use Rattle.ilp_rules.specs.Open.{credit_at, kept_at}
+use Rattle.ilp_rules.specs.Lawful.{most_open_asks, due_amount}
 
 -- ---- credits
 
@@ -96,11 +95,6 @@ abbrev pub still_open : Entries → ℕ → Option AskFault
 still_open j peer =
     if nat_lt (open_asks j peer) most_open_asks then None
     else option_map (λ (x : ℕ × Ask). ask_fault.StillOpen x.0 x.1.amount) (next_open_ask j peer None)
-
--- what is asked for, where the balance is at the threshold or above it
-abbrev pub due_amount : ℤ → Option Levels → Option ℕ
-due_amount balance None = None
-due_amount balance (Some l) = if int_le l.threshold balance then Some (nat_abs (owed_above balance l)) else None
 
 -- a settlement that is due, if the book has room for it
 abbrev pub ask_fitted : PlainBook → Ask → Result Ask AskFault

@@ -2,7 +2,7 @@
 mod carrying_over;
 mod settling;
 
-ghost use Rattle.std.specs.Prelude.{◌≡◌, ℕ, ◌^◌, ◌<◌, ◌≤◌, pos, ◌≤ℤ◌, ◌+ℤ◌, ◌-ℤ◌, int_lt, length, Option, IfOk, OnOk, OnErr, slice_get};
+ghost use Rattle.std.specs.Prelude.{◌≡◌, ℕ, ◌^◌, ◌<◌, ◌≤◌, pos, ◌≤ℤ◌, length, Option, IfOk, OnOk, OnErr, slice_get};
 ghost use Rattle.std.specs.Option.{option_copied};
 ghost use Rattle.ilp_terms.specs.Expiry.{last_of_all};
 ghost use Rattle.ilp_lookup.specs.Route.{IsRoute};
@@ -11,25 +11,23 @@ ghost use Rattle.ilp_accounts.specs.Configuration.{peer_at};
 ghost use Rattle.ilp_accounts.specs.Valid.{IsValid};
 ghost use Rattle.ilp_journal.specs.Journal.{opening, closing, last_moment, open_holds, open_hold_at, fulfilled_since, IsBase};
 ghost use Rattle.ilp_journal.specs.Balance.{balance};
-ghost use Rattle.ilp_journal.specs.Booked.{most_sum};
 ghost use Rattle.ilp_journal.specs.TrialBalance.{held, fees, bought, sold, settled, total_in, total_out, IsBalanced};
-ghost use Rattle.ilp_book.specs.Book.{by, moment_at, new_book, pushed, has_room, Does};
-ghost use Rattle.ilp_book.specs.Configured.{IsKnown, peer_assets};
-ghost use Rattle.ilp_book.specs.Open.{earliest};
-ghost use Rattle.ilp_book.specs.Lawful.{IsLawful, HasTerms};
+ghost use Rattle.ilp_rules.specs.Book.{by, moment_at, new_book, pushed, has_room, Does};
+ghost use Rattle.ilp_rules.specs.Configured.{IsKnown, peer_assets};
+ghost use Rattle.ilp_rules.specs.Open.{earliest};
+ghost use Rattle.ilp_rules.specs.Lawful.{IsLawful, HasTerms};
 ghost use Rattle.ilp_book.specs.Sums.{IsWithin, AreWithin};
 ghost use Rattle.ilp_book.specs.HoldStep.{incoming, given_route, has_total, hold_fitted, hold_booked, hold_step, growth_of};
 ghost use Rattle.ilp_book.specs.AnswerStep.{answer_step, expire_step};
 
-use crate::answers::{judge_reply, open_hold_at};
+use crate::answers::judge_reply;
 use crate::calls::{Held, Outcome, PeerReply, Sums};
 use crate::fault::{HoldFault, NotOpen};
-use crate::moments::moment_at;
-use crate::tables::Tables;
 use crate::terms::hold_terms;
 use ilp_accounts::Config;
 use ilp_journal::{Cause, Entry, Hold, Journal, What};
 use ilp_packet::Prepare;
+use ilp_rules::{Tables, is_short, moment_at, open_hold_at};
 use std::alloc::{AllocError, Allocator, Global};
 use std::marker::Model;
 
@@ -46,8 +44,8 @@ pub struct Book<A: Allocator = Global> {
 
 impl<A: Allocator> Model for Book<A> {
     ghost use Rattle.ilp_journal.specs.Journal.{IsBase};
-    ghost use Rattle.ilp_book.specs.Book.{PlainBook};
-    ghost use Rattle.ilp_book.specs.Parts.{AreParts, book_of};
+    ghost use Rattle.ilp_rules.specs.Book.{PlainBook};
+    ghost use Rattle.ilp_rules.specs.Parts.{AreParts, book_of};
 
     ghost Value = { PlainBook };
 
@@ -401,13 +399,4 @@ impl<A: Allocator> Book<A> {
         self.journal.push_reserved(ending);
         number
     }
-}
-
-/// Whether a balance less an amount lies below the least.
-pub(crate) fn is_short(balance: i128, amount: u64, least: i64) -> bool
-    requires low { pos 0 ≤ℤ (balance +ℤ pos (most_sum)) }
-    requires high { balance ≤ℤ pos (most_sum) }
-    ensures { result ≡ int_lt (balance -ℤ pos amount) least }
-{
-    balance - i128::from(amount) < i128::from(least)
 }

@@ -2,9 +2,9 @@
 ghost use Rattle.std.specs.Prelude.{◌≡◌, option_map};
 ghost use Rattle.std.specs.Option.{option_copied};
 ghost use Rattle.ilp_journal.specs.Keys.{IsKey};
-ghost use Rattle.ilp_book.specs.Open as opens;
+ghost use Rattle.ilp_rules.specs.Open as opens;
 ghost use Rattle.ilp_book.specs.SettleStep as settles;
-ghost use Rattle.ilp_book.specs.Tables.{AreKept};
+ghost use Rattle.ilp_rules.specs.Tables.{AreKept};
 
 use crate::calls::Kept;
 use crate::fault::CreditFault;

@@ -1,8 +1,8 @@
-//! What holds of every run of calls, and of every hold. These functions do nothing: their contracts
-//! are the laws. A law tells whoever reads the definitions what follows from them; no code needs to
-//! call it.
+//! What holds of every run of calls, and of every hold; `ilp_rules::laws` says what holds of every
+//! lawful journal. These functions do nothing: their contracts are the laws. A law tells whoever reads
+//! the definitions what follows from them; no code needs to call it.
 
-ghost use Rattle.std.specs.Prelude.{◌≡◌, ℕ, ℤ, ◌≤◌, ◌≤ℤ◌, ◌<ℤ◌, List, length, replicate, true, Some, None, IsNone};
+ghost use Rattle.std.specs.Prelude.{◌≡◌, ℕ, ◌≤ℤ◌, ◌<ℤ◌, List, length, replicate, true, Some, None, IsNone};
 ghost use Rattle.ilp_terms.specs.Condition.{meets};
 ghost use Rattle.ilp_accounts.specs.Configuration.{Configuration};
 ghost use Rattle.ilp_accounts.specs.Valid.{IsValid};
@@ -10,22 +10,22 @@ ghost use Rattle.ilp_journal.specs.declared.entry.Hold.{Hold};
 ghost use Rattle.ilp_journal.specs.declared.entry.Ask.{Ask};
 ghost use Rattle.ilp_journal.specs.declared.entry.What.TheVariants as What;
 ghost use Rattle.ilp_journal.specs.declared.entry.Credited.{Credited};
-ghost use Rattle.ilp_journal.specs.Journal.{Entries, IsBase, open_hold_at, open_ask_at};
+ghost use Rattle.ilp_journal.specs.Journal.{open_hold_at, open_ask_at};
 ghost use Rattle.ilp_journal.specs.TrialBalance.{IsBalanced};
 ghost use Rattle.ilp_settlement.specs.declared.verdict.EngineVerdict.{EngineVerdict};
 ghost use Rattle.ilp_book.specs.declared.calls.PeerReply.{PeerReply};
-ghost use Rattle.ilp_book.specs.Book.{PlainBook, By, new_book, with_base, with_entry, pushed, entry_by, moment_at};
-ghost use Rattle.ilp_book.specs.declared.fault.CarryFault.{CarryFault};
-ghost use Rattle.ilp_book.specs.declared.fault.CarryFault.TheVariants as CarryFault;
-ghost use Rattle.ilp_book.specs.Configured.{peer_assets};
-ghost use Rattle.ilp_book.specs.Carried.{begun_with, carried};
-ghost use Rattle.ilp_book.specs.Carry.{IsCarriedOver, IsWhyNotCarried};
-ghost use Rattle.ilp_book.specs.Open.{credit_at, kept_at, IsEarliest};
-ghost use Rattle.ilp_book.specs.Lawful.{IsLawful};
+ghost use Rattle.ilp_rules.specs.Book.{PlainBook, By, new_book, with_entry, pushed, entry_by, moment_at};
+ghost use Rattle.ilp_rules.specs.Configured.{peer_assets};
+ghost use Rattle.ilp_rules.specs.Open.{kept_at, IsEarliest};
+ghost use Rattle.ilp_rules.specs.Lawful.{IsLawful};
 ghost use Rattle.ilp_book.specs.AnswerStep.{answer_step, expire_step, IsOverBy};
 ghost use Rattle.ilp_book.specs.SettleStep.{kept, close_step, IsClosedBy, IsKeptBy};
 ghost use Rattle.ilp_book.specs.Run.{Step, AreAllowed, book_after};
 ghost use Rattle.ilp_book.specs.Rows.{PaidRow, LateRow, ReleasedRow, ExpiredRow, LeastRow, TermsRow, TotalRow, FullRow, OlderRow, CreditedRow, SettledRow, PartsRow, CarriedRow};
+
+pub use ilp_rules::laws::{
+    bases_can_rise, carried_books, lawful_books, texts_are_carried_in_one_way,
+};
 
 /// Whatever calls come, of whatever actors, at whatever times and however short memory is, the
 /// journal is lawful, and the books of each asset sum to what was settled in it.
@@ -39,23 +39,6 @@ pub fn runs_are_lawful()
     ensures onward { (book : PlainBook) (steps : List Step)
         → IsValid book.config → IsLawful book → AreAllowed book.config steps
         → IsLawful (book_after book steps) }
-{}
-
-/// A lawful book stays lawful where its base is raised. `ilp_journal::laws::bases_stay` says which
-/// places are bases.
-pub fn bases_can_rise()
-    ensures { (book : PlainBook) (raised : ℕ)
-        → book.base ≤ raised → IsLawful book → IsLawful (with_base book raised) }
-{}
-
-/// In a lawful book no two credits are of one peer and under one key, and the books of each asset
-/// balance.
-pub fn lawful_books()
-    ensures credited_once { (book : PlainBook) (k m : ℕ) (c d : Credited) → IsLawful book
-        → credit_at book.entries k ≡ Some c → credit_at book.entries m ≡ Some d
-        → c.peer ≡ d.peer → c.key ≡ d.key → k ≡ m }
-    ensures balanced { (book : PlainBook) (asset : ℕ) → IsLawful book
-        → IsBalanced (peer_assets book.config) book.entries asset }
 {}
 
 /// A sweep takes, of the open holds, the one of least deadline, and of several the one of least
@@ -97,29 +80,6 @@ pub fn settlements_stand()
         ≡ Some (length book.entries, c) }
     ensures kept { (book : PlainBook) (peer : ℕ) (key : List ℕ) (credit : ℕ × Credited)
         → kept book.entries peer key ≡ Some credit → IsKeptBy book peer key credit }
-{}
-
-/// A book that is carried over is lawful, no hold is open in it, and all of its entries lie below its
-/// base.
-pub fn carried_books()
-    ensures lawful { (C : Configuration) (entries : Entries) (now : ℤ)
-        → IsValid C → IsLawful (begun_with C entries) → IsLawful (carried C entries now) }
-    ensures closed { (C : Configuration) (entries : Entries) (now : ℤ) (n : ℕ)
-        → IsLawful (begun_with C entries) → open_hold_at (carried C entries now).entries n ≡ None }
-    ensures opened { (C : Configuration) (entries : Entries) (now : ℤ)
-        → IsLawful (begun_with C entries)
-        → IsBase (carried C entries now).entries (carried C entries now).base }
-{}
-
-/// By a valid configuration a text that is carried over is refused for nothing but want of memory, and
-/// it is carried over as one book.
-pub fn texts_are_carried_in_one_way()
-    ensures refused { (C : Configuration) (text : List ℕ) (now : ℤ) (book : PlainBook)
-        (fault : CarryFault) → IsValid C → IsCarriedOver C text now book
-        → IsWhyNotCarried C text fault → fault ≡ CarryFault.Memory }
-    ensures one { (C : Configuration) (text : List ℕ) (now : ℤ) (book other : PlainBook)
-        → IsValid C → IsCarriedOver C text now book → IsCarriedOver C text now other
-        → book ≡ other }
 {}
 
 /// Worked runs of calls, and what they are answered. Where a preimage is looked at, they hold for

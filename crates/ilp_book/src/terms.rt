@@ -1,36 +1,16 @@
 //! The hold that a Prepare asks for.
-ghost use Rattle.std.specs.Prelude.{◌≡◌, pos, ◌≤ℤ◌, IfOk, IfSome};
+ghost use Rattle.std.specs.Prelude.{◌≡◌, pos, ◌≤ℤ◌, ◌-ℤ◌, IfSome};
+ghost use Rattle.std.specs.Int.{int_min};
 ghost use Rattle.ilp_packet.specs.Packet.{plain_prepare};
-ghost use Rattle.ilp_book.specs.Configured.{IsKnown, quote_between};
+ghost use Rattle.ilp_rules.specs.Configured.{IsKnown};
 ghost use Rattle.ilp_terms.specs.Expiry.{last_of_all};
 ghost use Rattle.ilp_book.specs.HoldStep.{given_route, hold_terms};
 
 use crate::fault::HoldFault;
-use crate::moments::{after, before, sooner};
 use ilp_accounts::Config;
-use ilp_assets::{Quote, QuoteFault};
 use ilp_journal::Hold;
 use ilp_packet::Prepare;
-
-/// What an amount becomes on its way from one peer to another.
-pub(crate) fn quote_between(
-    config: &Config,
-    from: u32,
-    to: u32,
-    amount: u64,
-) -> Result<Quote, QuoteFault>
-    requires from { IsKnown config.now from }
-    requires to { IsKnown config.now to }
-    ensures { result ≡ quote_between config.now from to amount }
-{
-    let assets = config.assets();
-    assets.quote(
-        config.asset(from),
-        config.asset(to),
-        config.fee_ppm(from),
-        amount,
-    )
-}
+use ilp_rules::{after, quote_between};
 
 /// The hold that a Prepare asks for, or the first refusal of its terms.
 #[tactic(auto, unfolding(crate::specs::HoldStep::hold_terms))]
@@ -75,4 +55,19 @@ pub(crate) fn hold_terms(
         deadline: sooner(latest, after(moment, config.max_hold_ms())),
         condition: *prepare.condition,
     })
+}
+
+// The moment that lies some milliseconds before another.
+fn before(moment: i64, span: u32) -> i64
+    requires { pos 0 ≤ℤ moment }
+    ensures { result ≡ moment -ℤ pos span }
+{
+    moment - i64::from(span)
+}
+
+// The sooner of two moments.
+fn sooner(one: i64, other: i64) -> i64
+    ensures { result ≡ int_min one other }
+{
+    one.min(other)
 }

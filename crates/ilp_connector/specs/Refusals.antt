@@ -17,8 +17,8 @@ use Rattle.ilp_book.specs.declared.fault.CreditFault.{CreditFault}
 use Rattle.ilp_book.specs.declared.fault.CreditFault.TheVariants as credit_fault
 use Rattle.ilp_book.specs.declared.fault.AskFault.{AskFault}
 use Rattle.ilp_book.specs.declared.fault.AskFault.TheVariants as ask_fault
-use Rattle.ilp_book.specs.declared.fault.CarryFault.{CarryFault}
-use Rattle.ilp_book.specs.declared.fault.CarryFault.TheVariants as carry_fault
+use Rattle.ilp_rules.specs.declared.fault.CarryFault.{CarryFault}
+use Rattle.ilp_rules.specs.declared.fault.CarryFault.TheVariants as carry_fault
 use Rattle.ilp_connector.specs.declared.refusal.Refusal.{Refusal}
 use Rattle.ilp_connector.specs.declared.refusal.Refusal.TheVariants as refusals
 use Rattle.ilp_connector.specs.declared.refusal.Refusal.TheVariants.{Truncated, BadPrefix, TooLong, UnknownType, Trailing, BadExpiry, BadAddress, FieldTooLong, BadHex, NotPrepare, DoubleAsset, NoSuchAsset, ScaleGap, ZeroPrice, NoPrice, RoundsToNothing, OutTooLarge, DoublePrice, ConfigUnread, NotToml, Missing, BadValue, DoublePeer, DoubleToken, DoubleRoute, BadLevels, NotJson, BadAmount, BadScale, TooLarge, AmountTooLarge, NoRoute, BackToSender, Expired, TooShort, Full, TotalFull, BelowLeast, Memory, KeyTaken, NotDue, StillOpen, MissingEnd, DoubleEnd, Disagrees, ReadFault, WriteFault, ScriptTooLong, ListenFault, SpawnFault, BadJournalText, Unlawful, JournalUnread}

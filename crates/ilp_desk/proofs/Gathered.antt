@@ -16,7 +16,7 @@ use Rattle.ilp_journal.specs.TrialBalance.{amount_in, amount_out, of_named, has_
 use Rattle.ilp_journal.proofs.Naming.{hold_at-append}
 use Rattle.ilp_book.specs.Book.{PlainBook}
 use Rattle.ilp_book.specs.Configured.{peer_assets}
-use Rattle.ilp_book.proofs.Rules.{answers_once}
+use Rattle.ilp_rules.proofs.Rules.{answers_once}
 use Rattle.ilp_desk.specs.declared.record.Record.{Record}
 use Rattle.ilp_desk.specs.declared.record.Recorded.{Recorded}
 use Rattle.ilp_desk.specs.declared.record.AnsweredHold.{AnsweredHold}

@@ -225,12 +225,7 @@ impl<J: Naming> Desk<J> {
     /// The open settlement to a peer that comes next: the one of least number behind that which was
     /// tried last, else the first of all. The book is looked at once. Nothing is booked, and no share
     /// is raised.
-    pub fn open_settlement(
-        &self,
-        rt: &impl Wait,
-        peer: u32,
-        tried: Option<u32>,
-    ) -> Option<Asked>
+    pub fn open_settlement(&self, rt: &impl Wait, peer: u32, tried: Option<u32>) -> Option<Asked>
         ensures { IsLookAt J.desk peer tried result }
     {
         self.lock(rt).open_settlement(peer, tried)

@@ -35,7 +35,7 @@ are_ink : (fields : List (List ℕ)) → AllByRecursion (All IsInk) fields → A
 are_ink fields inks = All-from_recursion (All IsInk) fields inks
 
 -- a word that is written out
-word_ink : (word : List ℕ) → list_all (nat_le 33) word ≡ true → All IsInk word
+pub word_ink : (word : List ℕ) → list_all (nat_le 33) word ≡ true → All IsInk word
 word_ink word ink = All-weaker (λ octet. nat_le 33 octet ≡ true) IsInk (λ octet is. grind (arith, nat_tests, is)) word (AllPass-from_list_all (nat_le 33) word ink)
 
 -- digits

@@ -9,4 +9,5 @@ mod Same
 mod Awaited
 mod Inverse
 pub mod OneText
+pub mod FirstBad
 pub mod Read

@@ -1,4 +1,4 @@
--- A text stands for one journal, or has one first bad line.
+-- A text stands for one journal, or a reader stops at a line of it.
 use Rattle.std.proofs.Common.{◌≡◌, ℕ, ◌+◌, ◌%◌, ◌^◌, ◌<◌, ◌≤◌, ℤ, pos, negsuc, List, [], ◌∷◌, ◌++◌, length, slice_index, slice_index_or, refl, sym, ap, subst, ◌∙◌, arith, append_assoc, inl, inr, All}
 use Rattle.std.specs.List.{slice_split, flat_map}
 use Rattle.std.specs.Fmt.{decimal, signed_decimal}
@@ -11,7 +11,7 @@ use Rattle.ilp_accounts.specs.Valid.{IsValid}
 use Rattle.ilp_journal.specs.declared.entry.Entry.{Entry}
 use Rattle.ilp_journal.specs.Journal.{Entries}
 use Rattle.ilp_journal_text.specs.Text.{first_line, entry_line, end_line}
-use Rattle.ilp_journal_text.specs.Reading.{IsMoment, CanStand, IsTextOf, Unread, LacksEntry, GoesOn, IsBadAt, IsFirstBadLine}
+use Rattle.ilp_journal_text.specs.Reading.{IsMoment, CanStand, IsTextOf, Unread, HasRead, LacksEntry, GoesOn, IsBadAt}
 use Rattle.ilp_journal_text.specs.Fields.{is_space, is_line_end}
 use Rattle.ilp_journal_text.proofs.Cuts.{cut_line}
 use Rattle.ilp_journal_text.proofs.Awaited.{entry_body, entry_parts, entry_clean, entry_cut}
@@ -83,21 +83,18 @@ module _ (C : Configuration) where
         let tail = same_entries j k x y (All-tail (CanStand C) d j all_j) (All-tail (CanStand C) e k all_k) lacks_x lacks_y rest in
         (ap (λ (f : Entry). f ∷ j) head ∙ ap (λ (l : Entries). e ∷ l) tail.0, tail.1)
 
-    -- ---- the laws
+    -- ---- what a text stands for
 
-    at_end : (j : Entries) (text : List ℕ) → IsTextOf C j text → text ≡ first_line ++ (flat_map (entry_line C) j ++ end_line (length j))
-    at_end j text is = is.whole
-
-    end_alone : (count : ℕ) → LacksEntry C (end_line count)
+    pub end_alone : (count : ℕ) → LacksEntry C (end_line count)
     end_alone count = subst (LacksEntry C) (append-nil (end_line count)) (end_lacks count [])
 
     pub one_journal : (j k : Entries) (text : List ℕ) → IsTextOf C j text → IsTextOf C k text → j ≡ k
     one_journal j k text is_j is_k =
         (same_entries j k (end_line (length j)) (end_line (length k)) is_j.entries is_k.entries (end_alone (length j)) (end_alone (length k)) (append_cancel_left first_line _ _ (sym is_j.whole ∙ is_k.whole))).0
 
-    pub never_bad : (j : Entries) (text : List ℕ) (number : ℕ) → IsTextOf C j text → IsFirstBadLine C text number → ⊥
-    never_bad j text number is (inl bad) = bad.0 _ is.whole
-    never_bad j text number is (inr (k, u, read, bad)) =
+    -- where a reader stops, the text is no journal's
+    pub never_bad_at : (j k : Entries) (text : List ℕ) (u : Unread) (number : ℕ) → IsTextOf C j text → HasRead C text k u → IsBadAt C u number → ⊥
+    never_bad_at j k text u number is read bad =
         let same = same_entries j k (end_line (length j)) u.rest is.entries read.entries (end_alone (length j)) (bad_lacks u number bad) (append_cancel_left first_line _ _ (sym is.whole ∙ read.whole)) in
         let rest : u.rest ≡ end_line u.count = sym same.1 ∙ ap end_line (ap length same.0 ∙ sym read.count) in
         by bad rest
@@ -105,17 +102,3 @@ module _ (C : Configuration) where
         by : IsBadAt C u number → u.rest ≡ end_line u.count → ⊥
         by (inl lacks) rest = lacks.0.end [] (rest ∙ sym (append-nil (end_line u.count)))
         by (inr goes) rest = goes.0.more (append_cancel_left (end_line u.count) _ _ (sym goes.0.whole ∙ rest ∙ sym (append-nil (end_line u.count))))
-
-    same_number : (u v : Unread) (m n : ℕ) → u.rest ≡ v.rest → u.count ≡ v.count → IsBadAt C u m → IsBadAt C v n → m ≡ n
-    same_number u v m n rest count (inl bad) (inl other) = bad.1 ∙ ap (λ k. k + 2) count ∙ sym other.1
-    same_number u v m n rest count (inl bad) (inr goes) = absurd (bad.0.end goes.0.after (rest ∙ goes.0.whole ∙ ap (λ k. end_line k ++ goes.0.after) (sym count)))
-    same_number u v m n rest count (inr goes) (inl bad) = absurd (bad.0.end goes.0.after (sym rest ∙ goes.0.whole ∙ ap (λ k. end_line k ++ goes.0.after) count))
-    same_number u v m n rest count (inr goes) (inr other) = goes.1 ∙ ap (λ k. k + 3) count ∙ sym other.1
-
-    pub one_bad_line : (text : List ℕ) (m n : ℕ) → IsFirstBadLine C text m → IsFirstBadLine C text n → m ≡ n
-    one_bad_line text m n (inl bad) (inl other) = bad.1 ∙ sym other.1
-    one_bad_line text m n (inl bad) (inr other) = absurd (bad.0 _ other.2.whole)
-    one_bad_line text m n (inr bad) (inl other) = absurd (other.0 _ bad.2.whole)
-    one_bad_line text m n (inr (j, u, read, bad)) (inr (k, v, other, worse)) =
-        let same = same_entries j k u.rest v.rest read.entries other.entries (bad_lacks u m bad) (bad_lacks v n worse) (append_cancel_left first_line _ _ (sym read.whole ∙ other.whole)) in
-        same_number u v m n same.1 (read.count ∙ ap length same.0 ∙ sym other.count) bad worse

@@ -1,5 +1,5 @@
 -- What a reader knows of a text on its way.
-use Rattle.std.proofs.Common.{◌≡◌, ℕ, List, [], ◌∷◌, ◌++◌, sym, ap, ◌∙◌, arith, append_assoc, length-append, inr}
+use Rattle.std.proofs.Common.{◌≡◌, ℕ, List, [], ◌∷◌, ◌++◌, sym, ap, ◌∙◌, arith, append_assoc, length-append}
 use Rattle.std.specs.List.{flat_map}
 use Rattle.std.proofs.lemmas.Grind.{flat_map-append}
 use Rattle.std.proofs.lemmas.List.{append-nil}
@@ -8,7 +8,7 @@ use Rattle.ilp_accounts.specs.Configuration.{Configuration}
 use Rattle.ilp_journal.specs.declared.entry.Entry.{Entry}
 use Rattle.ilp_journal.specs.Journal.{Entries}
 use Rattle.ilp_journal_text.specs.Text.{first_line, entry_line, end_line}
-use Rattle.ilp_journal_text.specs.Reading.{CanStand, IsTextOf, Unread, Begins, Takes, IsAtEnd, HasRead, IsBadAt, IsFirstBadLine}
+use Rattle.ilp_journal_text.specs.Reading.{CanStand, IsTextOf, Unread, Begins, Takes, IsAtEnd, HasRead}
 
 module _ (C : Configuration) (text : List ℕ) where
   -- after the first line no entry was read
@@ -35,7 +35,3 @@ module _ (C : Configuration) (text : List ℕ) where
     whole = read.whole ∙ ap (λ (octets : List ℕ). first_line ++ (flat_map (entry_line C) j ++ octets)) (ended ∙ ap end_line read.count);
     entries = read.entries;
   }
-
-  -- a bad line that is met is the first
-  pub first_bad : (j : Entries) (u : Unread) (number : ℕ) → HasRead C text j u → IsBadAt C u number → IsFirstBadLine C text number
-  first_bad j u number read bad = inr (j, u, read, bad)

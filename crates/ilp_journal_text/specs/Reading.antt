@@ -1,5 +1,5 @@
 -- The text of a journal, read: what it stands for, and where it is first bad. Lines count from 1.
-use Rattle.std.specs.Prelude.{◌≡◌, ◌≢◌, ◌⊎◌, ℕ, ◌+◌, ◌<◌, ◌^◌, ℤ, pos, ◌≤ℤ◌, ◌<ℤ◌, List, [], ◌++◌, length, All, ⊤}
+use Rattle.std.specs.Prelude.{◌≡◌, ◌≢◌, ◌⊎◌, ℕ, ◌+◌, ◌<◌, ◌^◌, ℤ, pos, ◌≤ℤ◌, ◌<ℤ◌, List, [], ◌∷◌, ◌++◌, false, length, All, ⊤}
 use Rattle.std.specs.List.{flat_map}
 use Rattle.hex.specs.Hex.{IsBytes}
 use Rattle.ilp_accounts.specs.Configuration.{Configuration}
@@ -15,6 +15,7 @@ use Rattle.ilp_journal.specs.Keys.{IsKey}
 use Rattle.ilp_journal_text.specs.declared.reading.TextFault.{TextFault}
 use Rattle.ilp_journal_text.specs.declared.reading.TextFault.TheVariants.{BadLine, Memory}
 use Rattle.ilp_journal_text.specs.Text.{first_line, entry_line, end_line, journal_text}
+use Rattle.ilp_journal_text.specs.Fields.{is_line_end}
 
 -- ---- which entries a text of a configuration can have
 
@@ -100,6 +101,34 @@ pub record HasRead (C : Configuration) (text : List ℕ) (j : Entries) (now : Un
 
 -- ---- the first bad line
 
+-- a line, with LF
+pub record IsLine (octets : List ℕ) : Type 0 where
+  pub body : List ℕ
+  pub whole : octets ≡ body ++ 10 ∷ []
+  pub clean : All (λ octet. is_line_end octet ≡ false) body
+
+-- lines, one behind the other
+abbrev pub joined : List (List ℕ) → List ℕ
+joined lines = flat_map (λ (line : List ℕ). line) lines
+
+-- the text of some journal begins so
+abbrev pub BeginsText : Configuration → List ℕ → Type 0
+BeginsText C octets = (j : Entries) × All (CanStand C) j × (after : List ℕ) × (journal_text C j ≡ octets ++ after)
+
+-- The text is no journal's. The lines before this one begin the text of some journal, and with it they begin none; else it is
+-- missing, or has no end.
+pub record IsFirstBadLine (C : Configuration) (text : List ℕ) (line : ℕ) : Type 0 where
+  pub no_text : (j : Entries) → ¬ (IsTextOf C j text)
+  pub before : List (List ℕ)
+  pub rest : List ℕ
+  pub whole : text ≡ joined before ++ rest
+  pub lines : All IsLine before
+  pub begins : BeginsText C (joined before)
+  pub bad : (next after : List ℕ) → IsLine next → rest ≡ next ++ after → ¬ (BeginsText C (joined before ++ next))
+  pub number : line ≡ length before + 1
+
+-- ---- where a reader stops
+
 abbrev pub LacksFirstLine : List ℕ → Type 0
 LacksFirstLine text = (after : List ℕ) → text ≢ first_line ++ after
 
@@ -118,16 +147,11 @@ pub record GoesOn (u : Unread) : Type 0 where
   pub whole : u.rest ≡ end_line u.count ++ after
   pub more : after ≢ []
 
--- the first bad line of what is left: the next one, or the one behind the end line
+-- the line at which a reader stops: the next one, or the one behind the end line
 abbrev pub IsBadAt : Configuration → Unread → ℕ → Type 0
 IsBadAt C u line = (LacksLine C u × (line ≡ u.count + 2)) ⊎ (GoesOn u × (line ≡ u.count + 3))
 
--- the first bad line of a text
-abbrev pub IsFirstBadLine : Configuration → List ℕ → ℕ → Type 0
-IsFirstBadLine C text line = (LacksFirstLine text × (line ≡ 1))
-    ⊎ ((j : Entries) × (u : Unread) × HasRead C text j u × IsBadAt C u line)
-
--- a fault names the first bad line of what is left, or is want of memory
+-- a fault names the line at which a reader stops, or is want of memory
 abbrev pub Explains : Configuration → Unread → TextFault → Type 0
 Explains C u (BadLine line) = IsBadAt C u line
 Explains C u Memory = ⊤

@@ -11,7 +11,7 @@ use Rattle.ilp_journal.specs.TrialBalance.{balances}
 use Rattle.ilp_book.specs.Book.{PlainBook}
 use Rattle.ilp_book.specs.Configured.{peer_assets}
 use Rattle.ilp_book.specs.Lawful.{IsLawful}
-use Rattle.ilp_book.proofs.Runs.{lawful_balanced}
+use Rattle.ilp_rules.proofs.Rules.{lawful_balanced}
 use Rattle.ilp_report.specs.Report.{PlainPeerAccount, PlainAssetBooks, peer_account, asset_books}
 use Rattle.ilp_report.specs.Sound.{balances_in, AreBalanced}
 

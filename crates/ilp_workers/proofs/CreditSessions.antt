@@ -25,8 +25,8 @@ use Rattle.ilp_book.specs.Book.{PlainBook, By, by, Growth, granted, denied, Made
 use Rattle.ilp_book.specs.Open.{as_credit, credit_at, has_key, kept_at}
 use Rattle.ilp_book.specs.Lawful.{IsLawful, KeepsRuleOf, quantity_named}
 use Rattle.ilp_book.specs.SettleStep.{kept, credit_kept, Payment, amount_of, credit_of, credit_fresh, credit_checked, credit_growth, credit_booked, credit_step}
-use Rattle.ilp_book.proofs.OpenAsks.{first_found}
-use Rattle.ilp_book.proofs.Rules.{rule_credits}
+use Rattle.ilp_rules.proofs.Standing.{first_found}
+use Rattle.ilp_rules.proofs.Rules.{rule_credits}
 use Rattle.ilp_desk.specs.Desk.{PlainDesk}
 use Rattle.ilp_desk.specs.Portion.{Holding}
 use Rattle.ilp_link_traits.specs.Links.{Tells}

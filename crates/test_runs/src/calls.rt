@@ -1,6 +1,8 @@
 //! The calls of a book, and what they are answered.
 
-use ilp_book::{AskFault, Asked, CreditFault, Held, HoldFault, Kept, NotOpen, Outcome, PeerReply};
+use ilp_book::{
+    AskFault, Asked, CreditFault, EngineVerdict, Held, HoldFault, Kept, NotOpen, Outcome, PeerReply,
+};
 use ilp_settlement::Quantity;
 
 /// A call, with who makes it and what the clock tells.
@@ -19,7 +21,7 @@ pub(crate) enum Call {
     Expire,
     Credit(Payment),
     Ask { peer: u32 },
-    Close { number: u32, accepted: bool },
+    Close { number: u32, verdict: EngineVerdict },
 }
 
 /// A Prepare from a peer.

@@ -5,7 +5,7 @@ use crate::chance::Chance;
 use crate::configured::PEERS;
 use crate::locks::{condition, preimage};
 use crate::walks::{Ends, ask_at, ended_by, open_hold_at, open_settlement};
-use ilp_book::{Book, PeerReply};
+use ilp_book::{Book, EngineVerdict, PeerReply};
 use ilp_settlement::Quantity;
 
 // How many keys each peer has.
@@ -77,8 +77,16 @@ fn choose(chance: &mut Chance, book: &Book, ends: &Ends, now: i64) -> Call {
         },
         _ => Call::Close {
             number: ask_number(chance, book, ends),
-            accepted: chance.is_one_in(2),
+            verdict: verdict(chance),
         },
+    }
+}
+
+fn verdict(chance: &mut Chance) -> EngineVerdict {
+    if chance.is_one_in(2) {
+        EngineVerdict::Accepted
+    } else {
+        EngineVerdict::Refused
     }
 }
 
@@ -144,8 +152,8 @@ fn hold_number(chance: &mut Chance, book: &Book, ends: &Ends) -> u32 {
 // The first open settlement to some peer, or any settlement that stands a little before some entry.
 fn ask_number(chance: &mut Chance, book: &Book, ends: &Ends) -> u32 {
     if chance.is_one_in(3) {
-        if let Some((number, _)) = open_settlement(book, ends, chance.below(PEERS), None) {
-            return number;
+        if let Some(asked) = open_settlement(book, ends, chance.below(PEERS), None) {
+            return asked.number;
         }
     }
     let number = number(chance, book);

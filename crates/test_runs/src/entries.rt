@@ -2,7 +2,7 @@
 
 use crate::calls::{Call, Made, Payment, Reply, key_octets};
 use crate::terms::terms;
-use ilp_book::{Book, Outcome, PeerReply};
+use ilp_book::{Book, EngineVerdict, Outcome, PeerReply};
 use ilp_journal::{Ask, Cause, Credited, What};
 
 /// Whether the last entry is the one that a call booked at this moment, by its reply.
@@ -34,8 +34,8 @@ fn says(what: &What, moment: i64, call: &Call, reply: &Reply) -> bool {
             Call::Ask { peer } => asks(ask, *peer, reply),
             _ => false,
         },
-        What::Confirmed { ask } => closes(*ask, true, call),
-        What::Undone { ask } => closes(*ask, false, call),
+        What::Confirmed { ask } => closes(*ask, EngineVerdict::Accepted, call),
+        What::Undone { ask } => closes(*ask, EngineVerdict::Refused, call),
     }
 }
 
@@ -83,9 +83,9 @@ fn asks(ask: &Ask, peer: u32, reply: &Reply) -> bool {
     }
 }
 
-fn closes(ask: u32, is_confirmed: bool, call: &Call) -> bool {
+fn closes(ask: u32, said: EngineVerdict, call: &Call) -> bool {
     match call {
-        Call::Close { number, accepted } => *number == ask && *accepted == is_confirmed,
+        Call::Close { number, verdict } => *number == ask && *verdict == said,
         _ => false,
     }
 }

@@ -170,7 +170,7 @@ fn still_open(book: &Book, ends: &Ends, peer: u32) -> Option<AskFault> {
     if walks::open_asks(book, ends, peer) < MOST_OPEN {
         return None;
     }
-    let (number, amount) = walks::open_settlement(book, ends, peer, None)?;
+    let Asked { number, amount } = walks::open_settlement(book, ends, peer, None)?;
     Some(AskFault::StillOpen { number, amount })
 }
 

@@ -18,8 +18,8 @@ pub(crate) fn make(alloc: Global, book: &mut Book, made: &Made) -> Result<Reply,
         Call::Expire => Ok(Reply::Expire(book.expire_one(actor, now))),
         Call::Credit(payment) => credit(alloc, book, actor, payment, now),
         Call::Ask { peer } => Ok(ask(book, actor, *peer, now)),
-        Call::Close { number, accepted } => {
-            Ok(Reply::Close(book.settle_close(actor, *number, *accepted, now)))
+        Call::Close { number, verdict } => {
+            Ok(Reply::Close(book.settle_close(actor, *number, *verdict, now)))
         }
     }
 }

@@ -66,13 +66,13 @@ fn each_settlement_agrees(
     ends: &Ends,
     peer: u32,
 ) -> io::Result<bool> {
-    let mut after = None;
+    let mut tried = None;
     for _ in 0..=MOST_OPEN {
-        if !settlement_agrees(rt, book, ends, peer, after)? {
+        if !settlement_agrees(rt, book, ends, peer, tried)? {
             return Ok(false);
         }
-        match book.open_settlement(peer, after) {
-            Some((number, _)) => after = Some(number),
+        match book.open_settlement(peer, tried) {
+            Some(asked) => tried = Some(asked.number),
             None => return Ok(true),
         }
     }
@@ -84,13 +84,13 @@ fn settlement_agrees(
     book: &Book,
     ends: &Ends,
     peer: u32,
-    after: Option<u32>,
+    tried: Option<u32>,
 ) -> io::Result<bool> {
-    let open = walks::open_settlement(book, ends, peer, after);
-    let told = book.open_settlement(peer, after);
+    let open = walks::open_settlement(book, ends, peer, tried);
+    let told = book.open_settlement(peer, tried);
     if told != open {
         println!(rt;
-            "the settlement to {peer} behind {after:?} is to be {open:?}, and is {told:?}"
+            "the settlement to {peer} after {tried:?} is to be {open:?}, and is {told:?}"
         )?;
         return Ok(false);
     }

@@ -1,42 +1,17 @@
 //! A book that is carried over from one run of the connector to the next.
-ghost use Rattle.std.specs.Prelude.{◌≡◌, ℕ, None, IfOk, IfErr, OnOk, OnErr, is_err, if◌then◌else◌};
+ghost use Rattle.std.specs.Prelude.{◌≡◌, IfOk, IfErr, OnOk, OnErr, is_err, if◌then◌else◌};
 ghost use Rattle.std.specs.Io.KnownBytes.{Appends};
 ghost use Rattle.ilp_io.specs.Counts.{CountsUp};
 ghost use Rattle.ilp_io.specs.Writing.{AppendsProperPrefix};
-ghost use Rattle.ilp_journal.specs.Journal.{open_hold_at};
 ghost use Rattle.ilp_journal_text.specs.Text.{journal_text};
-ghost use Rattle.ilp_book.specs.Carried.{begun_with};
-ghost use Rattle.ilp_book.specs.Carry.{IsCarriedOver, IsWhyNotCarried};
+ghost use Rattle.ilp_rules.specs.Carry.{IsCarriedOver, IsWhyNotCarried};
 
 use crate::book::Book;
-use crate::carrying::Carrying;
-use crate::fault::CarryFault;
 use ilp_accounts::Config;
 use ilp_io::{Sink, WriteFault};
 use ilp_journal_text::put_journal;
+use ilp_rules::{Beginning, CarryFault};
 use std::alloc::Allocator;
-
-impl<A: Allocator> Book<A> {
-    // The book that begins with all that was carried over, where no hold is open any more.
-    fn begun_with(carrying: Carrying<A>) -> Book<A>
-        requires ended { (n : ℕ) → open_hold_at carrying.entries n ≡ None }
-        ensures { result ≡ begun_with carrying.config carrying.entries }
-    {
-        let Carrying {
-            config,
-            journal,
-            mut tables,
-        } = carrying;
-        let base = journal.len();
-        tables.tallies.set_base(base);
-        Book {
-            config,
-            base,
-            journal,
-            tables,
-        }
-    }
-}
 
 impl<A: Allocator + Clone> Book<A> {
     /// The book that begins with the journal of which this is the text, as `save` wrote it. Each hold
@@ -56,10 +31,19 @@ impl<A: Allocator + Clone> Book<A> {
         ensures ok { IfOk result (IsCarriedOver config.now text.now now) }
         ensures err { IfErr result (IsWhyNotCarried config.now text.now) }
     {
-        let mut carrying = Carrying::new(alloc, config)?;
-        carrying.take_up_text(text)?;
-        carrying.end_holds(now)?;
-        Ok(Book::begun_with(carrying))
+        let beginning = Beginning::carry_over(alloc, config, text, now)?;
+        let Beginning {
+            config,
+            base,
+            journal,
+            tables,
+        } = beginning;
+        Ok(Book {
+            config,
+            base,
+            journal,
+            tables,
+        })
     }
 }
 

@@ -1,17 +1,18 @@
 //! Settlements: credits from peers, asks to peers, and what becomes of those.
 ghost use Rattle.std.specs.Prelude.{◌≡◌, OnErr};
 ghost use Rattle.ilp_journal.specs.Journal.{open_ask_at};
-ghost use Rattle.ilp_book.specs.Book.{by, Does};
-ghost use Rattle.ilp_book.specs.Configured.{IsKnown};
-ghost use Rattle.ilp_book.specs.Lawful.{IsLawful, IsFreshCredit, IsDueAsk};
+ghost use Rattle.ilp_rules.specs.Book.{by, Does};
+ghost use Rattle.ilp_rules.specs.Configured.{IsKnown};
+ghost use Rattle.ilp_rules.specs.Lawful.{IsLawful, IsFreshCredit, IsDueAsk};
 ghost use Rattle.ilp_book.specs.SettleStep.{payment, open_settlement, credit_fitted, credit_booked, credit_growth, credit_step, ask_fitted, ask_booked, ask_growth, ask_step, close_step};
 
-use crate::asks::{closing, due_amount, open_ask_at, open_settlement, still_open};
+use crate::asks::{closing, open_settlement, still_open};
 use crate::book::Book;
 use crate::calls::{Asked, Kept};
 use crate::credits::kept_reply;
 use crate::fault::{AskFault, CreditFault, NotOpen};
 use ilp_journal::{Ask, Credited, Entry, Key, What};
+use ilp_rules::{due_amount, open_ask_at};
 use ilp_settlement::{EngineVerdict, Quantity, credited};
 use std::alloc::Allocator;
 

@@ -4,7 +4,7 @@ use super::books::{CONDITION, DEADLINE, START, hold};
 use super::settlements::{ALICE, BOB, FILLED, ask, credit, credit_again, fill};
 use super::{FIRST_OF_A_BOOK, GROWTHS, LENDING, lending};
 use ilp_accounts::Config;
-use ilp_book::{AskFault, Book, BrokenRule, CarryFault};
+use ilp_book::{AskFault, Asked, Book, BrokenRule, CarryFault};
 use ilp_io::{Narrow, Recording, WhenFull, WriteFault};
 use ilp_journal::{Cause, What};
 use ilp_packet::Prepare;
@@ -104,7 +104,11 @@ fn look_at<A: Allocator + Clone>(rt: &(impl Abort + AllocGlobal), book: &mut Boo
     assert!(rt; is_ended(book, FILLED + 4, FILLED + 2, Cause::Late));
     assert!(rt; is_ended(book, FILLED + 5, FILLED + 3, Cause::Restart));
     credit_again(rt, book, 0, FILLED);
-    assert_eq!(rt; book.open_settlement(BOB, None), Some((FILLED + 1, 1_800)));
+    let asked = Asked {
+        number: FILLED + 1,
+        amount: 1_800,
+    };
+    assert_eq!(rt; book.open_settlement(BOB, None), Some(asked));
     assert!(rt; BOB < book.config().peers());
     let low = AskFault::NotDue { balance: 200 };
     assert_eq!(rt; book.ask(0, BOB, CARRIED), Err(low));

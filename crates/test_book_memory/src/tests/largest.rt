@@ -4,7 +4,7 @@
 use super::books::{CONDITION, START};
 use super::reports::report_each;
 use ilp_accounts::Config;
-use ilp_book::{Asked, Book, Kept, Outcome, PeerReply};
+use ilp_book::{Asked, Book, EngineVerdict, Kept, Outcome, PeerReply};
 use ilp_journal::{Cause, Key};
 use ilp_packet::Prepare;
 use ilp_report::{PeerAccount, Snapshot};
@@ -123,10 +123,10 @@ fn book_extremes(rt: &(impl Abort + AllocGlobal), book: &mut Book) -> Result<(),
     credit(rt, book, 1, b'b'); // 4
     credit(rt, book, 1, b'c'); // 5
     ask(rt, book, 1); // 6
-    close(rt, book, 6, true); // 7
+    close(rt, book, 6, EngineVerdict::Accepted); // 7
     credit(rt, book, 2, b'a'); // 8
     ask(rt, book, 2); // 9
-    close(rt, book, 9, false); // 10
+    close(rt, book, 9, EngineVerdict::Refused); // 10
 
     // By the price 4 units are worth 4 * 4294967295 * 10^9; more is asked for than that.
     hold(rt, book, 12, 3, 5)?; // 11
@@ -208,9 +208,9 @@ fn ask(rt: &impl Abort, book: &mut Book, peer: u32) {
     assert_eq!(rt; outcome, Ok(asked));
 }
 
-fn close(rt: &impl Abort, book: &mut Book, number: u32, accepted: bool) {
+fn close(rt: &impl Abort, book: &mut Book, number: u32, verdict: EngineVerdict) {
     let entry = book.len();
-    assert_eq!(rt; book.settle_close(0, number, accepted, START), Ok(entry));
+    assert_eq!(rt; book.settle_close(0, number, verdict, START), Ok(entry));
 }
 
 // ---- the report

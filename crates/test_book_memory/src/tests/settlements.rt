@@ -3,7 +3,9 @@
 use super::books::{DEADLINE, START, hold};
 use super::{FIRST_OF_A_BOOK, GROWTHS, lending};
 use ilp_accounts::Config;
-use ilp_book::{AskFault, Asked, Book, CreditFault, Kept, NotOpen, Outcome, PeerReply};
+use ilp_book::{
+    AskFault, Asked, Book, CreditFault, EngineVerdict, Kept, NotOpen, Outcome, PeerReply,
+};
 use ilp_journal::Key;
 use ilp_settlement::Quantity;
 use std::alloc::Allocator;
@@ -134,7 +136,12 @@ fn settle_over<A: Allocator + Clone>(
         credit(rt, &mut book, BOB, round);
         credit_again(rt, &mut book, round, number);
         ask(rt, &mut book, BOB, amount);
-        close(rt, &mut book, number.saturating_add(1), true);
+        close(
+            rt,
+            &mut book,
+            number.saturating_add(1),
+            EngineVerdict::Accepted,
+        );
         assert_eq!(rt; book.balance(BOB), 200);
         amount = 2_000;
     }
@@ -143,13 +150,13 @@ fn settle_over<A: Allocator + Clone>(
 }
 
 // Closes a settlement, and finds it closed when asked again.
-fn close<A: Allocator>(rt: &impl Abort, book: &mut Book<A>, number: u32, accepted: bool) {
+fn close<A: Allocator>(rt: &impl Abort, book: &mut Book<A>, number: u32, verdict: EngineVerdict) {
     let entry = book.len();
-    assert_eq!(rt; book.settle_close(0, number, accepted, START), Ok(entry));
+    assert_eq!(rt; book.settle_close(0, number, verdict, START), Ok(entry));
     let closed = NotOpen {
         closer: Some(entry),
     };
-    assert_eq!(rt; book.settle_close(0, number, accepted, START), Err(closed));
+    assert_eq!(rt; book.settle_close(0, number, verdict, START), Err(closed));
 }
 
 // The entry after which a hold or a settlement is ended.
@@ -259,7 +266,7 @@ fn end_by<A: Allocator>(rt: &impl Abort, book: &mut Book<A>, ending: Ending) {
             assert_eq!(rt; outcome, Ok(Outcome::Fulfilled { entry }));
         }
         Ending::Sweep => assert!(rt; book.expire_one(0, DEADLINE).is_some()),
-        Ending::Close => close(rt, book, FILLED + 6, true),
+        Ending::Close => close(rt, book, FILLED + 6, EngineVerdict::Accepted),
     }
 }
 
@@ -292,7 +299,7 @@ fn book_last<A: Allocator + Clone>(
             let outcome = book.answer(0, FILLED, PeerReply::NoReply, START);
             assert!(rt; outcome.is_ok());
         }
-        Last::Confirmed => close(rt, book, FILLED + 4, true),
-        Last::Undone => close(rt, book, FILLED + 4, false),
+        Last::Confirmed => close(rt, book, FILLED + 4, EngineVerdict::Accepted),
+        Last::Undone => close(rt, book, FILLED + 4, EngineVerdict::Refused),
     }
 }

@@ -2,7 +2,7 @@
 
 use crate::calls::key_octets;
 use crate::walks::{Ends, what_at};
-use ilp_book::Book;
+use ilp_book::{Asked, Book};
 use ilp_journal::{Ask, What};
 
 /// The asked settlement under a number.
@@ -40,19 +40,28 @@ pub(crate) fn open_asks(book: &Book, ends: &Ends, peer: u32) -> u32 {
     open
 }
 
-/// The first open settlement to a peer whose number lies above this one, or of all: its number and
-/// its amount.
+/// The open settlement to a peer that comes next: the first whose number lies above that of the one
+/// that was tried, else the first of all.
 pub(crate) fn open_settlement(
     book: &Book,
     ends: &Ends,
     peer: u32,
-    after: Option<u32>,
-) -> Option<(u32, u64)> {
-    let first = after.map_or(0, |after| after.saturating_add(1));
+    tried: Option<u32>,
+) -> Option<Asked> {
+    let above = tried.map_or(0, |tried| tried.saturating_add(1));
+    match open_from(book, ends, peer, above) {
+        Some(asked) => Some(asked),
+        None => open_from(book, ends, peer, 0),
+    }
+}
+
+// The first open settlement to a peer from this number on.
+fn open_from(book: &Book, ends: &Ends, peer: u32, first: u32) -> Option<Asked> {
     for number in first..book.len() {
         if let Some(ask) = open_ask_at(book, ends, number) {
             if ask.peer == peer {
-                return Some((number, ask.amount));
+                let amount = ask.amount;
+                return Some(Asked { number, amount });
             }
         }
     }

@@ -1,6 +1,6 @@
 use Rattle.ilp_book.specs.Configured.{peer_assets}
-use Rattle.ilp_book.proofs.LawfulGrowth.{limits_now}
-use Rattle.ilp_book.proofs.Rules.{answers_once}
+use Rattle.ilp_rules.proofs.LawfulGrowth.{limits_now}
+use Rattle.ilp_rules.proofs.Rules.{answers_once}
 use Rattle.ilp_desk.proofs.Fulfilled.{taken_within, sold_within}
 use Rattle.ilp_desk.proofs.laws.packets_fit.Goals as goal
 

@@ -1,8 +1,8 @@
-use Rattle.ilp_journal_text.proofs.OneText as text
+use Rattle.ilp_journal_text.proofs.FirstBad as text
 use Rattle.ilp_journal_text.proofs.laws.one_first_bad_line.Goals as goal
 
 pub returns : goal.returns
 returns c = record {
-  none = λ C j octets line valid is bad. text.never_bad C valid j octets line is bad;
-  one = λ C octets line other valid bad worse. text.one_bad_line C valid octets line other bad worse;
+  none = λ C j octets line valid is bad. text.never_bad C j octets line is bad;
+  one = λ C octets line other valid bad worse. text.one_bad_line C octets line other bad worse;
 }

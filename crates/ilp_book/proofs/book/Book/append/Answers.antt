@@ -1,10 +1,10 @@
 use Rattle.std.proofs.Common.{sym, subst, ◌∙◌, arith}
 use Rattle.ilp_journal.proofs.Bases.{base-push}
-use Rattle.ilp_book.specs.Book.{PlainBook, pushed}
-use Rattle.ilp_book.specs.Configured.{peer_assets}
-use Rattle.ilp_book.specs.Lawful.{IsLawful}
-use Rattle.ilp_book.specs.Tables.{KeepsKey}
-use Rattle.ilp_book.proofs.Keeping.{grown_fits, is_next, still_next, parts_grown}
+use Rattle.ilp_rules.specs.Book.{PlainBook, pushed}
+use Rattle.ilp_rules.specs.Configured.{peer_assets}
+use Rattle.ilp_rules.specs.Lawful.{IsLawful}
+use Rattle.ilp_rules.specs.Tables.{KeepsKey}
+use Rattle.ilp_rules.proofs.Keeping.{grown_fits, is_next, still_next, parts_grown}
 use Rattle.ilp_book.proofs.book.Book.append.Goals as goal
 
 pub apply-requires-clause-few : goal.apply-requires-clause-few

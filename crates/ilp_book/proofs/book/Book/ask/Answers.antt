@@ -4,10 +4,11 @@ use Rattle.std.specs.Int.{w64, w128}
 use Rattle.std.proofs.lemmas.Int.{to_z-of_z}
 use Rattle.ilp_accounts.specs.Configuration.{peer_at}
 use Rattle.ilp_journal.specs.Balance.{balance}
-use Rattle.ilp_book.specs.Book.{PlainBook, by, Does}
-use Rattle.ilp_book.specs.Configured.{IsKnown}
-use Rattle.ilp_book.specs.Lawful.{IsDueAsk}
-use Rattle.ilp_book.specs.SettleStep.{still_open, due_amount, ask_booked, ask_fitted, ask_growth}
+use Rattle.ilp_rules.specs.Book.{PlainBook, by, Does}
+use Rattle.ilp_rules.specs.Configured.{IsKnown}
+use Rattle.ilp_rules.specs.Lawful.{IsDueAsk}
+use Rattle.ilp_book.specs.SettleStep.{still_open, ask_booked, ask_fitted, ask_growth}
+use Rattle.ilp_rules.specs.Lawful.{due_amount}
 use Rattle.ilp_book.proofs.SettleSteps.{due_ask, ask_due}
 use Rattle.ilp_book.proofs.book.Book.ask.Goals as goal
 

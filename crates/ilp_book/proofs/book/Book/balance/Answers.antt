@@ -2,10 +2,10 @@ use Rattle.std.proofs.Common.{ℕ, subst}
 use Rattle.std.specs.Prelude.{◌≤ℤ◌}
 use Rattle.ilp_accounts.specs.Configuration.{peer_at}
 use Rattle.ilp_journal.specs.Balance.{balance}
-use Rattle.ilp_book.specs.Book.{PlainBook}
-use Rattle.ilp_book.specs.Configured.{IsKnown}
-use Rattle.ilp_book.specs.Parts.{book_of}
-use Rattle.ilp_book.proofs.LawfulGrowth.{limits_now}
+use Rattle.ilp_rules.specs.Book.{PlainBook}
+use Rattle.ilp_rules.specs.Configured.{IsKnown}
+use Rattle.ilp_rules.specs.Parts.{book_of}
+use Rattle.ilp_rules.proofs.LawfulGrowth.{limits_now}
 use Rattle.ilp_book.proofs.book.Book.balance.Goals as goal
 
 -- a lawful book is within its limits

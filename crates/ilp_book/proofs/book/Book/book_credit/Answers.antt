@@ -2,8 +2,8 @@ use Rattle.std.proofs.Common.{sym, ◌∙◌, rules, to_z, of_z, to_z-of_z}
 use Rattle.std.specs.Prelude.{FitsSigned}
 use Rattle.std.specs.Int.{w64}
 use Rattle.ilp_journal.specs.declared.entry.What.TheVariants as what
-use Rattle.ilp_book.specs.Book.{by}
-use Rattle.ilp_book.proofs.InTime.{admitted_at}
+use Rattle.ilp_rules.specs.Book.{by}
+use Rattle.ilp_rules.proofs.InTime.{admitted_at}
 use Rattle.ilp_book.proofs.SettleSteps.{credit_admitted}
 use Rattle.ilp_book.proofs.book.Book.book_credit.Goals as goal
 

@@ -5,10 +5,10 @@ use Rattle.std.proofs.lemmas.Int.{to_z-of_z}
 use Rattle.ilp_accounts.specs.Configuration.{peer_at}
 use Rattle.ilp_journal.specs.declared.entry.What.TheVariants as what
 use Rattle.ilp_journal.specs.Balance.{balance}
-use Rattle.ilp_book.specs.Book.{PlainBook, by, moment_at}
-use Rattle.ilp_book.specs.Lawful.{HasTerms}
+use Rattle.ilp_rules.specs.Book.{PlainBook, by, moment_at}
+use Rattle.ilp_rules.specs.Lawful.{HasTerms}
 use Rattle.ilp_book.proofs.HoldSteps.{fitted_admitted}
-use Rattle.ilp_book.proofs.InTime.{admitted_at}
+use Rattle.ilp_rules.proofs.InTime.{admitted_at}
 use Rattle.ilp_book.proofs.book.Book.book_hold.Goals as goal
 
 -- the hold is admitted, since nothing refused it

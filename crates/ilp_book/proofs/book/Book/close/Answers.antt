@@ -1,9 +1,9 @@
 use Rattle.std.proofs.Common.{sym, subst}
 use Rattle.ilp_journal.proofs.Bases.{base-push}
-use Rattle.ilp_book.specs.Book.{PlainBook, pushed}
-use Rattle.ilp_book.specs.Lawful.{IsLawful}
-use Rattle.ilp_book.specs.Parts.{book_of}
-use Rattle.ilp_book.proofs.Keeping.{end_fits, names_ask, names_hold, opens_none, is_next, parts_closed}
+use Rattle.ilp_rules.specs.Book.{PlainBook, pushed}
+use Rattle.ilp_rules.specs.Lawful.{IsLawful}
+use Rattle.ilp_rules.specs.Parts.{book_of}
+use Rattle.ilp_rules.proofs.Keeping.{end_fits, names_ask, names_hold, opens_none, is_next, parts_closed}
 use Rattle.ilp_book.proofs.book.Book.close.Goals as goal
 
 pub apply-requires-clause-few : goal.apply-requires-clause-few

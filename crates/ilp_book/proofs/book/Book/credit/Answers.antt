@@ -2,9 +2,9 @@ use Rattle.std.proofs.Common.{◌≡◌, ℕ, Option, Some, None, sym, ap, ◌�
 use Rattle.std.specs.Prelude.{option_map}
 use Rattle.ilp_journal.specs.declared.entry.Credited.{Credited}
 use Rattle.ilp_settlement.specs.Quantity.{credited_at}
-use Rattle.ilp_book.specs.Book.{PlainBook}
-use Rattle.ilp_book.specs.Configured.{IsKnown}
-use Rattle.ilp_book.specs.Lawful.{IsFreshCredit}
+use Rattle.ilp_rules.specs.Book.{PlainBook}
+use Rattle.ilp_rules.specs.Configured.{IsKnown}
+use Rattle.ilp_rules.specs.Lawful.{IsFreshCredit}
 use Rattle.ilp_book.specs.SettleStep.{payment, amount_of, credit_of, credit_kept, kept}
 use Rattle.ilp_book.proofs.SettleSteps.{fresh_credit}
 use Rattle.ilp_book.proofs.book.Book.credit.Goals as goal

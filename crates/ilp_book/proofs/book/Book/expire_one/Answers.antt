@@ -2,7 +2,7 @@ use Rattle.std.proofs.Common.{rules, sym, ◌∙◌, arith, to_z, of_z, to_z-of_
 use Rattle.std.specs.Prelude.{FitsSigned, ◌≤ℤ◌}
 use Rattle.std.specs.Int.{w64}
 use Rattle.std.proofs.lemmas.Int.{ints}
-use Rattle.ilp_book.specs.Book.{by}
+use Rattle.ilp_rules.specs.Book.{by}
 use Rattle.ilp_book.proofs.Earliest.{due_at}
 use Rattle.ilp_book.proofs.AnswerSteps.{expire_keeps_at}
 use Rattle.ilp_book.proofs.book.Book.expire_one.Goals as goal

@@ -6,7 +6,7 @@ use Rattle.ilp_lookup.specs.Answer.{routed_peer}
 use Rattle.ilp_lookup.proofs.OneRoute.{one-route}
 use Rattle.ilp_lookup.proofs.RoutedPeer.{IsRoute-routed_peer}
 use Rattle.ilp_packet.specs.Packet.{plain_prepare}
-use Rattle.ilp_book.specs.Book.{PlainBook, by, Does}
+use Rattle.ilp_rules.specs.Book.{PlainBook, by, Does}
 use Rattle.ilp_book.specs.HoldStep.{given_route, hold_step, growth_of}
 use Rattle.ilp_book.proofs.HoldSteps.{hold_by_route}
 use Rattle.ilp_book.proofs.book.Book.hold.Goals as goal

@@ -4,10 +4,10 @@ use Rattle.std.specs.Int.{w64}
 use Rattle.std.proofs.lemmas.Int.{to_z-of_z}
 use Rattle.ilp_packet.specs.Packet.{plain_prepare}
 use Rattle.ilp_accounts.specs.Valid.{IsValid}
-use Rattle.ilp_book.specs.Book.{PlainBook, by, moment_at, Does}
+use Rattle.ilp_rules.specs.Book.{PlainBook, by, moment_at, Does}
 use Rattle.ilp_book.specs.declared.calls.Held.{Held}
 use Rattle.ilp_book.specs.declared.fault.HoldFault.{HoldFault}
-use Rattle.ilp_book.specs.Lawful.{HasTerms}
+use Rattle.ilp_rules.specs.Lawful.{HasTerms}
 use Rattle.ilp_book.specs.HoldStep.{given_route, hold_terms, hold_fitted, hold_booked, hold_step, growth_of}
 use Rattle.ilp_book.proofs.HoldSteps.{terms_allowed, hold_termed, hold_refused}
 use Rattle.ilp_book.proofs.book.Book.hold_routed.Goals as goal

@@ -3,9 +3,9 @@ use Rattle.std.specs.Prelude.{◌≤ℤ◌, FitsSigned}
 use Rattle.std.specs.Int.{w64}
 use Rattle.ilp_terms.specs.Expiry.{last_of_all}
 use Rattle.ilp_journal.specs.declared.entry.What.TheVariants as what
-use Rattle.ilp_book.specs.Book.{by}
-use Rattle.ilp_book.specs.Parts.{book_of}
-use Rattle.ilp_book.proofs.InTime.{in_time}
+use Rattle.ilp_rules.specs.Book.{by}
+use Rattle.ilp_rules.specs.Parts.{book_of}
+use Rattle.ilp_rules.proofs.InTime.{in_time}
 use Rattle.ilp_book.proofs.book.Book.moment_at.Goals as goal
 
 -- an entry of a lawful book at this moment would be in time

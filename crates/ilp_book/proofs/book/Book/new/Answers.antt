@@ -1,6 +1,6 @@
 use Rattle.std.proofs.Common.{◌∙◌}
 use Rattle.ilp_journal.proofs.Bases.{base_zero}
-use Rattle.ilp_book.proofs.Keeping.{parts_new}
+use Rattle.ilp_rules.proofs.Keeping.{parts_new}
 use Rattle.ilp_book.proofs.book.Book.new.Goals as goal
 
 pub invariant_of-result : goal.invariant_of-result

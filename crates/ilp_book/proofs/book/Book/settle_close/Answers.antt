@@ -1,7 +1,7 @@
 use Rattle.std.proofs.Common.{sym, ◌∙◌, rules, to_z, of_z, to_z-of_z}
 use Rattle.std.specs.Prelude.{FitsSigned}
 use Rattle.std.specs.Int.{w64}
-use Rattle.ilp_book.specs.Book.{by}
+use Rattle.ilp_rules.specs.Book.{by}
 use Rattle.ilp_book.proofs.SettleSteps.{close_keeps_at}
 use Rattle.ilp_book.proofs.book.Book.settle_close.Goals as goal
 

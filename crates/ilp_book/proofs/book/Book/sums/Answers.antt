@@ -4,11 +4,11 @@ use Rattle.std.specs.Int.{w128}
 use Rattle.std.proofs.lemmas.Int.{ints, to_z-of_z}
 use Rattle.ilp_journal.specs.Booked.{most_sum}
 use Rattle.ilp_journal.specs.TrialBalance.{IsBalanced, held, settled}
-use Rattle.ilp_book.specs.Book.{PlainBook}
-use Rattle.ilp_book.specs.Configured.{peer_assets}
-use Rattle.ilp_book.specs.Parts.{book_of}
+use Rattle.ilp_rules.specs.Book.{PlainBook}
+use Rattle.ilp_rules.specs.Configured.{peer_assets}
+use Rattle.ilp_rules.specs.Parts.{book_of}
 use Rattle.ilp_book.specs.Sums.{IsWithin}
-use Rattle.ilp_book.proofs.Runs.{lawful_balanced}
+use Rattle.ilp_rules.proofs.Rules.{lawful_balanced}
 use Rattle.ilp_book.proofs.book.Book.sums.Goals as goal
 
 -- a lawful book is balanced

@@ -1,8 +1,0 @@
-use Rattle.std.proofs.Common.{◌≡◌}
-use Rattle.ilp_book.specs.Book.{extended}
-use Rattle.ilp_book.proofs.Ending.{ends_to}
-use Rattle.ilp_book.proofs.carrying.Carrying.end_holds.Given as goal
-
--- the open holds so far have ended
-abbrev pub invariant-loop-number : goal.invariant-loop-number
-invariant-loop-number g l = l.self ≡ extended l.fn.self (ends_to l.moment l.fn.self.entries l.number)

@@ -1,5 +1,0 @@
-use Rattle.ilp_book.proofs.LawfulGrowth.{lawful_raised}
-use Rattle.ilp_book.proofs.laws.bases_can_rise.Goals as goal
-
-pub returns : goal.returns
-returns c = lawful_raised

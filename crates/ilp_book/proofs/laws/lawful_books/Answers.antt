@@ -1,9 +1,0 @@
-use Rattle.ilp_book.proofs.KeptOnce.{credited_once}
-use Rattle.ilp_book.proofs.Runs.{lawful_balanced}
-use Rattle.ilp_book.proofs.laws.lawful_books.Goals as goal
-
-pub returns : goal.returns
-returns c = record {
-  credited_once = λ book k m first second lawful. credited_once book lawful k m first second;
-  balanced = lawful_balanced;
-}

@@ -1,0 +1,14 @@
+pub mod Known
+pub mod Rules
+pub mod Standing
+pub mod LawfulGrowth
+pub mod InTime
+pub mod Admitting
+pub mod TableSteps
+pub mod Keeping
+pub mod Judging
+pub mod Ending
+pub mod Rebasing
+mod TakingUp
+mod CarriedBooks
+mod KeptOnce

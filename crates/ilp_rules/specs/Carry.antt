@@ -1,0 +1,36 @@
+-- Which texts are carried over from one run of the connector to the next.
+use Rattle.std.specs.Prelude.{◌≡◌, ℕ, ◌+◌, ◌<◌, ℤ, List, length, take, ⊤}
+use Rattle.ilp_accounts.specs.Configuration.{Configuration}
+use Rattle.ilp_journal.specs.Journal.{Entries}
+use Rattle.ilp_journal_text.specs.Reading.{IsTextOf, IsFirstBadLine}
+use Rattle.ilp_journal_text.specs.declared.reading.TextFault.{TextFault}
+use Rattle.ilp_journal_text.specs.declared.reading.TextFault.TheVariants as text_fault
+use Rattle.ilp_rules.specs.declared.fault.CarryFault.{CarryFault}
+use Rattle.ilp_rules.specs.declared.fault.CarryFault.TheVariants.{BadJournalText, Unlawful, Memory}
+use Rattle.ilp_rules.specs.Book.{PlainBook, with_entries}
+use Rattle.ilp_rules.specs.Carried.{begun_with, carried}
+use Rattle.ilp_rules.specs.Lawful.{IsLawful}
+
+-- a fault of a text as one of what isn't carried over
+abbrev pub of_text : TextFault → CarryFault
+of_text (text_fault.BadLine line) = BadJournalText line
+of_text text_fault.Memory = Memory
+
+-- The text is that of a lawful journal, in which holds may be open, and this is the book that begins with it.
+pub record IsCarriedOver (C : Configuration) (text : List ℕ) (now : ℤ) (book : PlainBook) : Type 0 where
+  pub entries : Entries
+  pub written : IsTextOf C entries text
+  pub lawful : IsLawful (begun_with C entries)
+  pub begins : book ≡ carried C entries now
+
+-- The entries before the number n are lawful, and with that one they aren't.
+pub record IsFirstUnlawful (C : Configuration) (entries : Entries) (n : ℕ) : Type 0 where
+  pub within : n < length entries
+  pub lawful : IsLawful (with_entries (begun_with C entries) (take n entries))
+  pub unlawful : IsLawful (with_entries (begun_with C entries) (take (n + 1) entries)) → ⊥
+
+-- The fault names the first bad line of a text that is no journal's, or the first unlawful entry of one that is.
+abbrev pub IsWhyNotCarried : Configuration → List ℕ → CarryFault → Type 0
+IsWhyNotCarried C text (BadJournalText line) = IsFirstBadLine C text line
+IsWhyNotCarried C text (Unlawful entry rule) = (entries : Entries) × IsTextOf C entries text × IsFirstUnlawful C entries entry
+IsWhyNotCarried C text Memory = ⊤

@@ -1,0 +1,76 @@
+//! What a book begins with that is carried over from one run of the connector to the next.
+ghost use Rattle.std.specs.Prelude.{◌≡◌, ℕ, None, IfOk, IfErr};
+ghost use Rattle.ilp_journal.specs.Journal.{open_hold_at, IsBase};
+ghost use Rattle.ilp_rules.specs.Carried.{begun_with};
+ghost use Rattle.ilp_rules.specs.Carry.{IsCarriedOver, IsWhyNotCarried};
+ghost use Rattle.ilp_rules.specs.Parts.{AreParts, book_of};
+
+use crate::carrying::Carrying;
+use crate::fault::CarryFault;
+use crate::tables::Tables;
+use ilp_accounts::Config;
+use ilp_journal::Journal;
+use std::alloc::Allocator;
+
+/// The parts of a book that begins with carried entries: it is lawful, no hold is open in it, and all
+/// of its entries lie below its base.
+#[derive(Drop)]
+pub struct Beginning<A: Allocator> {
+    /// What the book is configured to do.
+    pub config: Config,
+    /// How many entries there are.
+    pub base: u32,
+    /// The carried entries, and the ends of those of their holds that were open.
+    pub journal: Journal<A>,
+    /// What stands beside the journal.
+    pub tables: Tables<A>,
+    ghost parts: { AreParts config base journal tables.tallies tables.holds tables.keys },
+    ghost opened: { IsBase journal.entries base },
+}
+
+impl<A: Allocator + Clone> Beginning<A> {
+    /// What a book begins with that goes on with the journal of which this is the text. Each hold that
+    /// is open in it ends at the moment of `now`, in the order of their numbers: as Late where its
+    /// deadline has come, and else because the connector starts again. Settlements that are open stay
+    /// so.
+    ///
+    /// The refusals come in the order of `CarryFault`. A peer that isn't there, a number outside its
+    /// type, a last line without its end and a wrong count are bad at their line; a text that ends
+    /// before its last line, at the line behind its end.
+    pub fn carry_over(
+        alloc: A,
+        config: &Config,
+        text: &[u8],
+        now: i64,
+    ) -> Result<Beginning<A>, CarryFault>
+        ensures ok { IfOk result (λ b. IsCarriedOver config.now text.now now
+            (book_of b.config b.base b.journal)) }
+        ensures err { IfErr result (IsWhyNotCarried config.now text.now) }
+    {
+        let mut carrying = Carrying::new(alloc, config)?;
+        carrying.take_up_text(text)?;
+        carrying.end_holds(now)?;
+        Ok(Beginning::begun_with(carrying))
+    }
+
+    // All that was carried over, where no hold is open any more.
+    fn begun_with(carrying: Carrying<A>) -> Beginning<A>
+        requires ended { (n : ℕ) → open_hold_at carrying.entries n ≡ None }
+        ensures { book_of result.config result.base result.journal
+            ≡ begun_with carrying.config carrying.entries }
+    {
+        let Carrying {
+            config,
+            journal,
+            mut tables,
+        } = carrying;
+        let base = journal.len();
+        tables.tallies.set_base(base);
+        Beginning {
+            config,
+            base,
+            journal,
+            tables,
+        }
+    }
+}

@@ -1,0 +1,70 @@
+//! A journal that is carried over: its entries are taken up one by one.
+mod ending;
+mod judging;
+mod reading;
+
+ghost use Rattle.std.specs.Prelude.{◌≡◌, OnOk, OnErr, IfOk};
+ghost use Rattle.ilp_rules.specs.Book.{pushed};
+ghost use Rattle.ilp_rules.specs.Lawful.{IsLawful};
+ghost use Rattle.ilp_rules.specs.Judging.{carrying};
+
+use crate::tables::Tables;
+use ilp_accounts::Config;
+use ilp_journal::{Entry, Journal};
+use std::alloc::{AllocError, Allocator};
+use std::marker::Model;
+
+// No journal has an entry of this number: it is the base while what a book began with comes in.
+const BEHIND_ALL: u32 = u32::MAX;
+
+/// A book that isn't whole yet: it is lawful as far as it has come, and began with all of that. Holds
+/// may be open in it.
+#[derive(Drop)]
+pub(crate) struct Carrying<A: Allocator> {
+    pub(crate) config: Config,
+    pub(crate) journal: Journal<A>,
+    pub(crate) tables: Tables<A>,
+}
+
+impl<A: Allocator> Model for Carrying<A> {
+    ghost use Rattle.ilp_rules.specs.Book.{PlainBook};
+    ghost use Rattle.ilp_rules.specs.Judging.{behind_all};
+    ghost use Rattle.ilp_rules.specs.Parts.{AreParts, book_of};
+
+    ghost Value = { PlainBook };
+
+    ghost view = { λ c. book_of c.config behind_all c.journal };
+
+    ghost invariant = { λ c.
+        AreParts c.config behind_all c.journal c.tables.tallies c.tables.holds c.tables.keys };
+}
+
+impl<A: Allocator + Clone> Carrying<A> {
+    /// A book of no entries yet. `AllocError` tells that memory is short.
+    pub(crate) fn new(alloc: A, config: &Config) -> Result<Carrying<A>, AllocError>
+        ensures { IfOk result (λ c. c ≡ carrying config.now) }
+    {
+        let journal = Journal::new(alloc.clone()?, config.journal())?;
+        let tables = Tables::new(alloc, config, BEHIND_ALL)?;
+        Ok(Carrying {
+            config: config.copy()?,
+            journal,
+            tables,
+        })
+    }
+
+    /// Takes up an entry that may come next.
+    pub(crate) fn push(&mut self, entry: Entry) -> Result<(), AllocError>
+        requires lawful { IsLawful (pushed self.old entry) }
+        ensures ok { OnOk result (self.new ≡ pushed self.old entry) }
+        ensures err { OnErr result (self.new ≡ self.old) }
+    {
+        let number = self.journal.len();
+        let open_count = self.tables.tallies.open_count();
+        self.journal.reserve(open_count as usize + 2)?;
+        self.tables.prepare(number, &entry.what)?;
+        self.tables.apply(&self.journal, &entry);
+        self.journal.push_reserved(entry);
+        Ok(())
+    }
+}

@@ -1,0 +1,58 @@
+//! What holds of every lawful journal, and of every text that is carried over. These functions do
+//! nothing: their contracts are the laws. A law tells whoever reads the definitions what follows from
+//! them; no code needs to call it.
+
+ghost use Rattle.std.specs.Prelude.{◌≡◌, ℕ, ℤ, ◌≤◌, List, Some, None};
+ghost use Rattle.ilp_accounts.specs.Configuration.{Configuration};
+ghost use Rattle.ilp_accounts.specs.Valid.{IsValid};
+ghost use Rattle.ilp_journal.specs.declared.entry.Credited.{Credited};
+ghost use Rattle.ilp_journal.specs.Journal.{Entries, IsBase, open_hold_at};
+ghost use Rattle.ilp_journal.specs.TrialBalance.{IsBalanced};
+ghost use Rattle.ilp_rules.specs.declared.fault.CarryFault.{CarryFault};
+ghost use Rattle.ilp_rules.specs.declared.fault.CarryFault.TheVariants as CarryFault;
+ghost use Rattle.ilp_rules.specs.Book.{PlainBook, with_base};
+ghost use Rattle.ilp_rules.specs.Configured.{peer_assets};
+ghost use Rattle.ilp_rules.specs.Carried.{begun_with, carried};
+ghost use Rattle.ilp_rules.specs.Carry.{IsCarriedOver, IsWhyNotCarried};
+ghost use Rattle.ilp_rules.specs.Open.{credit_at};
+ghost use Rattle.ilp_rules.specs.Lawful.{IsLawful};
+
+/// A lawful book stays lawful where its base is raised. `ilp_journal::laws::bases_stay` says which
+/// places are bases.
+pub fn bases_can_rise()
+    ensures { (book : PlainBook) (raised : ℕ)
+        → book.base ≤ raised → IsLawful book → IsLawful (with_base book raised) }
+{}
+
+/// In a lawful book no two credits are of one peer and under one key, and the books of each asset
+/// balance.
+pub fn lawful_books()
+    ensures credited_once { (book : PlainBook) (k m : ℕ) (c d : Credited) → IsLawful book
+        → credit_at book.entries k ≡ Some c → credit_at book.entries m ≡ Some d
+        → c.peer ≡ d.peer → c.key ≡ d.key → k ≡ m }
+    ensures balanced { (book : PlainBook) (asset : ℕ) → IsLawful book
+        → IsBalanced (peer_assets book.config) book.entries asset }
+{}
+
+/// A book that is carried over is lawful, no hold is open in it, and all of its entries lie below its
+/// base.
+pub fn carried_books()
+    ensures lawful { (C : Configuration) (entries : Entries) (now : ℤ)
+        → IsValid C → IsLawful (begun_with C entries) → IsLawful (carried C entries now) }
+    ensures closed { (C : Configuration) (entries : Entries) (now : ℤ) (n : ℕ)
+        → IsLawful (begun_with C entries) → open_hold_at (carried C entries now).entries n ≡ None }
+    ensures opened { (C : Configuration) (entries : Entries) (now : ℤ)
+        → IsLawful (begun_with C entries)
+        → IsBase (carried C entries now).entries (carried C entries now).base }
+{}
+
+/// By a valid configuration a text that is carried over is refused for nothing but want of memory, and
+/// it is carried over as one book.
+pub fn texts_are_carried_in_one_way()
+    ensures refused { (C : Configuration) (text : List ℕ) (now : ℤ) (book : PlainBook)
+        (fault : CarryFault) → IsValid C → IsCarriedOver C text now book
+        → IsWhyNotCarried C text fault → fault ≡ CarryFault.Memory }
+    ensures one { (C : Configuration) (text : List ℕ) (now : ℤ) (book other : PlainBook)
+        → IsValid C → IsCarriedOver C text now book → IsCarriedOver C text now other
+        → book ≡ other }
+{}
