@@ -18,12 +18,12 @@ import time
 from pathlib import Path
 
 from cases import (bodies, clients, commands, conversations, ending, engines, journal_texts, journals, links, operating,
-                   strangers, telling, telling_of_the_book, waiting)
+                   pages, strangers, telling, telling_of_the_book, waiting)
 from cases.case import CASES, Case, Differs
 from cases.laboratory import Laboratory
 
 # Each of them lists its cases as it is read.
-PARTS = (commands, conversations, links, engines, clients, strangers, bodies, operating, journals, journal_texts,
+PARTS = (commands, pages, conversations, links, engines, clients, strangers, bodies, operating, journals, journal_texts,
          telling, telling_of_the_book, waiting, ending)
 
 # In seconds; the longest case takes a minute and some.

@@ -47,8 +47,6 @@ benchmarks() {
     done
 }
 
-run layers python3 scripts/drawing/layers.py --check
-run map python3 scripts/check_map.py
 run watching python3 scripts/check_watching.py
 run demonstration "python3 curl" scripts/demo.sh
 run cases python3 scripts/check.py "$program"
