@@ -110,9 +110,9 @@ fn send<W: Sink>(sink: &mut W, status: Status, kind: Kind, body: &[u8], deed: De
 {
     match write_response(sink, status, kind, body) {
         Ok(()) => Handled::Done { status, deed },
-        Err(_) => Handled::Fault {
-            fault: ConnectionFault::Write,
-            deed,
-        },
+        Err(_) => {
+            let fault = ConnectionFault::Write;
+            Handled::Fault { fault, deed }
+        }
     }
 }
