@@ -22,7 +22,9 @@ use Rattle.ilp_book.specs.declared.fault.AskFault.{AskFault}
 use Rattle.ilp_book.specs.Book.{PlainBook, by, granted}
 use Rattle.ilp_book.specs.HoldStep.{incoming, hold_step}
 use Rattle.ilp_book.specs.AnswerStep.{answer_step, expire_step}
-use Rattle.ilp_book.specs.SettleStep.{payment, EngineVerdict, accepted, rejected, credit_step, ask_step, close_step}
+use Rattle.ilp_settlement.specs.declared.verdict.EngineVerdict.{EngineVerdict}
+use Rattle.ilp_settlement.specs.declared.verdict.EngineVerdict.TheVariants as verdicts
+use Rattle.ilp_book.specs.SettleStep.{payment, credit_step, ask_step, close_step}
 use Rattle.ilp_offline.specs.Script.{Form, hold, answer, expire, credit, ask, close, report, silent, bad, form_of}
 use Rattle.ilp_offline.specs.Replay.{hold_reply, answer_reply, expire_reply, credit_reply, ask_reply, close_reply, hold_packet, hold_text, answer_text, credit_json, came_back, form_step, line_step}
 use Rattle.ilp_offline.specs.BadLines.{is_bad_form, is_bad, is_bad_line}
@@ -48,8 +50,8 @@ ask_replied (Ok asked) = refl
 ask_replied (Err fault) = refl
 
 close_replied : (number : ℕ) (verdict : EngineVerdict) (r : Result ℕ NotOpen) → is_bad_line (close_reply number verdict r) ≡ false
-close_replied number accepted (Ok entry) = refl
-close_replied number rejected (Ok entry) = refl
+close_replied number verdicts.Accepted (Ok entry) = refl
+close_replied number verdicts.Refused (Ok entry) = refl
 close_replied number verdict (Err refused) = refl
 
 packet_replied : (book : PlainBook) (now : ℤ) (peer : ℕ) (r : Result PlainPacket PacketFault) → is_bad_line (hold_packet book now peer r).reply ≡ false

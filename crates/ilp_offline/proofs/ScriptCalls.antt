@@ -18,7 +18,7 @@ use Rattle.ilp_journal.specs.Keys.{IsKey}
 use Rattle.ilp_accounts.specs.Configuration.{Configuration, peer_names, place_named}
 use Rattle.ilp_accounts.specs.Valid.{IsValid}
 use Rattle.ilp_book.specs.Book.{PlainBook, new_book, with_entry}
-use Rattle.ilp_book.specs.SettleStep.{EngineVerdict}
+use Rattle.ilp_settlement.specs.declared.verdict.EngineVerdict.{EngineVerdict}
 use Rattle.ilp_book.specs.Lawful.{IsLawful}
 use Rattle.ilp_book.specs.Run as run
 use Rattle.ilp_book.specs.Run.{book_after, AreAllowed}

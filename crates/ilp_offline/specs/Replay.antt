@@ -27,7 +27,9 @@ use Rattle.ilp_book.specs.declared.fault.AskFault.{AskFault}
 use Rattle.ilp_book.specs.Book.{PlainBook, new_book, by, granted, Made, says, replied_as, with_entry}
 use Rattle.ilp_book.specs.HoldStep.{incoming, hold_step}
 use Rattle.ilp_book.specs.AnswerStep.{answer_step, expire_step}
-use Rattle.ilp_book.specs.SettleStep.{payment, EngineVerdict, accepted, rejected, credit_step, ask_step, close_step}
+use Rattle.ilp_settlement.specs.declared.verdict.EngineVerdict.{EngineVerdict}
+use Rattle.ilp_settlement.specs.declared.verdict.EngineVerdict.TheVariants as verdicts
+use Rattle.ilp_book.specs.SettleStep.{payment, credit_step, ask_step, close_step}
 use Rattle.ilp_refusals.specs.declared.refusal.Refusal.{Refusal}
 use Rattle.ilp_refusals.specs.declared.refusal.Refusal.TheVariants as refusals
 use Rattle.ilp_offline.specs.declared.reply.LineReply.{LineReply}
@@ -62,8 +64,8 @@ ask_reply (Err fault) = replies.Refused (ask_refusal fault)
 
 -- the settlement is closed by this entry
 abbrev pub closed_reply : ℕ → EngineVerdict → ℕ → LineReply
-closed_reply number accepted entry = replies.Confirmed number entry
-closed_reply number rejected entry = replies.Undone number entry
+closed_reply number verdicts.Accepted entry = replies.Confirmed number entry
+closed_reply number verdicts.Refused entry = replies.Undone number entry
 
 abbrev pub close_reply : ℕ → EngineVerdict → Result ℕ NotOpen → LineReply
 close_reply number verdict (Ok entry) = closed_reply number verdict entry

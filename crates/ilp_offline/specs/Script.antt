@@ -5,7 +5,8 @@ use Rattle.std.specs.List.{list_all, slice_split, join_with_byte, onto_first}
 use Rattle.std.specs.Str.{bytes_eq}
 use Rattle.std.specs.Str.Parse.{digits_value}
 use Rattle.ilp_accounts.specs.Configuration.{place_named}
-use Rattle.ilp_book.specs.SettleStep.{EngineVerdict, accepted, rejected}
+use Rattle.ilp_settlement.specs.declared.verdict.EngineVerdict.{EngineVerdict}
+use Rattle.ilp_settlement.specs.declared.verdict.EngineVerdict.TheVariants as verdicts
 
 -- the most octets of a script
 abbrev pub most_script : ℕ
@@ -69,8 +70,8 @@ key_in text = if nat_le 1 (length text) && nat_le (length text) most_key then So
 -- what an engine says of a settlement: `yes` where it accepted it, `no` where it refused it
 abbrev pub verdict_in : List ℕ → Option EngineVerdict
 verdict_in text =
-    if bytes_eq text (codes "yes") then Some accepted
-    else (if bytes_eq text (codes "no") then Some rejected
+    if bytes_eq text (codes "yes") then Some verdicts.Accepted
+    else (if bytes_eq text (codes "no") then Some verdicts.Refused
     else None)
 
 -- some hexadecimal text; that it is one is seen where it is decoded

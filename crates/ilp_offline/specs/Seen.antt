@@ -2,7 +2,6 @@
 use Rattle.std.specs.Prelude.{◌≡◌, ℕ, List, [], ◌∷◌, Option, Some, None, option_map, ◌<◌, ⊤}
 use Rattle.std.specs.Borrow.{Bor}
 use Rattle.std.specs.List.{slice_split}
-use Rattle.ilp_book.specs.SettleStep.{verdict_of}
 use Rattle.ilp_offline.specs.declared.form.Form.{Form as Read}
 use Rattle.ilp_offline.specs.declared.form.Form.TheVariants as read
 use Rattle.ilp_offline.specs.declared.form.Fields.{Fields}
@@ -18,7 +17,7 @@ form_seen (read.Answer now number packet) = answer now number (hex_seen packet)
 form_seen (read.Expire now) = expire now
 form_seen (read.Credit now peer key json) = credit now peer key json.now
 form_seen (read.Ask now peer) = ask now peer
-form_seen (read.Close now number accepted) = close now number (verdict_of accepted)
+form_seen (read.Close now number verdict) = close now number verdict
 form_seen read.Report = report
 form_seen read.Silent = silent
 form_seen read.Bad = bad

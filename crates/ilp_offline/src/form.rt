@@ -4,7 +4,6 @@ ghost use Rattle.std.specs.Char.{is_ascii_digit};
 ghost use Rattle.std.specs.List.{list_all, slice_split};
 ghost use Rattle.ilp_accounts.specs.Configuration.{peer_names, place_named};
 ghost use Rattle.ilp_offline.specs.Script as script;
-ghost use Rattle.ilp_book.specs.SettleStep.{verdict_of};
 ghost use Rattle.ilp_journal.specs.Keys.{IsKey};
 ghost use Rattle.ilp_offline.specs.Script.{moment_digits, form_of, form_of_fields, fields_of, is_space, is_printable, number_in};
 ghost use Rattle.ilp_offline.specs.Seen.{form_seen, IsOfPeers, fields_after, field_list};
@@ -12,6 +11,7 @@ ghost use Rattle.ilp_offline.specs.Seen.{form_seen, IsOfPeers, fields_after, fie
 use crate::lines::first_place;
 use ilp_accounts::Config;
 use ilp_journal::Key;
+use ilp_settlement::EngineVerdict;
 use std::alloc::AllocError;
 use std::str;
 
@@ -51,7 +51,7 @@ pub(crate) enum Form<'a> {
     Close {
         now: i64,
         number: u32,
-        accepted: bool,
+        verdict: EngineVerdict,
     },
     Report,
     Silent,
@@ -262,23 +262,23 @@ fn close_form<'a>(now: &[u8], number: &[u8], verdict: &[u8]) -> Form<'a>
         return Form::Bad;
     };
     match verdict_in(verdict) {
-        Some(accepted) => Form::Close {
+        Some(verdict) => Form::Close {
             now: now as i64,
             number: number as u32,
-            accepted,
+            verdict,
         },
         None => Form::Bad,
     }
 }
 
-// Whether an engine accepted a settlement.
-fn verdict_in(text: &[u8]) -> Option<bool>
-    ensures { option_map verdict_of result ≡ script.verdict_in text.now }
+// What an engine says of a settlement.
+fn verdict_in(text: &[u8]) -> Option<EngineVerdict>
+    ensures { result ≡ script.verdict_in text.now }
 {
     if text == b"yes".as_slice() {
-        Some(true)
+        Some(EngineVerdict::Accepted)
     } else if text == b"no".as_slice() {
-        Some(false)
+        Some(EngineVerdict::Refused)
     } else {
         None
     }

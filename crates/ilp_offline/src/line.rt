@@ -9,7 +9,7 @@ ghost use Rattle.ilp_book.specs.declared.fault.AskFault.TheVariants as ask_fault
 ghost use Rattle.ilp_book.specs.Book.{granted, Does};
 ghost use Rattle.ilp_book.specs.Configured.{IsKnown};
 ghost use Rattle.ilp_book.specs.HoldStep.{growth_of};
-ghost use Rattle.ilp_book.specs.SettleStep.{credit_growth, ask_growth, verdict_of};
+ghost use Rattle.ilp_book.specs.SettleStep.{credit_growth, ask_growth};
 ghost use Rattle.ilp_offline.specs.Replay as replays;
 ghost use Rattle.ilp_offline.specs.Replay.{line_step};
 
@@ -22,7 +22,7 @@ use ilp_book::{
 use ilp_journal::{Cause, Key};
 use ilp_packet::Packet;
 use ilp_refusals::Refusal;
-use ilp_settlement::{Quantity, QuantityFault};
+use ilp_settlement::{EngineVerdict, Quantity, QuantityFault};
 use std::alloc::{AllocError, Allocator};
 
 // The actor that a script's entries are booked by.
@@ -62,8 +62,8 @@ pub(crate) fn run_line<A: Allocator + Copy>(
         Form::Close {
             now,
             number,
-            accepted,
-        } => Ok(close(book, now, number, accepted)),
+            verdict,
+        } => Ok(close(book, now, number, verdict)),
         Form::Report => Ok(LineReply::Report),
         Form::Silent => Ok(LineReply::Silent),
         Form::Bad => Ok(LineReply::BadLine),
@@ -217,14 +217,19 @@ fn ask_reply(outcome: Result<Asked, AskFault>) -> Result<LineReply, AllocError>
 }
 
 // What became of a settlement to a peer.
-fn close<A: Allocator>(book: &mut Book<A>, now: i64, number: u32, accepted: bool) -> LineReply
+fn close<A: Allocator>(
+    book: &mut Book<A>,
+    now: i64,
+    number: u32,
+    verdict: EngineVerdict,
+) -> LineReply
     ensures step { Does book.old book.new result
-        (replays.close_with book.old now number (verdict_of accepted)) }
+        (replays.close_with book.old now number verdict) }
 {
-    match book.settle_close(ACTOR, number, accepted, now) {
-        Ok(entry) if accepted => LineReply::Confirmed { number, entry },
-        Ok(entry) => LineReply::Undone { number, entry },
-        Err(NotOpen { closer }) => LineReply::NotOpen { number, closer },
+    match (book.settle_close(ACTOR, number, verdict, now), verdict) {
+        (Ok(entry), EngineVerdict::Accepted) => LineReply::Confirmed { number, entry },
+        (Ok(entry), EngineVerdict::Refused) => LineReply::Undone { number, entry },
+        (Err(NotOpen { closer }), _) => LineReply::NotOpen { number, closer },
     }
 }
 
