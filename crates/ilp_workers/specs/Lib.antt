@@ -2,6 +2,7 @@ pub use Rattle.ilp_link_traits.specs.Links
 pub mod Rejects
 pub mod Rows
 pub mod Worker
+pub mod Receipts
 pub mod Forwarding
 pub mod Crediting
 pub mod Messaging

@@ -235,8 +235,7 @@ pub(crate) struct Answered {
 impl Answered {
     // Time ran out before what came back was booked.
     fn late(entry: Option<u32>) -> Answered
-        ensures told { result.told ≡ late }
-        ensures entry { result.entry ≡ entry }
+        ensures { result ≡ record { told = late; entry = entry } }
     {
         Answered {
             told: Told::Reject(ToldReject::Own(LocalReject::TransferTimedOut)),

@@ -1,5 +1,6 @@
 //! What a packet that is to be forwarded is answered.
 ghost use Rattle.std.specs.Prelude.{◌≡◌};
+ghost use Rattle.ilp_workers.specs.Receipts.{unbooked};
 
 use crate::rejects::ToldReject;
 use ilp_packet::PacketFault;
@@ -31,8 +32,7 @@ pub struct Receipt {
 impl Receipt {
     // Nothing was booked.
     pub(crate) fn unbooked(rejected: Option<ToldReject>) -> Receipt
-        ensures booked { (result.hold ≡ None) × (result.answer ≡ None) }
-        ensures rejected { result.rejected ≡ rejected }
+        ensures { result ≡ unbooked rejected }
     {
         Receipt {
             hold: None,

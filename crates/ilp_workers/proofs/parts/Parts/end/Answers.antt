@@ -6,7 +6,7 @@ use Rattle.ilp_packet.specs.Packet.{plain_prepare}
 use Rattle.ilp_book.specs.declared.calls.Outcome.{Outcome}
 use Rattle.ilp_book.specs.declared.fault.NotOpen.{NotOpen}
 use Rattle.ilp_desk.specs.Portion.{holding}
-use Rattle.ilp_workers.specs.Forwarding.{order, IsAnsweredAt, record_of_end}
+use Rattle.ilp_workers.specs.Forwarding.{order, IsAnsweredAt, late, record_of_end}
 use Rattle.ilp_workers.proofs.Sessions.{ended_by}
 use Rattle.ilp_workers.proofs.parts.Parts.end.Goals as goal
 
@@ -19,8 +19,9 @@ returns-in_default-clause-ended g c =
     let fits : FitsSigned w64 later = search rules in
     let at : IsAnsweredAt o later c.args.held.now.number c.args.effect.now.answer c.args.self.now.share c.answer.new.share reply =
     subst (λ t. IsAnsweredAt o t c.args.held.now.number c.args.effect.now.answer c.args.self.now.share c.answer.new.share reply) (to_z-of_z w64 later fits) c.in_default.ensures in
-    ended_by o c.args.held.now c.args.effect.now (g.C.Clock.told c.args.self.now.clock) (g.C.Clock.told c.now-later.new.self)
-    (holding c.args.self.now.share c.args.self.now.records.items) (holding c.answer.new.share c.args.self.now.records.items) _ None later reply c.now-later.ensures at refl (refl, refl)
+    rw c.late.ensures
+    (ended_by o c.args.held.now c.args.effect.now (g.C.Clock.told c.args.self.now.clock) (g.C.Clock.told c.now-later.new.self)
+    (holding c.args.self.now.share c.args.self.now.records.items) (holding c.answer.new.share c.args.self.now.records.items) late None later reply c.now-later.ensures at refl (refl, refl))
 
 -- the hold ended otherwise than what came back says
 pub returns-then-not-same-clause-ended : goal.returns-then-not-same-clause-ended
@@ -31,9 +32,10 @@ returns-then-not-same-clause-ended g c =
     let fits : FitsSigned w64 later = search rules in
     let at : IsAnsweredAt o later c.args.held.now.number c.args.effect.now.answer c.args.self.now.share c.answer.new.share reply =
     subst (λ t. IsAnsweredAt o t c.args.held.now.number c.args.effect.now.answer c.args.self.now.share c.answer.new.share reply) (to_z-of_z w64 later fits) c.in-Ok.ensures in
-    ended_by o c.args.held.now c.args.effect.now (g.C.Clock.told c.args.self.now.clock) (g.C.Clock.told c.now-later.new.self)
-    (holding c.args.self.now.share c.args.self.now.records.items) (holding c.answer.new.share c.args.self.now.records.items) _ (Some c.end_of-entry.result.0) later reply c.now-later.ensures at
-    (ap (λ r. Some r.0) (sym c.end_of-entry.ensures)) (inr ((λ e. c.if-not-same.ensures (ap (λ r. r.1) c.end_of-entry.ensures ∙ e)), (refl, refl)))
+    rw c.late-then-not-same.ensures
+    (ended_by o c.args.held.now c.args.effect.now (g.C.Clock.told c.args.self.now.clock) (g.C.Clock.told c.now-later.new.self)
+    (holding c.args.self.now.share c.args.self.now.records.items) (holding c.answer.new.share c.args.self.now.records.items) late (Some c.end_of-entry.result.0) later reply c.now-later.ensures at
+    (ap (λ r. Some r.0) (sym c.end_of-entry.ensures)) (inr ((λ e. c.if-not-same.ensures (ap (λ r. r.1) c.end_of-entry.ensures ∙ e)), (refl, refl))))
 
 -- the hold ended by what came back
 pub returns-clause-ended : goal.returns-clause-ended

@@ -1,15 +1,15 @@
-use Rattle.std.proofs.Common.{refl, sym, ap, ◌∙◌, rules, arith, subst}
+use Rattle.std.proofs.Common.{refl, sym, ap, ◌∙◌, rules, arith, subst, to_z, of_z}
 use Rattle.std.specs.Prelude.{FitsSigned, is_some}
 use Rattle.std.specs.Int.{w64}
 use Rattle.std.proofs.lemmas.Int.{to_z-of_z}
-use Rattle.ilp_link_traits.specs.Links.{came_of}
+use Rattle.ilp_link_traits.specs.Links.{Tells, sending, came_of}
 use Rattle.ilp_workers.specs.Messaging.{message_expiry, peer_answer_of, IsPassedOn}
 use Rattle.ilp_workers.proofs.EngineMessages.{answer_came, no_answer_came, passed_on}
 use Rattle.ilp_workers.proofs.parts.Parts.send_message.Goals as goal
 
 -- an answer came
-pub returns-then-is_answered : goal.returns-then-is_answered
-returns-then-is_answered g c =
+pub returns-then-reply : goal.returns-then-reply
+returns-then-reply g c =
     let C = c.args.config.now in
     let now = c.now.result in
     let expires = c.message_expiry-expires.result in
@@ -17,14 +17,17 @@ returns-then-is_answered g c =
     let now_fits : FitsSigned w64 now = search rules in
     let fits : FitsSigned w64 expires = search rules in
     let is = to_z-of_z w64 expires fits ∙ (c.message_expiry-expires.ensures.value ∙ ap (message_expiry C) (to_z-of_z w64 now now_fits)) in
-    let passes = sym (ap (λ r. is_some (peer_answer_of (came_of c.send-came.result r))) c.as_slice.ensures) ∙ (sym c.is_answered.ensures ∙ c.if-is_answered.true) in
+    let handed = sending c.args.peer c.as_slice-packet.result.now (to_z w64 (of_z w64 expires)) (came_of c.send-came.result reply) in
+    let learned : Tells (g.U.Uplink.told c.args.self.now.uplink) handed (g.U.Uplink.told c.note_reply.new.uplink) =
+    subst (λ t. Tells (g.U.Uplink.told c.args.self.now.uplink) handed t) (sym c.note_reply.ensures) c.send-came.ensures in
+    let passes = sym (ap (λ r. is_some (peer_answer_of (came_of c.send-came.result r))) c.as_slice.ensures) ∙ (sym c.message_reply-reply.ensures.answer ∙ c.if-reply.true) in
     let answered = answer_came c.send-came.result reply passes in
-    let passed = passed_on C c.args.peer c.args.octets.now c.put_message.new.out.octets c.as_slice-packet.result.now now _ (g.U.Uplink.told c.args.self.now.uplink) (g.U.Uplink.told c.send-came.new.self) (came_of c.send-came.result reply) is c.in-Ok.ensures c.as_slice-packet.ensures c.send-came.ensures in
+    let passed = passed_on C c.args.peer c.args.octets.now c.put_message.new.out.octets c.as_slice-packet.result.now now _ (g.U.Uplink.told c.args.self.now.uplink) (g.U.Uplink.told c.note_reply.new.uplink) (came_of c.send-came.result reply) is c.in-Ok.ensures c.as_slice-packet.ensures learned in
     record {
       within = omega (arith, c.if-octets-gt-MAX_MESSAGE.false);
       now = now;
       asked = c.now.ensures;
-      over = (subst (λ came. IsPassedOn C c.args.peer c.args.octets.now now (g.U.Uplink.told c.args.self.now.uplink) (g.U.Uplink.told c.send-came.new.self) came) answered.0 passed, answered.1);
+      over = (subst (λ came. IsPassedOn C c.args.peer c.args.octets.now now (g.U.Uplink.told c.args.self.now.uplink) (g.U.Uplink.told c.note_reply.new.uplink) came) answered.0 passed, answered.1);
       share = refl;
       records = refl;
       engine = refl;
@@ -41,8 +44,11 @@ returns g c =
     let now_fits : FitsSigned w64 now = search rules in
     let fits : FitsSigned w64 expires = search rules in
     let is = to_z-of_z w64 expires fits ∙ (c.message_expiry-expires.ensures.value ∙ ap (message_expiry C) (to_z-of_z w64 now now_fits)) in
-    let fails = sym (ap (λ r. is_some (peer_answer_of (came_of c.send-came.result r))) c.as_slice.ensures) ∙ (sym c.is_answered.ensures ∙ c.if-is_answered.false) in
-    let passed = passed_on C c.args.peer c.args.octets.now c.put_message.new.out.octets c.as_slice-packet.result.now now _ (g.U.Uplink.told c.args.self.now.uplink) (g.U.Uplink.told c.send-came.new.self) came is c.in-Ok.ensures c.as_slice-packet.ensures c.send-came.ensures in
+    let handed = sending c.args.peer c.as_slice-packet.result.now (to_z w64 (of_z w64 expires)) (came_of c.send-came.result reply) in
+    let learned : Tells (g.U.Uplink.told c.args.self.now.uplink) handed (g.U.Uplink.told c.note_reply.new.uplink) =
+    subst (λ t. Tells (g.U.Uplink.told c.args.self.now.uplink) handed t) (sym c.note_reply.ensures) c.send-came.ensures in
+    let fails = sym (ap (λ r. is_some (peer_answer_of (came_of c.send-came.result r))) c.as_slice.ensures) ∙ (sym c.message_reply-reply.ensures.answer ∙ c.if-reply.false) in
+    let passed = passed_on C c.args.peer c.args.octets.now c.put_message.new.out.octets c.as_slice-packet.result.now now _ (g.U.Uplink.told c.args.self.now.uplink) (g.U.Uplink.told c.note_reply.new.uplink) came is c.in-Ok.ensures c.as_slice-packet.ensures learned in
     record {
       within = omega (arith, c.if-octets-gt-MAX_MESSAGE.false);
       now = now;

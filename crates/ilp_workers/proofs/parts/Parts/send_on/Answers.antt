@@ -1,4 +1,4 @@
-use Rattle.std.proofs.Common.{ℤ, ap, ◌∙◌, subst, rules, to_z, of_z}
+use Rattle.std.proofs.Common.{ℤ, ap, ◌∙◌, sym, subst, rules, to_z, of_z}
 use Rattle.std.specs.Prelude.{FitsSigned}
 use Rattle.std.specs.Int.{w64}
 use Rattle.std.proofs.lemmas.Int.{to_z-of_z}
@@ -23,4 +23,6 @@ returns-clause-asked g c =
     let handed : Tells (g.U.Uplink.told c.args.self.now.uplink) (sending held.to out held.deadline came) (g.U.Uplink.told c.send-came.new.self) =
     subst (λ d. Tells (g.U.Uplink.told c.args.self.now.uplink) (sending held.to out d came) (g.U.Uplink.told c.send-came.new.self)) same
     (subst (λ o. Tells (g.U.Uplink.told c.args.self.now.uplink) (sending held.to o (to_z w64 (of_z w64 held.deadline)) came) (g.U.Uplink.told c.send-came.new.self)) c.as_slice.ensures c.send-came.ensures) in
-    (c.send-came.result, record { octets = out; spelled = spelled; handed = handed }, c.effect_by.ensures ∙ ap (λ r. effect_of packet.condition (came_of c.send-came.result r)) c.as_slice-2.ensures)
+    let learned : Tells (g.U.Uplink.told c.args.self.now.uplink) (sending held.to out held.deadline came) (g.U.Uplink.told c.note_reply.new.uplink) =
+    subst (λ t. Tells (g.U.Uplink.told c.args.self.now.uplink) (sending held.to out held.deadline came) t) (sym c.note_reply.ensures) handed in
+    (c.send-came.result, record { octets = out; spelled = spelled; handed = learned }, c.effect_by-effect.ensures ∙ ap (λ r. effect_of packet.condition (came_of c.send-came.result r)) c.as_slice-2.ensures)

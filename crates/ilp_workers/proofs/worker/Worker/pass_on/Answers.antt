@@ -1,4 +1,4 @@
-use Rattle.std.proofs.Common.{ap, ◌∙◌, Some, None, sym, subst, arith}
+use Rattle.std.proofs.Common.{ap, ◌∙◌, Some, None, refl, sym, subst, arith}
 use Rattle.ilp_packet.specs.Packet.{plain_prepare}
 use Rattle.ilp_workers.specs.declared.rejects.ToldReject.TheVariants.{Own}
 use Rattle.ilp_workers.specs.declared.reply_effect.Told.TheVariants.{Reject}
@@ -38,7 +38,7 @@ returns-in-Err g c =
     (g.U.Uplink.told held.uplink) (g.U.Uplink.told new.uplink) (g.E.EngineLink.told held.engine) (g.E.EngineLink.told new.engine) reply
     c.tell.ensures.share (ap (λ r. r.items) c.tell.ensures.records) (ap g.C.Clock.told c.tell.ensures.clock)
     (ap g.U.Uplink.told c.tell.ensures.links.0) (ap g.E.EngineLink.told c.tell.ensures.links.1) in
-    rw c.unbooked.ensures.rejected
+    rw c.unbooked.ensures
     (subst (λ (w : PlainWorker). IsForwardedBy o c.args.self.now w None None (Some (Own c.in-Err.why))) (sym same)
     (subst (λ (w : PlainWorker). IsForwardedBy o w between None None (Some (Own c.in-Err.why))) c.self.view_is refused))
 
