@@ -1,21 +1,19 @@
 //! Packets that are cut short or go on, as lines of a script.
 
+use crate::configurations::configured;
 use crate::scripts::print_replayed;
 use crate::words::in_hexadecimal;
 use ilp_accounts::Config;
 use ilp_oer::{MAX_CONTENT, Octets, write_octets};
 use std::alloc::{AllocError, Global};
+use std::io;
 use std::rt::Runtime;
-use std::{fs, io};
 
 /// Prints what is said of a line with a Prepare of which digits or octets of its content are
 /// missing, or with an octet more.
 pub(crate) fn print_cuts<R: Runtime + AllocGlobal>(rt: &R) -> io::Result<()> {
-    let octets = fs::read(rt, "scripts/two_peers.toml")?;
-    match Config::read(rt.alloc(), &octets) {
-        Ok(config) => print_over(rt, &config),
-        Err(fault) => println!(rt; "no configuration: {fault}"),
-    }
+    let config = configured(rt, "scripts/two_peers.toml")?;
+    print_over(rt, &config)
 }
 
 fn print_over<R: Runtime + AllocGlobal>(rt: &R, config: &Config) -> io::Result<()> {

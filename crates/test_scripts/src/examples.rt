@@ -1,6 +1,7 @@
 //! The examples: what each configuration has, or why it is none, and what each script prints over its
 //! configuration.
 
+use crate::configurations::configured;
 use crate::scripts::print_replayed;
 use ilp_accounts::{Config, ConfigFault, explain};
 use ilp_offline::check;
@@ -8,36 +9,48 @@ use std::alloc::{AllocError, Global};
 use std::rt::Runtime;
 use std::{fs, io};
 
-const CONFIGURATIONS: [&str; 3] = ["two_peers.toml", "three_assets.toml", "settlement.toml"];
+// Configurations, and where they lie.
+const CONFIGURATIONS: [(&str, &str); 3] = [
+    ("two_peers.toml", "examples/two_peers.toml"),
+    ("three_assets.toml", "examples/three_assets.toml"),
+    ("settlement.toml", "examples/settlement.toml"),
+];
 
-// Scripts, with the configuration that each runs over.
-const SCRIPTS: [(&str, &str); 3] = [
-    ("two_peers.script", "two_peers.toml"),
-    ("three_assets.script", "three_assets.toml"),
-    ("settlement.script", "settlement.toml"),
+// Scripts, where they lie, and the configuration that each runs over.
+const SCRIPTS: [(&str, &str, &str); 3] = [
+    (
+        "two_peers.script",
+        "examples/two_peers.script",
+        "examples/two_peers.toml",
+    ),
+    (
+        "three_assets.script",
+        "examples/three_assets.script",
+        "examples/three_assets.toml",
+    ),
+    (
+        "settlement.script",
+        "examples/settlement.script",
+        "examples/settlement.toml",
+    ),
 ];
 
 /// Prints a line of each configuration, and then what each script prints.
 pub(crate) fn print_examples<R: Runtime + AllocGlobal>(rt: &R) -> io::Result<()> {
-    for name in CONFIGURATIONS {
-        print_configuration(rt, name)?;
+    for (name, path) in CONFIGURATIONS {
+        print_configuration(rt, name, path)?;
     }
-    for (script, configuration) in SCRIPTS {
-        println!(rt; "{script}:")?;
+    for (name, script, configuration) in SCRIPTS {
+        println!(rt; "{name}:")?;
         print_script(rt, script, configuration)?;
     }
     Ok(())
 }
 
-fn print_configuration<R: Runtime + AllocGlobal>(rt: &R, name: &str) -> io::Result<()> {
-    let octets = read_example(rt, name)?;
+fn print_configuration<R: Runtime + AllocGlobal>(rt: &R, name: &str, path: &str) -> io::Result<()> {
+    let octets = fs::read(rt, path)?;
     let line = line_of(rt.alloc(), &octets)?;
     println!(rt; "{name}: {line}")
-}
-
-fn read_example<R: Runtime + AllocGlobal>(rt: &R, name: &str) -> io::Result<Vec<u8>> {
-    let path = format!(in rt.alloc(); "examples/{name}")?;
-    fs::read(rt, path.as_str())
 }
 
 fn line_of(alloc: Global, octets: &[u8]) -> Result<String, AllocError> {
@@ -53,11 +66,11 @@ fn print_script<R: Runtime + AllocGlobal>(
     script: &str,
     configuration: &str,
 ) -> io::Result<()> {
-    let octets = read_example(rt, configuration)?;
-    let path = format!(in rt.alloc(); "examples/{script}")?;
-    let lines = fs::read_to_string(rt, path.as_str())?;
-    match Config::read(rt.alloc(), &octets) {
-        Ok(config) => print_replayed(rt, &config, lines.as_str()),
-        Err(fault) => println!(rt; "no configuration: {fault}"),
-    }
+    let config = configured(rt, configuration)?;
+    print_over(rt, &config, script)
+}
+
+fn print_over<R: Runtime + AllocGlobal>(rt: &R, config: &Config, script: &str) -> io::Result<()> {
+    let lines = fs::read_to_string(rt, script)?;
+    print_replayed(rt, config, lines.as_str())
 }

@@ -4,6 +4,7 @@
 //! rows are written.
 #![tactic(auto)]
 
+mod configurations;
 mod cuts;
 mod examples;
 mod packets;

@@ -1,31 +1,50 @@
 //! Small scripts, each replayed over a new book of its configuration.
 
+use crate::configurations::configured;
 use crate::words::in_hexadecimal;
-use ilp_accounts::{Config, ConfigFault};
+use ilp_accounts::Config;
 use ilp_offline::{ReplayFault, bad_lines, replay};
-use ilp_refusals::Refusal;
 use std::rt::Runtime;
 use std::{fs, io};
 
-// The names of the configurations, each of which has a file of scripts beside it.
-const CONFIGURATIONS: [&str; 11] = [
-    "two_peers",
-    "dear_peer",
-    "short_journal",
-    "deep_credit",
-    "deep_credit_short_journal",
-    "small_packets",
-    "three_assets",
-    "settlements",
-    "settlements_short_journal",
-    "settlements_scales",
-    "settlements_in_parts",
+// Configurations, and the file of scripts beside each.
+const CONFIGURATIONS: [(&str, &str); 11] = [
+    ("scripts/two_peers.toml", "scripts/two_peers.scripts"),
+    ("scripts/dear_peer.toml", "scripts/dear_peer.scripts"),
+    (
+        "scripts/short_journal.toml",
+        "scripts/short_journal.scripts",
+    ),
+    ("scripts/deep_credit.toml", "scripts/deep_credit.scripts"),
+    (
+        "scripts/deep_credit_short_journal.toml",
+        "scripts/deep_credit_short_journal.scripts",
+    ),
+    (
+        "scripts/small_packets.toml",
+        "scripts/small_packets.scripts",
+    ),
+    ("scripts/three_assets.toml", "scripts/three_assets.scripts"),
+    ("scripts/settlements.toml", "scripts/settlements.scripts"),
+    (
+        "scripts/settlements_short_journal.toml",
+        "scripts/settlements_short_journal.scripts",
+    ),
+    (
+        "scripts/settlements_scales.toml",
+        "scripts/settlements_scales.scripts",
+    ),
+    (
+        "scripts/settlements_in_parts.toml",
+        "scripts/settlements_in_parts.scripts",
+    ),
 ];
 
 /// Prints what each script prints, under its name.
 pub(crate) fn print_scripts<R: Runtime + AllocGlobal>(rt: &R) -> io::Result<()> {
-    for name in CONFIGURATIONS {
-        print_over(rt, name)?;
+    for (configuration, scripts) in CONFIGURATIONS {
+        let config = configured(rt, configuration)?;
+        print_over(rt, &config, scripts)?;
     }
     print_told(rt)?;
     print_faults(rt)
@@ -33,15 +52,16 @@ pub(crate) fn print_scripts<R: Runtime + AllocGlobal>(rt: &R) -> io::Result<()> 
 
 // Prints what is told of the lines of a script that are bad.
 fn print_told<R: Runtime + AllocGlobal>(rt: &R) -> io::Result<()> {
-    let octets = fs::read(rt, "scripts/two_peers.toml")?;
-    let script = fs::read(rt, "scripts/bad_lines.txt")?;
-    match Config::read(rt.alloc(), &octets) {
-        Ok(config) => print_bad_lines(rt, &config, &script),
-        Err(fault) => print_refused(rt, "bad_lines", fault),
-    }
+    let config = configured(rt, "scripts/two_peers.toml")?;
+    print_bad_lines(rt, &config)
 }
 
-fn print_bad_lines<R: Runtime + AllocGlobal>(
+fn print_bad_lines<R: Runtime + AllocGlobal>(rt: &R, config: &Config) -> io::Result<()> {
+    let script = fs::read(rt, "scripts/bad_lines.txt")?;
+    print_faults_of(rt, config, &script)
+}
+
+fn print_faults_of<R: Runtime + AllocGlobal>(
     rt: &R,
     config: &Config,
     script: &[u8],
@@ -52,26 +72,10 @@ fn print_bad_lines<R: Runtime + AllocGlobal>(
     Ok(())
 }
 
-// Prints what the scripts of a configuration print.
-fn print_over<R: Runtime + AllocGlobal>(rt: &R, name: &str) -> io::Result<()> {
-    let path = format!(in rt.alloc(); "scripts/{name}.toml")?;
-    let octets = fs::read(rt, path.as_str())?;
-    let path = format!(in rt.alloc(); "scripts/{name}.scripts")?;
-    let scripts = fs::read_to_string(rt, path.as_str())?;
-    match Config::read(rt.alloc(), &octets) {
-        Ok(config) => print_all(rt, &config, scripts.as_str()),
-        Err(fault) => print_refused(rt, name, fault),
-    }
-}
-
-// A configuration that is none has no scripts to run.
-fn print_refused(rt: &impl Runtime, name: &str, fault: ConfigFault) -> io::Result<()> {
-    let refusal = Refusal::from(fault);
-    println!(rt; "{name}: refused {refusal}")
-}
-
-// Each script begins with a line of `==` and its name. What stands before the first is no script.
-fn print_all<R: Runtime + AllocGlobal>(rt: &R, config: &Config, scripts: &str) -> io::Result<()> {
+// Prints what the scripts of a file print over a configuration. Each begins with a line of `==` and its
+// name. What stands before the first is no script.
+fn print_over<R: Runtime + AllocGlobal>(rt: &R, config: &Config, path: &str) -> io::Result<()> {
+    let scripts = fs::read_to_string(rt, path)?;
     for script in scripts.split("== ").skip(1) {
         print_script(rt, config, script)?;
     }
