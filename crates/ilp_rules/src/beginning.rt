@@ -1,9 +1,8 @@
 //! What a book begins with that is carried over from one run of the connector to the next.
 ghost use Rattle.std.specs.Prelude.{◌≡◌, ℕ, None, IfOk, IfErr};
-ghost use Rattle.ilp_journal.specs.Journal.{open_hold_at, IsBase};
+ghost use Rattle.ilp_journal.specs.Journal.{open_hold_at};
 ghost use Rattle.ilp_rules.specs.Carried.{begun_with};
 ghost use Rattle.ilp_rules.specs.Carry.{IsCarriedOver, IsWhyNotCarried};
-ghost use Rattle.ilp_rules.specs.Parts.{AreParts, book_of};
 
 use crate::carrying::Carrying;
 use crate::fault::CarryFault;
@@ -11,9 +10,11 @@ use crate::tables::Tables;
 use ilp_accounts::Config;
 use ilp_journal::Journal;
 use std::alloc::Allocator;
+use std::marker::Model;
 
-/// The parts of a book that begins with carried entries: it is lawful, no hold is open in it, and all
-/// of its entries lie below its base.
+/// The parts of a book that begins with carried entries, with its tables beside its journal and room in
+/// memory for whatever ends what is open. No hold is open in it, and all of its entries lie below its
+/// base.
 #[derive(Drop)]
 pub struct Beginning<A: Allocator> {
     /// What the book is configured to do.
@@ -24,8 +25,20 @@ pub struct Beginning<A: Allocator> {
     pub journal: Journal<A>,
     /// What stands beside the journal.
     pub tables: Tables<A>,
-    ghost parts: { AreParts config base journal tables.tallies tables.holds tables.keys },
-    ghost opened: { IsBase journal.entries base },
+}
+
+impl<A: Allocator> Model for Beginning<A> {
+    ghost use Rattle.ilp_journal.specs.Journal.{IsBase};
+    ghost use Rattle.ilp_rules.specs.Book.{PlainBook};
+    ghost use Rattle.ilp_rules.specs.Parts.{AreParts, book_of};
+
+    ghost Value = { PlainBook };
+
+    ghost view = { λ b. book_of b.config b.base b.journal };
+
+    ghost invariant = { λ b.
+        AreParts b.config b.base b.journal b.tables.tallies b.tables.holds b.tables.keys
+        × IsBase b.journal.entries b.base };
 }
 
 impl<A: Allocator + Clone> Beginning<A> {
@@ -43,8 +56,7 @@ impl<A: Allocator + Clone> Beginning<A> {
         text: &[u8],
         now: i64,
     ) -> Result<Beginning<A>, CarryFault>
-        ensures ok { IfOk result (λ b. IsCarriedOver config.now text.now now
-            (book_of b.config b.base b.journal)) }
+        ensures ok { IfOk result (IsCarriedOver config.now text.now now) }
         ensures err { IfErr result (IsWhyNotCarried config.now text.now) }
     {
         let mut carrying = Carrying::new(alloc, config)?;
@@ -56,8 +68,7 @@ impl<A: Allocator + Clone> Beginning<A> {
     // All that was carried over, where no hold is open any more.
     fn begun_with(carrying: Carrying<A>) -> Beginning<A>
         requires ended { (n : ℕ) → open_hold_at carrying.entries n ≡ None }
-        ensures { book_of result.config result.base result.journal
-            ≡ begun_with carrying.config carrying.entries }
+        ensures { result ≡ begun_with carrying.config carrying.entries }
     {
         let Carrying {
             config,
