@@ -1,5 +1,5 @@
 -- What is told of a response by how it was written.
-use Rattle.std.proofs.Common.{◌≡◌, ℕ, List, Option, Some, None, refl, sym, ◌∙◌, subst, arith}
+use Rattle.std.proofs.Common.{◌≡◌, ℕ, List, Option, Some, None, refl, sym, ap, ◌∙◌, subst, arith}
 use Rattle.std.specs.Prelude.{Result, Ok, Err}
 use Rattle.ilp_io.specs.Counts.{CountsUp}
 use Rattle.ilp_http.specs.declared.status.Status.{Status}
