@@ -17,6 +17,7 @@ use Rattle.ilp_journal.proofs.Naming.{hold_at-append}
 use Rattle.ilp_book.specs.Book.{PlainBook}
 use Rattle.ilp_book.specs.Configured.{peer_assets}
 use Rattle.ilp_rules.proofs.Rules.{answers_once}
+use Rattle.ilp_settlement.specs.declared.verdict.EngineVerdict.TheVariants.{Accepted, Refused}
 use Rattle.ilp_desk.specs.declared.record.Record.{Record}
 use Rattle.ilp_desk.specs.declared.record.Recorded.{Recorded}
 use Rattle.ilp_desk.specs.declared.record.AnsweredHold.{AnsweredHold}
@@ -66,8 +67,8 @@ module _ (f : Hold → ℕ) (g : AnsweredHold → ℕ) (tells : (n : ℕ) (h : H
       of (what.Released hold cause.Restart) = released_as hold cause.Restart
       of (what.Credited c) = refl
       of (what.Asked a) = refl
-      of (what.Confirmed ask) = kept n (closed ask true) (λ _. 0) (ask_at j ask) (λ a. refl) ∙ nothing (ask_at j ask)
-      of (what.Undone ask) = kept n (closed ask false) (λ _. 0) (ask_at j ask) (λ a. refl) ∙ nothing (ask_at j ask)
+      of (what.Confirmed ask) = kept n (closed ask Accepted) (λ _. 0) (ask_at j ask) (λ a. refl) ∙ nothing (ask_at j ask)
+      of (what.Undone ask) = kept n (closed ask Refused) (λ _. 0) (ask_at j ask) (λ a. refl) ∙ nothing (ask_at j ask)
 
   -- all records tell what was fulfilled
   of_entries : (n : ℕ) (es : Entries) → sum_by weight (listed j (λ _. true) n es) ≡ sum_by (λ (e : Entry). of_named j f (fulfilled e.what)) es
