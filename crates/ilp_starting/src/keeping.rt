@@ -38,8 +38,9 @@ impl<R: Host> Run<'_, R> {
 impl<R: Host> KeptRun<'_, R> {
     // Runs a connector from what the file has on, and saves it.
     fn serve(&self) -> Result<(), RunFault> {
+        let mut report = Recording::new(self.run.rt.alloc());
         match self.begin() {
-            Ok(book) => self.serve_marked(book),
+            Ok(book) => self.serve_marked(book, &mut report),
             Err(refused) => Err(RunFault::Refused(refused)),
         }
     }
@@ -75,17 +76,13 @@ impl<R: Host> KeptRun<'_, R> {
     }
 
     // Runs a connector from this book on, beside whose file there is a mark.
-    fn serve_marked(&self, book: Book) -> Result<(), RunFault>
+    fn serve_marked(&self, book: Book, report: &mut Recording) -> Result<(), RunFault>
         requires config { book.config ≡ self.now.run.config.now }
         requires opening { length book.entries ≡ book.base }
     {
-        let mut report = Recording::new(self.run.rt.alloc());
-        match self.run.serve(book, &mut report) {
+        match self.run.serve(book, report) {
             Ok(book) => self.end(&book, &report.octets),
-            Err(fault) => {
-                self.leave_unsaved(fault);
-                Err(RunFault::from(fault))
-            }
+            Err(fault) => Err(self.leave_unsaved(fault)),
         }
     }
 
@@ -107,10 +104,11 @@ impl<R: Host> KeptRun<'_, R> {
 
     // What becomes of the mark where a connector gave no book back. One that could not listen has booked
     // nothing, so its mark goes. Any other may have booked something, and the mark stays.
-    fn leave_unsaved(&self, fault: ServeFault) {
+    fn leave_unsaved(&self, fault: ServeFault) -> RunFault {
         match fault {
             ServeFault::Unprinted(Unprinted::Listen(_)) => self.file.withdraw(self.run.rt),
             _ => nothing_to_save(self.run.rt, self.path),
         }
+        RunFault::from(fault)
     }
 }
