@@ -16,9 +16,11 @@ use ilp_refusals::Refusal;
 use ilp_starting::{Host, Refused, RunFault, serve};
 use replaying::run_replay;
 use std::env;
+use std::fs::File;
 use std::io::ErrorKind;
+use std::net::{Net, TcpListener, TcpStream};
 use std::process::ExitCode;
-use std::rt::Runtime;
+use std::rt::{Files, Runtime};
 
 // What the program is asked for: a command, what it is about, and where a journal is kept.
 #[derive(Drop)]
@@ -43,16 +45,6 @@ enum Exit {
 impl From<Refusal> for Exit {
     fn from(refusal: Refusal) -> Exit {
         Exit::Refused(Refused::from(refusal))
-    }
-}
-
-// A run that did not end as it was to.
-impl From<RunFault> for Exit {
-    fn from(fault: RunFault) -> Exit {
-        match fault {
-            RunFault::Refused(refused) => Exit::Refused(refused),
-            RunFault::OutputFailed => Exit::OutputFailed,
-        }
     }
 }
 
@@ -84,7 +76,10 @@ fn given_words<R: Runtime + AllocGlobal>(rt: &R) -> Result<Words, Exit> {
 }
 
 // Runs what the words ask for.
-fn run<R: Host>(rt: &R, words: &Words) -> Exit {
+fn run<R>(rt: &R, words: &Words) -> Exit
+where
+    R: Host + Files<File = File> + Net<Listener = TcpListener, Stream = TcpStream>,
+{
     let argument = words.argument.as_ref().map(|word| word.as_str());
     let journal = words.journal.as_ref().map(|word| word.as_str());
     match (words.command.as_str(), argument, journal) {
@@ -98,16 +93,17 @@ fn run<R: Host>(rt: &R, words: &Words) -> Exit {
         ("check", Some(config), None) => run_check(rt, config),
         ("check", Some(config), Some(journal)) => run_check_journal(rt, config, journal),
         ("replay", Some(config), None) => run_replay(rt, config),
-        ("serve", Some(config), journal) => run_serve(rt, config, journal),
+        ("serve", Some(config), journal) => ended(serve(rt, config, journal)),
         _ => Exit::Misused,
     }
 }
 
-// Runs a connector until it is asked to close.
-fn run_serve<R: Host>(rt: &R, config: &str, journal: Option<&str>) -> Exit {
-    match serve(rt, config, journal) {
+// How the program ends that ran a connector.
+fn ended(served: Result<(), RunFault>) -> Exit {
+    match served {
         Ok(()) => Exit::Done,
-        Err(fault) => Exit::from(fault),
+        Err(RunFault::Refused(refused)) => Exit::Refused(refused),
+        Err(RunFault::OutputFailed) => Exit::OutputFailed,
     }
 }
 

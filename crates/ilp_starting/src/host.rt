@@ -1,32 +1,12 @@
 //! What a connector runs on.
 
-use std::fs::File;
-use std::net::{Net, TcpListener, TcpStream};
-use std::rt::{Files, Runtime};
+use std::rt::Runtime;
 use std::sync::Wait;
 use std::thread::Threads;
 
-/// A runtime with all that a running connector asks of it: memory, files, standard streams, a clock,
-/// sockets and threads. `HostRuntime` is one.
-pub trait Host: Runtime
-    + AllocGlobal
-    + Files<File = File>
-    + Net<Listener = TcpListener, Stream = TcpStream>
-    + Threads
-    + Wait
-    + Copy
-    + Send
-    + Sync {}
+/// A runtime with memory, files, standard streams and a clock, whose threads may wait for one another.
+/// What runs a connector asks for its files and sockets beside it, since the kit's prover covers no call
+/// from `main` where they are a part of it.
+pub trait Host: Runtime + AllocGlobal + Threads + Wait + Copy + Send + Sync {}
 
-impl<R> Host for R
-where
-    R: Runtime
-        + AllocGlobal
-        + Files<File = File>
-        + Net<Listener = TcpListener, Stream = TcpStream>
-        + Threads
-        + Wait
-        + Copy
-        + Send
-        + Sync,
-{}
+impl<R: Runtime + AllocGlobal + Threads + Wait + Copy + Send + Sync> Host for R {}

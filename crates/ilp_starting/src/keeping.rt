@@ -13,29 +13,33 @@ use ilp_link_traits::Clock;
 use ilp_links::SystemClock;
 use ilp_notices::{journal_absent, journal_carried, nothing_to_save};
 use ilp_running::{ServeFault, Unprinted};
+use std::fs::File;
+use std::net::{Net, TcpListener, TcpStream};
+use std::rt::Files;
 
-// A run, and the file of its journal, which no other connector has.
+/// A run, and the file of its journal, which no other connector has.
 #[derive(Clone, Copy)]
-struct KeptRun<'r, R> {
+pub(crate) struct KeptRun<'r, R> {
     run: Run<'r, R>,
     file: &'r JournalFile,
     path: &'r str,
 }
 
-impl<R: Host> Run<'_, R> {
+impl<'r, R> KeptRun<'r, R>
+where
+    R: Host + Files<File = File> + Net<Listener = TcpListener, Stream = TcpStream>,
+{
     /// Runs a connector from the journal at this path on, and saves that in the end.
-    pub(crate) fn serve_journal(&self, path: &str) -> Result<(), RunFault> {
-        let file = JournalFile::take(self.rt, self.rt.alloc(), path)?;
+    pub(crate) fn serve_journal(run: Run<'r, R>, path: &str) -> Result<(), RunFault> {
+        let file = JournalFile::take(run.rt, run.rt.alloc(), path)?;
         let kept = KeptRun {
-            run: *self,
+            run,
             file: &file,
             path,
         };
         kept.serve()
     }
-}
 
-impl<R: Host> KeptRun<'_, R> {
     // Runs a connector from what the file has on, and saves it.
     fn serve(&self) -> Result<(), RunFault> {
         let mut report = Recording::new(self.run.rt.alloc());

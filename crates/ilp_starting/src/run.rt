@@ -13,7 +13,9 @@ use ilp_io::{Recording, WriteFault, put_all};
 use ilp_links::{Hurry, SystemClock, TcpLinks};
 use ilp_notices::{Notices, no_journal, report_follows};
 use ilp_running::{ServeFault, Unprinted};
-use std::rt::Runtime;
+use std::fs::File;
+use std::net::{Net, TcpListener, TcpStream};
+use std::rt::{Files, Runtime};
 use std::{io, str};
 
 // The most octets of a report: two lines for each of 256 peers, five for each of 64 assets and two more,
@@ -28,7 +30,10 @@ pub(crate) struct Run<'r, R> {
     pub(crate) notices: &'r Notices,
 }
 
-impl<R: Host> Run<'_, R> {
+impl<R> Run<'_, R>
+where
+    R: Host + Files<File = File> + Net<Listener = TcpListener, Stream = TcpStream>,
+{
     /// Runs a connector over a new book, and forgets what it booked.
     pub(crate) fn serve_once(&self) -> Result<(), RunFault> {
         match new_book(self.rt.alloc(), self.config) {

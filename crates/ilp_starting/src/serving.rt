@@ -2,10 +2,14 @@
 
 use crate::configuring::noticed;
 use crate::host::Host;
+use crate::keeping::KeptRun;
 use crate::refused::RunFault;
 use crate::run::Run;
 use ilp_accounts::Config;
 use ilp_notices::Notices;
+use std::fs::File;
+use std::net::{Net, TcpListener, TcpStream};
+use std::rt::Files;
 
 /// Runs a connector of the configuration at this path until it is asked to close, and prints its report.
 /// Where there is a path of a journal, it begins with what that has, and saves it in the end, whatever
@@ -13,17 +17,19 @@ use ilp_notices::Notices;
 ///
 /// Refusals: those of `configured`; of the journal's file and its text, before anything runs; and why a
 /// connector gave no book back (`ilp_running::ServeFault`). Then nothing is saved.
-pub fn serve<R: Host>(rt: &R, path: &str, journal: Option<&str>) -> Result<(), RunFault> {
+pub fn serve<R>(rt: &R, path: &str, journal: Option<&str>) -> Result<(), RunFault>
+where
+    R: Host + Files<File = File> + Net<Listener = TcpListener, Stream = TcpStream>,
+{
     let config = noticed(rt, path)?;
     serve_configured(rt, &config, journal)
 }
 
 // The same of a configuration that was read.
-fn serve_configured<R: Host>(
-    rt: &R,
-    config: &Config,
-    journal: Option<&str>,
-) -> Result<(), RunFault> {
+fn serve_configured<R>(rt: &R, config: &Config, journal: Option<&str>) -> Result<(), RunFault>
+where
+    R: Host + Files<File = File> + Net<Listener = TcpListener, Stream = TcpStream>,
+{
     let notices = Notices::new(rt.alloc(), config)?;
     let run = Run {
         rt,
@@ -31,7 +37,7 @@ fn serve_configured<R: Host>(
         notices: &notices,
     };
     match journal {
-        Some(path) => run.serve_journal(path),
+        Some(path) => KeptRun::serve_journal(run, path),
         None => run.serve_once(),
     }
 }
