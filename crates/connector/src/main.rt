@@ -5,12 +5,14 @@
 //! `ilp_starting`.
 #![tactic(auto)]
 
+mod asking;
 mod checking;
 mod helping;
 mod replaying;
 
+use asking::{Asked, Words};
 use checking::{run_check, run_check_journal};
-use helping::{USAGE, is_help, run_help, run_version};
+use helping::{USAGE, run_help, run_version};
 use ilp_offline::{describe_packet, reject_words};
 use ilp_refusals::Refusal;
 use ilp_starting::{Host, Refused, RunFault, serve};
@@ -21,14 +23,6 @@ use std::io::ErrorKind;
 use std::net::{Net, TcpListener, TcpStream};
 use std::process::ExitCode;
 use std::rt::{Files, Runtime};
-
-// What the program is asked for: a command, what it is about, and where a journal is kept.
-#[derive(Drop)]
-struct Words {
-    command: String,
-    argument: Option<String>,
-    journal: Option<String>,
-}
 
 // How the program ends.
 #[derive(Drop)]
@@ -80,21 +74,25 @@ fn run<R>(rt: &R, words: &Words) -> Exit
 where
     R: Host + Files<File = File> + Net<Listener = TcpListener, Stream = TcpStream>,
 {
-    let argument = words.argument.as_ref().map(|word| word.as_str());
-    let journal = words.journal.as_ref().map(|word| word.as_str());
-    match (words.command.as_str(), argument, journal) {
-        ("help", _, None) | ("-h" | "--help", None, None) => run_help(rt),
-        ("--version", None, None) => run_version(rt),
-        ("packet" | "check" | "replay" | "serve", Some(word), None) if is_help(word) => run_help(
-            rt,
-        ),
-        ("check" | "serve", Some(_), Some(word)) if is_help(word) => run_help(rt),
-        ("packet", Some(text), None) => run_packet(rt, text),
-        ("check", Some(config), None) => run_check(rt, config),
-        ("check", Some(config), Some(journal)) => run_check_journal(rt, config, journal),
-        ("replay", Some(config), None) => run_replay(rt, config),
-        ("serve", Some(config), journal) => ended(serve(rt, config, journal)),
-        _ => Exit::Misused,
+    match words.asked() {
+        Some(asked) => run_asked(rt, asked),
+        None => Exit::Misused,
+    }
+}
+
+// Runs what the program is asked for.
+fn run_asked<R>(rt: &R, asked: Asked<'_>) -> Exit
+where
+    R: Host + Files<File = File> + Net<Listener = TcpListener, Stream = TcpStream>,
+{
+    match asked {
+        Asked::Help => run_help(rt),
+        Asked::Version => run_version(rt),
+        Asked::Packet(text) => run_packet(rt, text),
+        Asked::Check(config, None) => run_check(rt, config),
+        Asked::Check(config, Some(journal)) => run_check_journal(rt, config, journal),
+        Asked::Replay(config) => run_replay(rt, config),
+        Asked::Serve(config, journal) => ended(serve(rt, config, journal)),
     }
 }
 

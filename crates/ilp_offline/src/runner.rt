@@ -4,15 +4,16 @@ ghost use Rattle.std.specs.Io.KnownBytes.{Appends};
 ghost use Rattle.ilp_io.specs.Counts.{TalliesUpTo, CountsUp};
 ghost use Rattle.ilp_io.specs.Writing.{AppendsPrefix};
 ghost use Rattle.ilp_io.specs.Reading.{ConsumesFirst};
-ghost use Rattle.ilp_offline.specs.Script.{most_script};
-ghost use Rattle.ilp_offline.specs.Replay.{text_of, Replays, Stops, failed_reads, failed_writes, fault_refusal};
+ghost use Rattle.ilp_offline.specs.Script.{most_script, lines_of};
+ghost use Rattle.ilp_offline.specs.Replay.{text_of, text_from, line_text, after_line};
+ghost use Rattle.ilp_offline.specs.Replay.{Replays, Stops, failed_reads, failed_writes, fault_refusal};
 
 use crate::line::run_line;
 use crate::lines::split_line;
 use crate::reply::reply_text;
 use ilp_accounts::Config;
 use ilp_book::Book;
-use ilp_io::{ReadFault, Sink, Source, put_all, read_to_limit};
+use ilp_io::{ReadFault, Sink, Source, WriteFault, put_all, read_to_limit};
 use ilp_refusals::Refusal;
 use std::alloc::Allocator;
 use std::error::Error;
@@ -127,19 +128,57 @@ fn run<W: Sink, A: Allocator + Copy>(
     let Ok(mut book) = Book::new(alloc, config) else {
         return Err(ReplayFault::Memory);
     };
-    let mut rest = script;
+    print_lines(alloc, &mut book, script, writer)
+}
+
+// Runs the lines of a text on a book, and writes what each prints.
+fn print_lines<W: Sink, A: Allocator + Copy>(
+    alloc: A,
+    book: &mut Book<A>,
+    text: &[u8],
+    writer: &mut W,
+) -> Result<(), ReplayFault>
+    ensures whole { OnOk result (Appends (W.contents writer.old) (W.contents writer.new)
+        (text_from book.old (lines_of text.now))) }
+    ensures part { OnErr result (AppendsPrefix (W.contents writer.old) (W.contents writer.new)
+        (text_from book.old (lines_of text.now))) }
+    ensures writes { CountsUp (W.failures writer.old) (W.failures writer.new) (failed_writes result) }
+    ensures no_read { result ≢ Err ReplayFault.ReadFault }
+    ensures not_long { result ≢ Err ReplayFault.ScriptTooLong }
+{
+    let mut rest = text;
     while !rest.is_empty() {
         let (line, more) = split_line(rest);
-        let Ok(reply) = run_line(alloc, &mut book, line) else {
-            return Err(ReplayFault::Memory);
-        };
-        let Ok(text) = reply_text(alloc, &book, reply) else {
-            return Err(ReplayFault::Memory);
-        };
-        let Ok(()) = put_all(writer, &text) else {
-            return Err(ReplayFault::WriteFault);
-        };
+        print_line(alloc, book, line, writer)?;
         rest = more;
     }
     Ok(())
+}
+
+// Runs a line on a book, and writes what it prints.
+fn print_line<W: Sink, A: Allocator + Copy>(
+    alloc: A,
+    book: &mut Book<A>,
+    line: &[u8],
+    writer: &mut W,
+) -> Result<(), ReplayFault>
+    ensures whole { OnOk result
+        (Appends (W.contents writer.old) (W.contents writer.new) (line_text book.old line.now)) }
+    ensures booked { OnOk result (book.new ≡ after_line book.old line.now) }
+    ensures part { OnErr result
+        (AppendsPrefix (W.contents writer.old) (W.contents writer.new) (line_text book.old line.now)) }
+    ensures writes { CountsUp (W.failures writer.old) (W.failures writer.new) (failed_writes result) }
+    ensures no_read { result ≢ Err ReplayFault.ReadFault }
+    ensures not_long { result ≢ Err ReplayFault.ScriptTooLong }
+{
+    let Ok(reply) = run_line(alloc, book, line) else {
+        return Err(ReplayFault::Memory);
+    };
+    let Ok(text) = reply_text(alloc, book, reply) else {
+        return Err(ReplayFault::Memory);
+    };
+    match put_all(writer, &text) {
+        Ok(()) => Ok(()),
+        Err(WriteFault) => Err(ReplayFault::WriteFault),
+    }
 }

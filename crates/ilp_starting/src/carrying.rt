@@ -1,7 +1,9 @@
 //! The book that a connector begins with.
-ghost use Rattle.std.specs.Prelude.{◌≡◌, length, option_map, IfOk};
+ghost use Rattle.std.specs.Prelude.{◌≡◌, length, option_map, IfOk, IfErr};
 ghost use Rattle.ilp_book.specs.Book.{new_book};
-ghost use Rattle.ilp_starting.specs.Beginning.{BeginsWith};
+ghost use Rattle.ilp_refusals.specs.Refusals.{carry_refusal};
+ghost use Rattle.ilp_refusals.specs.declared.refusal.Refusal.TheVariants as refusals;
+ghost use Rattle.ilp_starting.specs.Beginning.{BeginsWith, IsWhyNotBegun};
 
 use crate::expecting::expected_at;
 use crate::refused::Refused;
@@ -44,6 +46,8 @@ pub fn book_of(
     now: i64,
 ) -> Result<Book, Refused>
     ensures begins { IfOk result (BeginsWith config.now (option_map (λ t. t.items) text) now) }
+    ensures refused { IfErr result
+        (λ r. IsWhyNotBegun config.now (option_map (λ t. t.items) text) r.refusal) }
     ensures config { IfOk result (λ b. b.config ≡ config.now) }
     ensures opening { IfOk result (λ b. length b.entries ≡ b.base) }
 {
@@ -58,7 +62,8 @@ pub fn book_of(
 
 /// A book in which nothing was booked.
 pub(crate) fn new_book(alloc: Global, config: &Config) -> Result<Book, Refused>
-    ensures { IfOk result (λ b. b ≡ new_book config.now) }
+    ensures begins { IfOk result (λ b. b ≡ new_book config.now) }
+    ensures refused { IfErr result (λ r. r.refusal ≡ refusals.Memory) }
 {
     match Book::new(alloc, config) {
         Ok(book) => Ok(book),
@@ -68,7 +73,9 @@ pub(crate) fn new_book(alloc: Global, config: &Config) -> Result<Book, Refused>
 
 // Why a journal is not carried over, with the line of the file at which that shows. The first line of a
 // journal is none of an entry.
-fn not_carried(alloc: Global, path: &str, text: &[u8], fault: CarryFault) -> Refused {
+fn not_carried(alloc: Global, path: &str, text: &[u8], fault: CarryFault) -> Refused
+    ensures { result.refusal ≡ carry_refusal fault }
+{
     let why = match fault {
         CarryFault::BadJournalText { line } => match expected_at(alloc, text, line) {
             Ok(expected) => format!(in alloc; "{path:?} line {line}: expected {expected}"),

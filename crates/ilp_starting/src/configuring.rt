@@ -1,8 +1,7 @@
 //! Where a configuration comes from.
-ghost use Rattle.std.specs.Prelude.{◌≡◌, IfOk, Some};
 ghost use Rattle.toml.specs.Data.{Members};
-ghost use Rattle.ilp_accounts.specs.Configuration.{configuration};
-ghost use Rattle.ilp_accounts.specs.Faults.{IsToml, first_fault};
+ghost use Rattle.ilp_accounts.specs.Faults.{IsToml};
+ghost use Rattle.ilp_starting.specs.Configuring.{IsConfigured, IsNoConfiguration};
 
 use crate::refused::Refused;
 use crate::warning::{Telling, tell_warnings};
@@ -44,7 +43,8 @@ pub(crate) fn noticed<R: Runtime + AllocGlobal>(rt: &R, path: &str) -> Result<Co
 /// The configuration of these octets. It is refused by its first fault, with where that is and what was
 /// expected there as its line.
 pub fn config_of(alloc: Global, octets: &[u8]) -> Result<Config, Refused>
-    ensures { (t : Members) → IsToml octets.now t → IfOk result (λ c. c ≡ configuration t) }
+    ensures toml { (t : Members) → IsToml octets.now t → IsConfigured t result }
+    ensures other { ((t : Members) → ¬ IsToml octets.now t) → IsNoConfiguration result }
 {
     match Config::read(alloc, octets) {
         Ok(config) => Ok(config),

@@ -7,8 +7,10 @@
 //! # What is proved
 //!
 //! - `book_of`: where there is no text of a journal a connector begins with a new book, else with
-//!   the one as which that text is carried over at a time (`specs/Beginning.antt`, `BeginsWith`).
-//!   `config_of` gives the configuration of the octets that TOML reads.
+//!   the one as which that text is carried over at a time; where it is refused, the refusal names why
+//!   the text is not carried over (`specs/Beginning.antt`, `BeginsWith`, `IsWhyNotBegun`).
+//! - `config_of`: the configuration of the octets, or the refusal by their first fault or for want of
+//!   memory (`specs/Configuring.antt`).
 //! - Of a private function, `Run::serve`: the book that is given back is a closed one of a desk
 //!   that was opened with that journal (`IsClosed`), and the report is that book's.
 //! - All else is proved safe, and no more.

@@ -50,6 +50,11 @@ impl From<Refusal> for Refused {
 
 /// Memory was denied.
 impl From<AllocError> for Refused {
+    ghost use Rattle.std.specs.Prelude.{◌≡◌};
+    ghost use Rattle.ilp_refusals.specs.declared.refusal.Refusal.TheVariants as refusals;
+
+    ghost from_gives = { λ _ result. result.refusal ≡ refusals.Memory };
+
     fn from(_denied: AllocError) -> Refused {
         Refused::from(Refusal::Memory)
     }

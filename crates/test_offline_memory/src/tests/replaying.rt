@@ -145,6 +145,35 @@ fn a_journal_that_fills(rt: HostRuntime) -> Result<(), Fail> {
     replay_each(&rt, script.as_str(), text.as_str())
 }
 
+// A replay of which one growth is denied: how it ended, and what became of reader and writer.
+#[derive(Drop)]
+struct Attempt {
+    // Whether the growth was made, and so denied.
+    is_denied: bool,
+    outcome: Result<(), ReplayFault>,
+    written: Vec<u8>,
+    failed_reads: u64,
+    failed_writes: u64,
+}
+
+// Replays what a reader has. The growth behind as many as are granted is denied.
+fn attempted(alloc: Global, config: &Config, mut reader: Pieces<'_>, granted: u64) -> Attempt {
+    let heap = DenyingAllocator::after(alloc, granted);
+    let mut writer = Recording::new(alloc);
+    let outcome = replay(&heap, config, &mut reader, &mut writer);
+    let Recording {
+        octets: written,
+        failures: failed_writes,
+    } = writer;
+    Attempt {
+        is_denied: heap.has_denied(),
+        outcome,
+        written,
+        failed_reads: reader.failures,
+        failed_writes,
+    }
+}
+
 // Replays with each growth denied in turn. What is written until then is a front of the text,
 // of whole lines, and no shorter than where an earlier growth was denied.
 fn replay_each(rt: &(impl Abort + AllocGlobal), script: &str, text: &str) -> Result<(), Fail> {
@@ -160,31 +189,40 @@ fn replay_over_each(
 ) -> Result<(), Fail> {
     let mut before = 0;
     for granted in 0..GROWTHS {
-        let heap = DenyingAllocator::after(rt.alloc(), granted);
-        let mut reader = Pieces::new(script.as_bytes(), PIECE);
-        let mut writer = Recording::new(rt.alloc());
-        let outcome = replay(&heap, config, &mut reader, &mut writer);
-        let written = writer.octets.as_slice();
-        assert_eq!(rt; (reader.failures, writer.failures), (0, 0));
-        if !heap.has_denied() {
-            assert_eq!(rt; outcome, Ok(()));
-            assert_eq!(rt; written, text.as_bytes());
+        let reader = Pieces::new(script.as_bytes(), PIECE);
+        let attempt = attempted(rt.alloc(), config, reader, granted);
+        if !attempt.is_denied {
             assert!(rt; granted > 1);
+            whole(rt, &attempt, text);
             return Ok(());
         }
-        assert_eq!(rt;
-            outcome,
-            Err(ReplayFault::Memory),
-            "after {granted} growths"
-        );
-        assert!(rt; text.as_bytes().starts_with(written));
-        assert!(rt; written.len() < text.len());
-        assert!(rt; written.is_empty() || written.ends_with(b"\n"));
-        assert!(rt; before <= written.len(), "after {granted} growths");
-        before = written.len();
+        assert!(rt; before <= attempt.written.len(), "after {granted} growths");
+        denied(rt, &attempt, text, granted);
+        before = attempt.written.len();
     }
     assert!(rt; false, "some growth was always denied");
     Ok(())
+}
+
+// A replay of which no growth was denied writes the text.
+fn whole(rt: &impl Abort, attempt: &Attempt, text: &str) {
+    assert_eq!(rt; attempt.outcome, Ok(()));
+    assert_eq!(rt; attempt.written.as_slice(), text.as_bytes());
+    assert_eq!(rt; (attempt.failed_reads, attempt.failed_writes), (0, 0));
+}
+
+// One of which a growth was denied writes a front of it.
+fn denied(rt: &impl Abort, attempt: &Attempt, text: &str, granted: u64) {
+    let written = attempt.written.as_slice();
+    assert_eq!(rt;
+        attempt.outcome,
+        Err(ReplayFault::Memory),
+        "after {granted} growths"
+    );
+    assert_eq!(rt; (attempt.failed_reads, attempt.failed_writes), (0, 0));
+    assert!(rt; text.as_bytes().starts_with(written));
+    assert!(rt; written.len() < text.len());
+    assert!(rt; written.is_empty() || written.ends_with(b"\n"));
 }
 
 #[test]
@@ -202,29 +240,43 @@ fn sink_over_each(
     let mut failed_writes = 0u64;
     for granted in 0..GROWTHS {
         let heap = DenyingAllocator::after(rt.alloc(), granted);
-        let mut reader = Pieces::new(script.as_bytes(), PIECE);
-        let mut writer = Recording::new(&heap);
-        let outcome = replay(&heap, config, &mut reader, &mut writer);
-        let written = writer.octets.as_slice();
+        let failed = into_sink(rt, &heap, config, script);
         if !heap.has_denied() {
-            assert_eq!(rt; outcome, Ok(()));
-            assert_eq!(rt; written, EACH_TEXT.as_bytes());
-            assert_eq!(rt; writer.failures, 0);
+            assert!(rt; failed.is_none());
             assert!(rt; failed_writes > 1);
             return Ok(());
         }
-        let fault = if writer.failures == 0 {
-            ReplayFault::Memory
-        } else {
-            ReplayFault::WriteFault
-        };
-        assert_eq!(rt; outcome, Err(fault), "after {granted} growths");
-        assert!(rt; EACH_TEXT.as_bytes().starts_with(written));
-        assert!(rt; written.len() < EACH_TEXT.len());
-        failed_writes = failed_writes.saturating_add(writer.failures);
+        assert!(rt; failed.is_some(), "after {granted} growths");
+        failed_writes = failed_writes.saturating_add(failed.unwrap_or(0));
     }
     assert!(rt; false, "some growth was always denied");
     Ok(())
+}
+
+// Replays into a sink of the same memory. It writes the whole text, or a front of it and tells how many
+// writes failed.
+fn into_sink(
+    rt: &impl Abort,
+    heap: &DenyingAllocator<Global>,
+    config: &Config,
+    script: &str,
+) -> Option<u64> {
+    let mut reader = Pieces::new(script.as_bytes(), PIECE);
+    let mut writer = Recording::new(heap);
+    let outcome = replay(heap, config, &mut reader, &mut writer);
+    let written = writer.octets.as_slice();
+    let failures = writer.failures;
+    assert!(rt; EACH_TEXT.as_bytes().starts_with(written));
+    assert_eq!(rt; outcome.is_ok(), written.len() == EACH_TEXT.len());
+    match outcome {
+        Ok(()) => None,
+        Err(fault) => {
+            let is_write = fault == ReplayFault::WriteFault;
+            assert!(rt; is_write || fault == ReplayFault::Memory);
+            assert_eq!(rt; failures, u64::from(is_write));
+            Some(failures)
+        }
+    }
 }
 
 #[test]
@@ -240,26 +292,28 @@ fn fail_over_each(
     script: &str,
 ) -> Result<(), Fail> {
     for granted in 0..GROWTHS {
-        let heap = DenyingAllocator::after(rt.alloc(), granted);
-        let mut reader = Pieces::failing(script.as_bytes(), PIECE, script.len());
-        let mut writer = Recording::new(rt.alloc());
-        let outcome = replay(&heap, config, &mut reader, &mut writer);
-        assert!(rt; writer.octets.is_empty());
-        if !heap.has_denied() {
-            assert_eq!(rt; outcome, Err(ReplayFault::ReadFault));
-            assert_eq!(rt; reader.failures, 1);
+        let reader = Pieces::failing(script.as_bytes(), PIECE, script.len());
+        let attempt = attempted(rt.alloc(), config, reader, granted);
+        unwritten(rt, &attempt, ReplayFault::ReadFault);
+        assert_eq!(rt; attempt.failed_reads, u64::from(!attempt.is_denied));
+        if !attempt.is_denied {
             assert!(rt; granted > 1);
             return Ok(());
         }
-        assert_eq!(rt;
-            outcome,
-            Err(ReplayFault::Memory),
-            "after {granted} growths"
-        );
-        assert_eq!(rt; reader.failures, 0);
     }
     assert!(rt; false, "some growth was always denied");
     Ok(())
+}
+
+// Nothing is written by a replay that is denied memory, or else stopped by this.
+fn unwritten(rt: &impl Abort, attempt: &Attempt, fault: ReplayFault) {
+    let fault = if attempt.is_denied {
+        ReplayFault::Memory
+    } else {
+        fault
+    };
+    assert_eq!(rt; attempt.outcome, Err(fault));
+    assert!(rt; attempt.written.is_empty());
 }
 
 #[test]
@@ -275,21 +329,13 @@ fn stop_over_each(
     script: &[u8],
 ) -> Result<(), Fail> {
     for granted in 0..GROWTHS {
-        let heap = DenyingAllocator::after(rt.alloc(), granted);
-        let mut reader = script;
-        let mut writer = Recording::new(rt.alloc());
-        let outcome = replay(&heap, config, &mut reader, &mut writer);
-        assert!(rt; writer.octets.is_empty());
-        if !heap.has_denied() {
-            assert_eq!(rt; outcome, Err(ReplayFault::ScriptTooLong));
+        let reader = Pieces::new(script, 65_536);
+        let attempt = attempted(rt.alloc(), config, reader, granted);
+        unwritten(rt, &attempt, ReplayFault::ScriptTooLong);
+        if !attempt.is_denied {
             assert!(rt; granted > 1);
             return Ok(());
         }
-        assert_eq!(rt;
-            outcome,
-            Err(ReplayFault::Memory),
-            "after {granted} growths"
-        );
     }
     assert!(rt; false, "some growth was always denied");
     Ok(())

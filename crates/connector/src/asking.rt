@@ -1,0 +1,72 @@
+//! What the program is asked for.
+
+use crate::helping::is_help;
+
+/// The words that the program is started with: a command, what it is about, and where a journal is kept.
+#[derive(Drop)]
+pub(crate) struct Words {
+    pub(crate) command: String,
+    pub(crate) argument: Option<String>,
+    pub(crate) journal: Option<String>,
+}
+
+/// A command and what it is about.
+#[derive(Clone, Copy)]
+pub(crate) enum Asked<'w> {
+    Help,
+    Version,
+    /// Of a packet in hexadecimal.
+    Packet(&'w str),
+    /// Of the paths of a configuration and of a journal.
+    Check(&'w str, Option<&'w str>),
+    /// Of the path of a configuration.
+    Replay(&'w str),
+    /// Of the paths of a configuration and of a journal.
+    Serve(&'w str, Option<&'w str>),
+}
+
+impl Words {
+    /// What these words ask for; none where they are no command.
+    pub(crate) fn asked(&self) -> Option<Asked<'_>> {
+        let command = self.command.as_str();
+        match (&self.argument, &self.journal) {
+            (None, _) => asked_alone(command),
+            (Some(argument), None) => asked_of(command, argument.as_str()),
+            (Some(config), Some(journal)) => {
+                asked_with_journal(command, config.as_str(), journal.as_str())
+            }
+        }
+    }
+}
+
+// What a command asks for that stands alone.
+fn asked_alone<'w>(command: &str) -> Option<Asked<'w>> {
+    match command {
+        "help" | "-h" | "--help" => Some(Asked::Help),
+        "--version" => Some(Asked::Version),
+        _ => None,
+    }
+}
+
+// What a command and one word ask for.
+fn asked_of<'w>(command: &str, argument: &'w str) -> Option<Asked<'w>> {
+    match command {
+        "help" => Some(Asked::Help),
+        "packet" | "check" | "replay" | "serve" if is_help(argument) => Some(Asked::Help),
+        "packet" => Some(Asked::Packet(argument)),
+        "check" => Some(Asked::Check(argument, None)),
+        "replay" => Some(Asked::Replay(argument)),
+        "serve" => Some(Asked::Serve(argument, None)),
+        _ => None,
+    }
+}
+
+// What a command and the paths of a configuration and a journal ask for.
+fn asked_with_journal<'w>(command: &str, config: &'w str, journal: &'w str) -> Option<Asked<'w>> {
+    match command {
+        "check" | "serve" if is_help(journal) => Some(Asked::Help),
+        "check" => Some(Asked::Check(config, Some(journal))),
+        "serve" => Some(Asked::Serve(config, Some(journal))),
+        _ => None,
+    }
+}
