@@ -186,10 +186,15 @@ const EACH_LAST: [Last; 7] = [
 enum Ending {
     Answer,
     Sweep,
-    Close,
+    Close(EngineVerdict),
 }
 
-const EACH_ENDING: [Ending; 3] = [Ending::Answer, Ending::Sweep, Ending::Close];
+const EACH_ENDING: [Ending; 4] = [
+    Ending::Answer,
+    Ending::Sweep,
+    Ending::Close(EngineVerdict::Accepted),
+    Ending::Close(EngineVerdict::Refused),
+];
 
 #[test]
 fn ending_takes_no_memory_after_any_entry(rt: HostRuntime) -> Result<(), Fail> {
@@ -266,7 +271,7 @@ fn end_by<A: Allocator>(rt: &impl Abort, book: &mut Book<A>, ending: Ending) {
             assert_eq!(rt; outcome, Ok(Outcome::Fulfilled { entry }));
         }
         Ending::Sweep => assert!(rt; book.expire_one(0, DEADLINE).is_some()),
-        Ending::Close => close(rt, book, FILLED + 6, EngineVerdict::Accepted),
+        Ending::Close(verdict) => close(rt, book, FILLED + 6, verdict),
     }
 }
 
