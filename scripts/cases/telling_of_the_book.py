@@ -18,8 +18,8 @@ JOURNAL_WITHIN = 2.0 + 1.5
 
 @case
 def lines_of_credits(laboratory: Laboratory) -> None:
-    """Each credit that is booked is told once, by the number of its entry; one that is told again or is
-    refused is not."""
+    """Each credit that is booked is told once, by the number of its entry, with its key; one that is told
+    again is not, and one that is refused under a taken key is told with both quantities."""
     program = laboratory.serve(FULFILLS, engine_of(), levels=False)
     for _ in range(2):
         expect("a credit", credit(program, 7, key="one"), created(quantity(7, 2)))
@@ -27,13 +27,18 @@ def lines_of_credits(laboratory: Laboratory) -> None:
     expect("alice's", credit(program, 2**64 - 1, name="alice", key="one"),
            created(quantity(2**64 - 1, 2)))
     expect_packet("a packet", program, soon(5), FULFILL)
+    odd = request("/accounts/bob/settlements", "Idempotency-Key: a b\xfe", body=quantity(1, 2))
+    expect("a key of other octets", post(program.setup.engines_port, odd), created(quantity(1, 2)))
     expect("nobody's", credit(program, 8, name="carol"), response(404))
     small = request("/accounts/bob/settlements", "Idempotency-Key: small", body=quantity(9_999_999, 9))
     expect("less than a unit", post(program.setup.engines_port, small), created(quantity(0, 2)))
-    close(program, alice=2**64 - 6, bob=12)
+    close(program, alice=2**64 - 6, bob=13)
     expect("the lines on credits", [line.said for line in program.told("info credit .+")],
-           ["info credit 0 of bob: 7", f"info credit 1 of alice: {2**64 - 1}",
-            "info credit 4 of bob: 0"])
+           ['info credit 0 of bob: 7, key "one"', f'info credit 1 of alice: {2**64 - 1}, key "one"',
+            "info credit 4 of bob: 1, key 0x612062fe", 'info credit 5 of bob: 0, key "small"'])
+    expect("the lines on taken keys", [line.said for line in program.told("error settlement .+")],
+           ['error settlement of bob refused, and not credited: 8 at scale 2 under the key "one", which credit '
+            "0 has with 7 at scale 2: see which one its engine means"])
 
 
 # ---- settlements

@@ -6,6 +6,7 @@ use crate::deeds::{count_reject, tell_deed};
 use crate::threads::Shared;
 use crossbeam_channel::Receiver;
 use ilp_desk::{Desk, End, Naming};
+use ilp_http::Status;
 use ilp_intake::ReadyConnection;
 use ilp_links::{TimedWriter, instant_after};
 use ilp_server::{Handled, answer_connection};
@@ -58,15 +59,24 @@ fn serve_job<
     let Job { side, connection } = job;
     match handled {
         Handled::Close => shared.intakes.close(rt),
-        Handled::Done { deed, status: _ } => {
+        Handled::Done { deed, status } => {
             tell_deed(shared, deed);
             count_reject(shared, deed);
+            if status == Status::Unauthorized {
+                count_wrong_token(shared, &connection.stream);
+            }
         }
         Handled::Fault { deed, fault: _ } => tell_deed(shared, deed),
     }
     if connection.refused {
         shared.intakes.linger(rt, side, connection.stream);
     }
+}
+
+// Counts a request without a peer's token, by the address that it came from.
+fn count_wrong_token<J: Naming, R: Wait>(shared: &Shared<'_, J, R>, stream: &TcpStream) {
+    let address = stream.peer_addr().ok().map(|place| place.ip());
+    shared.notices.wrong_token(shared.rt, address);
 }
 
 // Serves a connection. Its request is what was read of it: an intake gives on nothing of which more has

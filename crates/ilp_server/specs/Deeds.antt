@@ -2,11 +2,14 @@
 use Rattle.std.specs.Prelude.{ℕ, if◌then◌else◌, Option, Some, None, Result, Ok, Err}
 use Rattle.ilp_book.specs.declared.calls.Kept.{Kept}
 use Rattle.ilp_workers.specs.declared.rejects.ToldReject.{ToldReject}
+use Rattle.ilp_book.specs.declared.fault.CreditFault.TheVariants.{KeyTaken}
 use Rattle.ilp_server.specs.declared.unserved.NotServed.{NotServed}
+use Rattle.ilp_server.specs.declared.unserved.NotServed.TheVariants.{Credit}
 use Rattle.ilp_server.specs.declared.served.Served.{Served}
 use Rattle.ilp_server.specs.declared.served.Served.TheVariants.{Packet, Settlement, Message, Report, Close}
 use Rattle.ilp_server.specs.declared.handled.Deed.{Deed}
 use Rattle.ilp_server.specs.declared.handled.Deed.TheVariants.{Nothing, Credited, Rejected}
+use Rattle.ilp_server.specs.declared.handled.Deed.TheVariants as deed
 
 -- a credit, if it was made now
 abbrev pub credit_deed : ℕ → Kept → Deed
@@ -24,4 +27,5 @@ deed_of (Ok (Settlement peer kept text)) = credit_deed peer kept
 deed_of (Ok Message) = Nothing
 deed_of (Ok (Report text)) = Nothing
 deed_of (Ok Close) = Nothing
+deed_of (Err (Credit peer quantity (KeyTaken number))) = deed.KeyTaken peer number quantity
 deed_of (Err why) = Nothing

@@ -4,7 +4,7 @@ ghost use Rattle.ilp_server.specs.Deeds.{deed_of, credit_deed};
 
 use crate::handled::Deed;
 use crate::unserved::NotServed;
-use ilp_book::Kept;
+use ilp_book::{CreditFault, Kept};
 use ilp_oer::Octets;
 use ilp_workers::ToldReject;
 
@@ -43,6 +43,15 @@ pub(crate) fn deed_of(outcome: &Result<Served, NotServed>) -> Deed
             None => Deed::Nothing,
         },
         Ok(Served::Settlement { peer, kept, .. }) => credit_deed(*peer, *kept),
+        Err(NotServed::Credit {
+            peer,
+            quantity,
+            fault: CreditFault::KeyTaken { number },
+        }) => Deed::KeyTaken {
+            peer: *peer,
+            number: *number,
+            quantity: *quantity,
+        },
         _ => Deed::Nothing,
     }
 }

@@ -1,3 +1,5 @@
 pub mod Keys
 pub mod Targets
 pub mod Keeping
+pub mod SharedAddresses
+pub mod KeysTold
