@@ -70,9 +70,5 @@ impl Display for JournalWarning {
 
 /// Tells of the journal at this path.
 pub fn journal_warning<R: Clock + Eprint>(rt: &R, path: &str, warning: JournalWarning) {
-    tell(
-        rt,
-        Level::Warn,
-        format_args!("journal {path:?}: {warning}"),
-    );
+    tell(rt, Level::Warn, format_args!("journal {path:?}: {warning}"));
 }

@@ -14,7 +14,10 @@ use std::time;
 
 /// Tells what a request brought about, whatever became of its response: a credit, one under a key that
 /// is taken, and that the journal has no room.
-pub(crate) fn tell_deed<J: Naming, R: Wait + time::Clock + Eprint>(shared: &Shared<'_, J, R>, deed: Deed) {
+pub(crate) fn tell_deed<J: Naming, R: Wait + time::Clock + Eprint>(
+    shared: &Shared<'_, J, R>,
+    deed: Deed,
+) {
     match deed {
         Deed::Nothing => {}
         Deed::Credited {
@@ -40,9 +43,15 @@ pub(crate) fn tell_deed<J: Naming, R: Wait + time::Clock + Eprint>(shared: &Shar
                 return;
             };
             let told = ToldQuantity { amount, scale };
-            shared
-                .notices
-                .key_taken(shared.rt, config, peer, number, credit.key, credit.quantity, told);
+            shared.notices.key_taken(
+                shared.rt,
+                config,
+                peer,
+                number,
+                credit.key,
+                credit.quantity,
+                told,
+            );
         }
         Deed::Rejected { peer: _, reject } => {
             if reject == ToldReject::Own(LocalReject::ConnectorBusy) {

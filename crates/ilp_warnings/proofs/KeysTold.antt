@@ -1,6 +1,7 @@
 -- Fields that are not known in their tables, as loops over keys and tables tell of them.
-use Rattle.std.proofs.Common.{arith, ◌≡◌, ◌⊎◌, inl, inr, ℕ, ◌<◌, ◌≤◌, List, [], ◌∷◌, map, length, slice_get, Option, Some, None, option_and_then, string_bytes, Contains, refl, sym, subst, length-map}
+use Rattle.std.proofs.Common.{arith, ◌≡◌, ◌⊎◌, inl, inr, ℕ, ◌<◌, ◌≤◌, List, [], ◌∷◌, map, length, slice_get, Option, Some, None, option_and_then, string_bytes, Contains, refl, sym, subst}
 use Rattle.std.proofs.lemmas.List.Elements.{Contains-append_cases, Contains-push_cases}
+use Rattle.std.proofs.lemmas.List.{length-map}
 use Rattle.std.proofs.lemmas.Option.{slice_get_within}
 use Rattle.toml.specs.Data.{Data, Members, as_table}
 use Rattle.toml.specs.View.{view, members_view}
@@ -78,7 +79,7 @@ pub reached : (array : List Data) (values : List Value) (n count at : ℕ) (memb
     → option_and_then as_table (slice_get array n) ≡ Some members → n < most_routes → (length values ≤ count ⊎ (count ≡ most_routes)) → count ≤ at → n < at
 reached array values n count at members seen is few counted over =
     let here : n < length (map view values) = subst (λ vs. n < length vs) (sym seen) (inside array n members is) in
-    let below : n < length values = subst (λ m. n < m) (length-map view values) here in
+    let below : n < length values = subst (λ m. n < m) (length-map values view) here in
     elim counted [
       | inl all ↦ omega (arith, below, all, over)
       | inr most ↦ omega (arith, few, most, over)

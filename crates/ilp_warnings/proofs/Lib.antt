@@ -3,3 +3,4 @@ pub mod Targets
 pub mod Keeping
 pub mod SharedAddresses
 pub mod KeysTold
+pub mod Levels

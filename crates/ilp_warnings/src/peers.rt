@@ -1,5 +1,5 @@
 //! What is told of peers.
-ghost use Rattle.std.specs.Prelude.{ℕ, pos, ◌+ℤ◌, ◌≤ℤ◌, Contains, ◌≡◌, ◌≢◌, ◌↔◌, ◌<◌, length, Some, IfSome, IfNone, OnOk, IsTrue};
+ghost use Rattle.std.specs.Prelude.{ℕ, pos, int_le, ◌+ℤ◌, ◌≤ℤ◌, Contains, ◌≡◌, ◌≢◌, ◌↔◌, ◌<◌, length, Some, IfSome, IfNone, OnOk, IsTrue};
 ghost use Rattle.ilp_assets.specs.Quote.{quote, most};
 ghost use Rattle.ilp_accounts.specs.Configuration.{peer_at};
 ghost use Rattle.ilp_warnings.specs.Complete.{KeepsAll, Names, IsPeerTold, AreTokensTold, AreAddressesTold};
@@ -267,7 +267,14 @@ fn does_one_packet(config: &Config, sender: u32, peer: u32) -> bool
 fn reaches(levels: Levels, amount: u64) -> bool
     ensures { IsTrue result ↔ (levels.threshold ≤ℤ (levels.settle_to +ℤ pos amount)) }
 {
-    i128::from(levels.settle_to) + i128::from(amount) >= i128::from(levels.threshold)
+    is_at_most(levels.threshold, levels.settle_to, amount)
+}
+
+// Whether a level lies at most so far above another one.
+fn is_at_most(level: i64, from: i64, amount: u64) -> bool
+    ensures { result ≡ int_le level (from +ℤ pos amount) }
+{
+    i128::from(level) <= i128::from(from) + i128::from(amount)
 }
 
 // Whether the greatest packet of the sender, where a greatest one is configured, doesn't fit on its way
@@ -285,11 +292,7 @@ fn is_too_large(config: &Config, sender: u32, peer: u32) -> bool
 
 // What the greatest packet of the sender becomes on its way to the peer, where a greatest one is
 // configured.
-fn greatest_quote(
-    config: &Config,
-    sender: u32,
-    peer: u32,
-) -> Option<Result<Quote, QuoteFault>>
+fn greatest_quote(config: &Config, sender: u32, peer: u32) -> Option<Result<Quote, QuoteFault>>
     requires sender { sender < length config.now.peers }
     requires peer { peer < length config.now.peers }
     ensures quoted { IfSome result (λ q. ((peer_at config.now sender).max_packet ≢ most)

@@ -9,8 +9,7 @@ use Rattle.ilp_warnings.proofs.fields.tell_fields.Goals as goal
 
 pub loop-key-init : goal.loop-key-init
 loop-key-init c =
-    let keys = keys_of (table_view c.args.table.now) in
-    (
+    let keys = keys_of (table_view c.args.table.now) in (
       All-same (λ (e : Entry). Contains keys (string_bytes e.0)) c.into_iter-key-iterator.result c.args.table.now.entries (search rules) (own_keys c.args.table.now.entries),
       c.requires.sound,
       search rules,
@@ -26,8 +25,8 @@ loop-key-preserved c =
     let tells = subst (λ (key : List ℕ). IsNoneOf (known_in c.args.within) key → IsFieldTold c.args.within key c.tell_field.new.told.items) c.as_str.ensures.value field.told in
     let left = subst (λ es. AreLeft c.args.within keys es turn.told.items) c.in-Some.ensures.steps turn.invariant.3 in (
       All-rest (λ (f : Entry). Contains keys (string_bytes f.0)) e c.next.new.self turn.key-iterator c.in-Some.ensures.steps turn.invariant.0,
-      search rules,
-      search rules,
+      field.sound,
+      (λ w has. field.kept w (turn.invariant.2 w has)),
       one_less c.args.within keys e c.next.new.self turn.told.items c.tell_field.new.told.items field.kept tells left,
     )
 

@@ -22,8 +22,8 @@ returns-clause-top c =
     let after_listen : KeepsAll c.tell_address.new.told.items c.tell-5.new.told.items = λ w has. after_sides w (c.in_ok-tell_address-2.ensures.kept w has) in
     let settings = c.args.examined.config.now.settings in
     let shared = λ (h : IsShared settings.listen settings.engine_listen).
-      subst (λ text. IsShared text c.engine_listen-engine_listen.result.now) (sym c.listen-listen.ensures)
-      (subst (λ other. IsShared settings.listen other) (sym c.engine_listen-engine_listen.ensures) h) in
+    subst (λ text. IsShared text c.engine_listen-engine_listen.result.now) (sym c.listen-listen.ensures)
+    (subst (λ other. IsShared settings.listen other) (sym c.engine_listen-engine_listen.ensures) h) in
     record {
       listen = λ h. after_listen _ (c.in_ok-tell_address.ensures.told (λ is. h (subst IsSocketAddress c.listen-listen.ensures is)));
       engine_listen = λ h. after_sides _ (c.in_ok-tell_address-2.ensures.told (λ is. h (subst IsSocketAddress c.engine_listen-engine_listen.ensures is)));
