@@ -130,11 +130,11 @@ impl Counted {
         Some(sum)
     }
 
-    // The row of the address that most came from, the first of those.
+    // The row of the address that most came from, the first of those; of those that are not known none.
     fn most(&self) -> Row {
         let mut most = Row::FREE;
         for row in self.rows.iter() {
-            if row.count > most.count {
+            if row.address.is_some() && row.count > most.count {
                 most = *row;
             }
         }

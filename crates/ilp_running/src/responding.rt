@@ -55,6 +55,13 @@ fn serve_job<
     R: Wait + time::Clock + Eprint,
 >(shared: &Shared<'_, J, R>, responder: &mut Responder<J, C, U, E>, job: Job) {
     let rt = shared.rt;
+    // Behind the response the client may be gone, and its address with it.
+    let address = job
+        .connection
+        .stream
+        .peer_addr()
+        .ok()
+        .map(|place| place.ip());
     let handled = serve_connection(rt, shared.desk, responder, &job);
     let Job { side, connection } = job;
     match handled {
@@ -63,7 +70,7 @@ fn serve_job<
             tell_deed(shared, deed);
             count_reject(shared, deed);
             if status == Status::Unauthorized {
-                count_wrong_token(shared, &connection.stream);
+                shared.notices.wrong_token(rt, address);
             }
         }
         Handled::Fault { deed, fault: _ } => tell_deed(shared, deed),
@@ -71,12 +78,6 @@ fn serve_job<
     if connection.refused {
         shared.intakes.linger(rt, side, connection.stream);
     }
-}
-
-// Counts a request without a peer's token, by the address that it came from.
-fn count_wrong_token<J: Naming, R: Wait>(shared: &Shared<'_, J, R>, stream: &TcpStream) {
-    let address = stream.peer_addr().ok().map(|place| place.ip());
-    shared.notices.wrong_token(shared.rt, address);
 }
 
 // Serves a connection. Its request is what was read of it: an intake gives on nothing of which more has

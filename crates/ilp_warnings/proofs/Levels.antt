@@ -14,4 +14,4 @@ lies_below level from amount r is = subst (λ b. IsTrue b ↔ (level ≤ℤ (fro
 
 -- a test that failed was not met
 pub failed : (b : Bool) → b ≡ false → IsTrue b → ⊥
-failed b is yes = cc
+failed b is met = cc

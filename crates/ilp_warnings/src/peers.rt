@@ -267,14 +267,14 @@ fn does_one_packet(config: &Config, sender: u32, peer: u32) -> bool
 fn reaches(levels: Levels, amount: u64) -> bool
     ensures { IsTrue result ↔ (levels.threshold ≤ℤ (levels.settle_to +ℤ pos amount)) }
 {
-    is_at_most(levels.threshold, levels.settle_to, amount)
+    is_reached(levels, amount)
 }
 
-// Whether a level lies at most so far above another one.
-fn is_at_most(level: i64, from: i64, amount: u64) -> bool
-    ensures { result ≡ int_le level (from +ℤ pos amount) }
+// The same as a number is compared with another.
+fn is_reached(levels: Levels, amount: u64) -> bool
+    ensures { result ≡ int_le levels.threshold (levels.settle_to +ℤ pos amount) }
 {
-    i128::from(level) <= i128::from(from) + i128::from(amount)
+    i128::from(levels.threshold) <= i128::from(levels.settle_to) + i128::from(amount)
 }
 
 // Whether the greatest packet of the sender, where a greatest one is configured, doesn't fit on its way

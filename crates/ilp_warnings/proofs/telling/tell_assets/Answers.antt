@@ -12,7 +12,7 @@ use Rattle.ilp_warnings.proofs.telling.tell_assets.Goals as goal
 pub returns-clause-fields : goal.returns-clause-fields
 returns-clause-fields c = λ n few key unknown.
     let array = elements_of field.Asset (table_view c.args.examined.table.now) in
-    c.loop-asset.invariant.2 n (reached array c.tables_in-values.result.now n c.count_of-asset-end.result c.loop-asset.asset unknown.members c.tables_in-values.ensures unknown.there few c.count_of-asset-end.ensures c.loop-asset-test.false) key unknown
+    c.loop-asset.invariant.2 n (reached array c.tables_in-values.result.now n c.count_of-asset-end.result c.loop-asset.asset unknown.members c.tables_in-values.ensures unknown.there few c.count_of-asset-end.ensures.all c.loop-asset-test.false) key unknown
 
 -- each turn keeps what was told, and tells of one more table
 pub loop-asset-preserved : goal.loop-asset-preserved

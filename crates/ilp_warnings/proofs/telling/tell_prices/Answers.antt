@@ -12,7 +12,7 @@ use Rattle.ilp_warnings.proofs.telling.tell_prices.Goals as goal
 pub returns-clause-fields : goal.returns-clause-fields
 returns-clause-fields c = λ n few key unknown.
     let array = elements_of field.Price (table_view c.args.examined.table.now) in
-    c.loop-price.invariant.2 n (reached array c.tables_in-values.result.now n c.count_of-price-end.result c.loop-price.price unknown.members c.tables_in-values.ensures unknown.there few c.count_of-price-end.ensures c.loop-price-test.false) key unknown
+    c.loop-price.invariant.2 n (reached array c.tables_in-values.result.now n c.count_of-price-end.result c.loop-price.price unknown.members c.tables_in-values.ensures unknown.there few c.count_of-price-end.ensures.all c.loop-price-test.false) key unknown
 
 -- each turn keeps what was told, and tells of one more table
 pub loop-price-preserved : goal.loop-price-preserved
