@@ -73,7 +73,7 @@ class Setup:
     @property
     def secrets(self) -> list[str]:
         """What is never on standard error."""
-        return [self.token, self.bob_token, self.to_alice, self.to_bob, self.key]
+        return [self.token, self.bob_token, self.to_alice, self.to_bob]
 
     def peer(self, name: str, token: str, out_token: str, host: str,
              engine: int | None) -> list[str]:

@@ -6,6 +6,7 @@ use crate::host::Host;
 use crate::refused::{Refused, RunFault};
 use crate::run::{Run, deliver_report};
 use crate::saved::Saved;
+use crate::warning::{JournalWarnings, Telling};
 use ilp_book::Book;
 use ilp_io::Recording;
 use ilp_journal_file::JournalFile;
@@ -73,6 +74,7 @@ where
         let book = book_of(rt.alloc(), self.run.config, self.path, text, now)?;
         if is_there {
             journal_carried(rt, self.path, book.len());
+            JournalWarnings::of(rt, &book).tell(rt, self.path, Telling::Notice);
         } else {
             journal_absent(rt, self.path);
         }

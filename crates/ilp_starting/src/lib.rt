@@ -32,4 +32,4 @@ pub use configuring::{config_octets, config_of, configured};
 pub use host::Host;
 pub use refused::{Refused, RunFault};
 pub use serving::serve;
-pub use warning::{Telling, tell_warnings};
+pub use warning::{JournalWarnings, Telling, tell_warnings};

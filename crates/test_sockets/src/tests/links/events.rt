@@ -48,7 +48,7 @@ fn happen_to_peers<R: Clock + Eprint>(rt: &R, notices: &Notices, config: &Config
     match event {
         Event::Fails(peer) => notices.peer_failed(rt, config, peer, "no answer"),
         Event::Answers(peer) => notices.peer_answered(peer),
-        Event::Unreadable(peer) => notices.peer_unreadable(rt, config, peer),
+        Event::Unreadable(peer) => notices.peer_unreadable(rt, config, peer, None),
         Event::EngineFails(peer) => notices.engine_failed(rt, config, peer, "no answer"),
         Event::EngineAnswers(peer) => notices.engine_answered(peer),
         Event::Waits(peer) => notices.waits_for_peer(peer),
