@@ -249,18 +249,18 @@ fn settlements_and_engines(rt: HostRuntime) -> Result<(), Fail> {
             KeyTaken(1),
             "1970-01-01T00:00:00.000Z error settlement of bob refused, and not credited: 25 at scale 1 under the key 0x6120ff, which credit 7 has with 250 at scale 2: see which one its engine means\n",
         ),
-        Row(999, KeyTaken(1), ""),
-        Row(
-            999,
-            KeyTaken(0),
-            "1970-01-01T00:00:00.999Z error settlement of alice refused, and not credited: 25 at scale 1 under the key 0x6120ff, which credit 7 has with 250 at scale 2: see which one its engine means\n",
-        ),
         Row(
             0,
             EngineFails(1),
             "1970-01-01T00:00:00.000Z warn engine of bob at 127.0.0.1:7000: no answer\n",
         ),
         Row(0, EngineAnswers(1), ""),
+        Row(999, KeyTaken(1), ""),
+        Row(
+            999,
+            KeyTaken(0),
+            "1970-01-01T00:00:00.999Z error settlement of alice refused, and not credited: 25 at scale 1 under the key 0x6120ff, which credit 7 has with 250 at scale 2: see which one its engine means\n",
+        ),
         Row(
             1_000,
             Looks,
