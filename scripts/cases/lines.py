@@ -65,7 +65,7 @@ FORMS = [re.compile(form) for form in (
     rf"info credit \d+ of {NAME}: \d+, key {KEY}",
     rf"error settlement of {NAME} refused, and not credited: {QUANTITY} under the key {KEY}, which credit \d+ has with "
     rf"{QUANTITY}: see which one its engine means{MORE}",
-    rf"warn wrong tokens: (1 request|\d+ requests) got 401, \d+ from {PLACE}",
+    rf"warn wrong tokens: (1 request|\d+ requests) got 401(, \d+ from {PLACE})?",
     rf"info rejects to {NAME}: .+",
     rf"warn work waits for a worker, for {SECONDS} now: of \d+ workers? {WAIT}(, {WAIT})*{MORE}",
     rf"info no work waits for a worker any more, after {SECONDS}",

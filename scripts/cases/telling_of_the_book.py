@@ -211,8 +211,8 @@ def journal_ahead_of_the_clock(laboratory: Laboratory) -> None:
     kept.path.write_text(f"ilp-journal 1\n{moment} 0 credited bob 6b 7 2 7\nend 1\n")
     when = time.strftime("%Y-%m-%dT%H:%M:%S", time.gmtime(moment // 1000)) + f".{moment % 1000:03}Z"
     form = re.escape(kept.said(f"its last entry is of {when}, ")) + (
-        r"\d+(\.\d{3})? seconds ahead of the clock: until then packets come too late \(R00, R02\), and a new start with "
-        r"it changes nothing")
+        r"\d+(\.\d{3})? seconds ahead of the clock: until then packets come too late \(R00, R02\), and a new start "
+        r"with it changes nothing")
     for _ in range(2):
         program = kept.serve()
         program.await_told(f"warn {form}")

@@ -9,7 +9,7 @@ use Rattle.toml.specs.declared.value.Value.{Value}
 use Rattle.ilp_accounts.specs.Limits.{most_routes}
 use Rattle.ilp_warnings.specs.declared.warning.ConfigTable.{ConfigTable}
 use Rattle.ilp_warnings.specs.declared.warning.Warning.{Warning}
-use Rattle.ilp_warnings.specs.Told.{IsNoneOf, IsUnknown, known_in, keys_of, table_at}
+use Rattle.ilp_warnings.specs.Told.{IsNoneOf, known_in, keys_of, table_at}
 use Rattle.ilp_warnings.specs.Complete.{KeepsAll, IsFieldTold, IsTableTold}
 use Rattle.ilp_warnings.proofs.Keys.{Entry, keys_seen}
 

@@ -1,5 +1,5 @@
 -- Texts that name addresses, each of which a text names in one way.
-use Rattle.std.proofs.Common.{◌≡◌, ◌≢◌, ◌↔◌, ℕ, List, Bool, IsTrue, subst}
+use Rattle.std.proofs.Common.{◌≢◌, ◌↔◌, ℕ, List, Bool, IsTrue, subst}
 use Rattle.std.proofs.NetLemmas.Theorems.{IsSocketText_unique}
 use Rattle.std.specs.Net.Grammar.{IsSocketText}
 use Rattle.std.specs.Net.Socket.{socket_port}

@@ -8,11 +8,12 @@ hands on to Prometheus.
 
 The report comes from a file or from standard input, and the metrics go to standard output, or to the
 file behind --output, which is either replaced as a whole or left as it is. With --lines they say too
-how many requests of peers got 401, by the lines of the connector's standard error in this file. What is no whole report
-by docs/PROTOCOL.md is refused: the exit status is 1, one line on standard error says why, and
-nothing is written. It is 1 as well where a file can't be read or written, and 2 where the arguments
-are not understood. Numbers are whole ones, and are handed on as they came. It needs Python 3.11 and
-nothing else.
+how many requests of peers got 401, by the connector's standard error, which is in LOG.
+
+What is no whole report by docs/PROTOCOL.md is refused: the exit status is 1, one line on standard
+error says why, and nothing is written. It is 1 as well where a file can't be read or written, and 2
+where the arguments are not understood. Numbers are whole ones, and are handed on as they came. It
+needs Python 3.11 and nothing else.
 """
 import argparse
 import contextlib
@@ -69,7 +70,9 @@ METRICS = {
     "entries": ("ilp_entries", "How many entries the journal has."),
     "fulfilled": ("ilp_fulfilled", "How many holds are fulfilled."),
 }
-UNAUTHORIZED = {"unauthorized": ("ilp_unauthorized", "How many requests got 401, by the lines of standard error.")}
+UNAUTHORIZED = {
+    "unauthorized": ("ilp_unauthorized", "How many requests got 401, by the lines of standard error.")
+}
 
 
 # A line on requests that got 401. Their numbers add up.
@@ -252,9 +255,9 @@ def of_asset(name: str) -> str:
 def unauthorized_in(lines: Iterable[bytes]) -> int:
     """How many requests got 401, by the lines on standard error.
 
-    >>> unauthorized_in([b"2026-11-25T13:45:15.123Z warn wrong tokens: 12 requests got 401, 9 from 192.0.2.7\\n",
-    ...                  b"2026-11-25T13:45:16.123Z info credit 2 of bob: 1, key \\"1 requests got 401\\"\\n",
-    ...                  b"2026-11-25T13:46:15.123Z warn wrong tokens: 1 request got 401\\n"])
+    >>> unauthorized_in([b"TIME warn wrong tokens: 12 requests got 401, 9 from 192.0.2.7\\n",
+    ...                  b"TIME info credit 2 of bob: 1, key \\"1 requests got 401\\"\\n",
+    ...                  b"TIME warn wrong tokens: 1 request got 401\\n"])
     13
     """
     found = (WRONG_TOKENS.match(line) for line in lines)
@@ -262,8 +265,8 @@ def unauthorized_in(lines: Iterable[bytes]) -> int:
 
 
 def metrics_of(report: Report, unauthorized: int | None = None) -> str:
-    """The metrics of a report, and how many requests got 401 where that is known, in the text format of
-    Prometheus."""
+    """The metrics of a report, and how many requests got 401 where that is known, in the text format
+    of Prometheus."""
     lines: list[str] = []
     for label in OF_PEERS:
         of = [(f'{{peer="{name}"}}', numbers[label]) for name, numbers in report.peers.items()]
@@ -456,7 +459,7 @@ def main() -> int:
     parser = argparse.ArgumentParser(description="Turns the connector's report into metrics.")
     parser.add_argument("report", nargs="?", type=Path, help="the report; standard input if left out")
     parser.add_argument("--output", type=Path, help="the file to replace; standard output if left out")
-    parser.add_argument("--lines", type=Path, metavar="LOG", help="the connector's standard error, for requests that got 401")
+    parser.add_argument("--lines", type=Path, metavar="LOG", help="the connector's standard error")
     parser.add_argument("--test", action="store_true", help="test this script, and do nothing else")
     given = parser.parse_args()
     if given.test:

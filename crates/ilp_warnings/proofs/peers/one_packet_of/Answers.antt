@@ -1,4 +1,4 @@
-use Rattle.std.proofs.Common.{◌≢◌, ℕ, ◌<◌, arith, rules}
+use Rattle.std.proofs.Common.{◌≢◌, ℕ, arith, rules}
 use Rattle.ilp_warnings.specs.Meaning.{ReachesAtOnce}
 use Rattle.ilp_warnings.proofs.Keeping.{one_more}
 use Rattle.ilp_warnings.proofs.Levels.{failed}
