@@ -8,6 +8,7 @@
 mod checking;
 mod helping;
 mod replaying;
+mod streams;
 
 use checking::{run_check, run_check_journal};
 use helping::{USAGE, is_help, run_help, run_version};
@@ -21,6 +22,7 @@ use std::io::ErrorKind;
 use std::net::{Net, TcpListener, TcpStream};
 use std::process::ExitCode;
 use std::rt::{Files, Runtime};
+use streams::HeldStreams;
 
 // What the program is asked for: a command, what it is about, and where a journal is kept.
 #[derive(Drop)]
@@ -49,6 +51,7 @@ impl From<Refusal> for Exit {
 }
 
 fn main(rt: HostRuntime) -> ExitCode {
+    let _held = HeldStreams::hold(&rt);
     let exit = match given_words(&rt) {
         Ok(words) => run(&rt, &words),
         Err(exit) => exit,
