@@ -1,5 +1,5 @@
 -- What is kept beside a journal of the configuration by which it was run: the run, and the asset of each peer.
-use Rattle.std.specs.Prelude.{◌≡◌, ◌≢◌, ◌⊎◌, ◌<◌, ℕ, pos, Bool, true, false, not, ◌==◌, ◌&&◌, List, ◌++◌, length, codes, Option, Some, None, slice_get, unwrap_or, bytes_eq, nat_eq, ⊤}
+use Rattle.std.specs.Prelude.{◌≡◌, ◌≢◌, ◌⊎◌, ◌<◌, ℕ, pos, Bool, true, false, not, ◌==◌, ◌&&◌, List, ◌++◌, length, codes, Option, Some, None, slice_get, unwrap_or, bytes_eq, nat_eq}
 use Rattle.std.specs.List.{find, flat_map, slice_split, starts_with, ends_with}
 use Rattle.std.specs.Fmt.{decimal}
 use Rattle.ilp_assets.specs.Assets.{PlainAsset, no_asset}

@@ -1,6 +1,5 @@
 //! What a start would change of what is remembered.
-ghost use Rattle.std.specs.Prelude.{◌≡◌, ◌<◌, length, IfOk, string_bytes};
-ghost use Rattle.ilp_accounts.specs.Configuration.{peer_at};
+ghost use Rattle.std.specs.Prelude.{◌≡◌, ◌<◌, length, IfOk};
 ghost use Rattle.ilp_remembered.specs.Remembered as remembered;
 ghost use Rattle.ilp_remembered.specs.Remembered.{FindsChange, FindsRun, FirstOf, IsChanged};
 

@@ -124,7 +124,9 @@ fn expect_kept(rt: &impl Abort, disk: &Disk, came: Came) -> Result<(), Fail> {
     match came {
         Came::Nowhere => assert!(rt; is_old),
         Came::Begun => assert!(rt; is_marked || is_saved),
-        Came::Unprinted | Came::Done => assert!(rt; is_saved && !is_there(disk, RUNNING, When::Now)?),
+        Came::Unprinted | Came::Done => assert!(rt;
+            is_saved && !is_there(disk, RUNNING, When::Now)?
+        ),
     }
     if came != Came::Nowhere {
         assert!(rt; disk.printed()?.starts_with(FIRST_LINE.as_bytes()));

@@ -144,8 +144,6 @@ fn expect_told(rt: &impl Abort, disk: &Disk) -> io::Result<()> {
 
 // ---- what a start finds
 
-const NEVER: Faults = Faults { first: 0, count: 0 };
-
 #[test]
 fn an_old_journal_is_read(rt: HostRuntime) -> Result<(), Fail> {
     let disk = old_disk(rt.alloc(), NEVER)?;
