@@ -79,8 +79,9 @@ FORMS = [re.compile(form) for form in (
     rf"warn journal {PATH}: can't be saved: .+",
     rf"warn journal {PATH}: its last entry is of .+",
     rf"error journal {PATH}: (not saved.+|another connector has it: .+|a connector stopped .+)",
+    rf"error journal {PATH}: (it is the new one, but .+|saved and whole, but .+|a settlement with .+|what it counts .+)",
     r"error compare with peers and engines what was booked since, .+",
-    rf"error can't (make|read|lock|remove) {PATH}: .+",
+    rf"error can't (make|read|use|lock|remove) {PATH}: .+",
     rf"warn {PATH} lies there, .+",
     r"error clock: \d+\.\d{3} seconds behind the last moment of the book, so that packets come too late",
 )]

@@ -1,4 +1,4 @@
-use Rattle.ilp_running.proofs.serving.serve.Given as goal
+use Rattle.ilp_running.proofs.serving.run_to_close.Given as goal
 use Rattle.ilp_running.specs.Serving.{desk_of}
 
 abbrev pub ghosts-serve_desk-J-Ledger : goal.ghosts-serve_desk-J-Ledger
