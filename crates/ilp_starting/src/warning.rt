@@ -8,6 +8,7 @@ use ilp_links::SystemClock;
 use ilp_notices::{JournalWarning, configuration_warning, journal_warning};
 use ilp_warnings::{Warning, warnings};
 use std::alloc::AllocError;
+use std::io::Eprint;
 use std::os::unix::fs::PermissionsExt;
 use std::rt::Runtime;
 use std::{fs, time};
@@ -38,7 +39,12 @@ impl Telling {
 
     // Tells one thing of the journal at this path. How full the book is a running connector tells by
     // itself.
-    fn tell_of_journal<R: Runtime>(self, rt: &R, path: &str, warning: JournalWarning) {
+    fn tell_of_journal<R: time::Clock + Eprint>(
+        self,
+        rt: &R,
+        path: &str,
+        warning: JournalWarning,
+    ) {
         match (self, warning) {
             (Telling::Line, warning) => {
                 let _ = eprintln!(rt; "journal {path:?}: {warning}");
@@ -125,7 +131,7 @@ impl JournalWarnings {
     }
 
     /// Tells it of the journal at this path.
-    pub fn tell<R: Runtime>(self, rt: &R, path: &str, telling: Telling) {
+    pub fn tell<R: time::Clock + Eprint>(self, rt: &R, path: &str, telling: Telling) {
         if let Some(warning) = self.ahead {
             telling.tell_of_journal(rt, path, warning);
         }
