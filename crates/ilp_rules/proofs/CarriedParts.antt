@@ -1,11 +1,10 @@
 -- What the parts of a book keep while its entries are taken up.
 use Rattle.std.proofs.Common.{◌≡◌, ℕ, ◌+◌, ◌<◌, ◌≤◌, [], ◌∷◌, ◌++◌, length, None, refl, sym, ap, ◌∙◌, subst, arith, length-append}
-use Rattle.std.specs.FinMap as fin_map
 use Rattle.ilp_accounts.specs.Configuration.{Configuration}
 use Rattle.ilp_accounts.specs.Valid.{IsValid}
 use Rattle.ilp_journal.specs.declared.entry.Entry.{Entry}
 use Rattle.ilp_journal.specs.Booked.{Booked}
-use Rattle.ilp_journal.specs.Journal.{open_hold_at, open_count, opening, closing}
+use Rattle.ilp_journal.specs.Journal.{open_hold_at, open_count, closing}
 use Rattle.ilp_holds.specs.Table.{Table}
 use Rattle.ilp_settlement.specs.KeyTable.{PlainKeyTable}
 use Rattle.ilp_tallies.specs.Tallies.{PlainTallies, GrowsBy}

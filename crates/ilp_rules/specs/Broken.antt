@@ -1,5 +1,5 @@
 -- Which rule an entry breaks that would come next in a journal.
-use Rattle.std.specs.Prelude.{◌≡◌, ◌≢◌, ℕ, ◌+◌, ◌<◌, ◌≤◌, ℤ, pos, ◌+ℤ◌, ◌<ℤ◌, ◌≤ℤ◌, None, Some, ◌↔◌, IsTrue, IsSome, IsSomeAnd, IsOkAnd, length}
+use Rattle.std.specs.Prelude.{◌≡◌, ◌≢◌, ◌+◌, ◌<◌, ◌≤◌, ℤ, pos, ◌+ℤ◌, ◌<ℤ◌, ◌≤ℤ◌, None, Some, ◌↔◌, IsTrue, IsSome, IsSomeAnd, IsOkAnd, length}
 use Rattle.ilp_assets.specs.declared.quote.Quote.{Quote}
 use Rattle.ilp_settlement.specs.Quantity.{credited_at}
 use Rattle.ilp_accounts.specs.Configuration.{Configuration, peer_at}

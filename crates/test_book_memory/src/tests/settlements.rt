@@ -189,11 +189,10 @@ enum Ending {
     Close(EngineVerdict),
 }
 
-const EACH_ENDING: [Ending; 4] = [
+const EACH_ENDING: [Ending; 3] = [
     Ending::Answer,
     Ending::Sweep,
     Ending::Close(EngineVerdict::Accepted),
-    Ending::Close(EngineVerdict::Refused),
 ];
 
 #[test]
@@ -203,6 +202,15 @@ fn ending_takes_no_memory_after_any_entry(rt: HostRuntime) -> Result<(), Fail> {
         for ending in EACH_ENDING {
             end_over_each(&rt, &config, last, ending)?;
         }
+    }
+    Ok(())
+}
+
+#[test]
+fn undoing_takes_no_memory_after_any_entry(rt: HostRuntime) -> Result<(), Fail> {
+    let config = lending(rt.alloc())?;
+    for last in EACH_LAST {
+        end_over_each(&rt, &config, last, Ending::Close(EngineVerdict::Refused))?;
     }
     Ok(())
 }

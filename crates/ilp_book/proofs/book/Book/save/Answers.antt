@@ -1,12 +1,10 @@
-use Rattle.std.proofs.Common.{◌≡◌, ℤ, ap, sym, subst}
-use Rattle.std.specs.Prelude.{All, OnOk}
+use Rattle.std.proofs.Common.{sym, subst}
+use Rattle.std.specs.Prelude.{All}
 use Rattle.std.proofs.lemmas.Result.{on_ok_weaker}
 use Rattle.ilp_accounts.specs.Configuration.{Configuration}
 use Rattle.ilp_accounts.specs.Valid.{IsValid}
 use Rattle.ilp_journal_text.specs.Reading.{IsTyped}
 use Rattle.ilp_journal_text.specs.Text.{journal_text}
-use Rattle.ilp_rules.specs.declared.fault.CarryFault.{CarryFault}
-use Rattle.ilp_rules.specs.declared.fault.CarryFault.TheVariants.{Memory}
 use Rattle.ilp_rules.specs.Book.{PlainBook}
 use Rattle.ilp_rules.specs.Carried.{carried}
 use Rattle.ilp_rules.specs.Carry.{IsCarriedOver, IsWhyNotCarried}
