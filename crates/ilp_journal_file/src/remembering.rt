@@ -3,6 +3,7 @@
 use crate::fault::FileFault;
 use crate::limited::Limited;
 use crate::names::Names;
+use crate::noting::Noting;
 use crate::taking::JournalFile;
 use ilp_io::{ReadFault, WriteFault, put_all, read_to_limit};
 use ilp_notices::{journal_unread, not_made};
@@ -56,7 +57,7 @@ impl Names {
         R: Files + Clock + Eprint,
     {
         let path = self.lock.as_str();
-        let mut file = match fs::open(rt, path) {
+        let file = match fs::open(rt, path) {
             Ok(file) => file,
             Err(error) if error.kind() == ErrorKind::NotFound => return Ok(Vec::new(alloc)),
             Err(error) => {
@@ -64,12 +65,14 @@ impl Names {
                 return Err(FileFault::Unread);
             }
         };
-        match read_to_limit(alloc, &mut file, LONGEST) {
+        let mut reader = Noting::new(file);
+        match read_to_limit(alloc, &mut reader, LONGEST) {
             Ok(text) => Ok(text),
             Err(ReadFault::TooLong) => Ok(Vec::new(alloc)),
             Err(ReadFault::Memory) => Err(FileFault::Memory),
             Err(ReadFault::Failed) => {
-                journal_unread(rt, path, &io::Error::from(ErrorKind::InvalidData));
+                let failed = io::Error::from(ErrorKind::Other);
+                journal_unread(rt, path, &reader.error.unwrap_or(failed));
                 Err(FileFault::Unread)
             }
         }
@@ -81,10 +84,13 @@ impl Names {
             .write(true)
             .truncate(true)
             .open(rt, self.lock.as_str())?;
-        let mut writer = Limited::new(rt, alloc, file);
+        let mut writer = Noting::new(Limited::new(rt, alloc, file));
         match put_all(&mut writer, text) {
-            Ok(()) => writer.inner.sync_all(),
-            Err(WriteFault) => Err(io::Error::from(ErrorKind::WriteZero)),
+            Ok(()) => writer.inner.inner.sync_all(),
+            Err(WriteFault) => {
+                let took_none = io::Error::from(ErrorKind::WriteZero);
+                Err(writer.error.unwrap_or(took_none))
+            }
         }
     }
 }
