@@ -261,7 +261,12 @@ struct Sunk {
 }
 
 // Replays into such a sink. The growth behind as many as are granted is denied.
-fn attempt_sink(rt: &(impl Abort + AllocGlobal), config: &Config, script: &str, granted: u64) -> Sunk {
+fn attempt_sink(
+    rt: &(impl Abort + AllocGlobal),
+    config: &Config,
+    script: &str,
+    granted: u64,
+) -> Sunk {
     let heap = DenyingAllocator::after(rt.alloc(), granted);
     let failed = into_sink(rt, &heap, config, script);
     Sunk {
