@@ -108,9 +108,10 @@ struct Counted {
 // How many texts a Reject's code and message are. The growth behind as many as are granted is denied.
 fn words_found(alloc: Global, granted: u64) -> Counted {
     let heap = DenyingAllocator::after(alloc, granted);
-    let found = reject_words(&heap, REJECT)
-        .ok()
-        .map(|words| usize::from(words.is_some()));
+    let found = match reject_words(&heap, REJECT) {
+        Ok(words) => Some(usize::from(words.is_some())),
+        Err(_) => None,
+    };
     Counted {
         is_denied: heap.has_denied(),
         found,
@@ -120,9 +121,10 @@ fn words_found(alloc: Global, granted: u64) -> Counted {
 // How many lines of the script are bad. The growth behind as many as are granted is denied.
 fn bad_lines_found(alloc: Global, config: &Config, granted: u64) -> Counted {
     let heap = DenyingAllocator::after(alloc, granted);
-    let found = bad_lines(&heap, config, SCRIPT)
-        .ok()
-        .map(|lines| lines.len());
+    let found = match bad_lines(&heap, config, SCRIPT) {
+        Ok(lines) => Some(lines.len()),
+        Err(_) => None,
+    };
     Counted {
         is_denied: heap.has_denied(),
         found,
