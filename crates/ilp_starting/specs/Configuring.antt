@@ -1,18 +1,18 @@
 -- What the octets of a configuration give.
-use Rattle.std.specs.Prelude.{◌≡◌, ◌⊎◌, Option, Some, None, Result, Ok, Err}
+use Rattle.std.specs.Prelude.{◌≡◌, ◌≢◌, ◌⊎◌, Option, Some, None, Result, Ok, Err}
 use Rattle.toml.specs.Data.{Members}
 use Rattle.ilp_accounts.specs.Configuration.{Configuration, configuration}
 use Rattle.ilp_accounts.specs.Faults.{first_fault}
 use Rattle.ilp_fields.specs.declared.fault.ConfigFault.{ConfigFault}
+use Rattle.ilp_fields.specs.declared.fault.ConfigFault.TheVariants.{Memory}
 use Rattle.ilp_refusals.specs.Refusals.{config_refusal}
 use Rattle.ilp_refusals.specs.declared.refusal.Refusal.{Refusal}
 use Rattle.ilp_refusals.specs.declared.refusal.Refusal.TheVariants as refusals
 use Rattle.ilp_starting.specs.declared.refused.Refused.{Refused}
 
--- A refusal by this fault, where there is one, or for want of memory.
+-- A refusal by the first fault, where there is one, or for want of memory.
 abbrev pub IsRefusedBy : Option ConfigFault → Refusal → Type 0
-IsRefusedBy None refusal = refusal ≡ refusals.Memory
-IsRefusedBy (Some fault) refusal = (refusal ≡ config_refusal fault) ⊎ (refusal ≡ refusals.Memory)
+IsRefusedBy first refusal = (fault : ConfigFault) × (fault ≢ Memory → first ≡ Some fault) × (refusal ≡ config_refusal fault)
 
 -- The configuration of a table of TOML that has no fault; else the refusal by its first one.
 abbrev pub IsConfigured : Members → Result Configuration Refused → Type 0

@@ -1,6 +1,7 @@
 //! Packets in words and replays with growths that are denied, and replays that a reader or a writer stops.
 
 use ilp_accounts::Config;
+use ilp_config_file::BUILT_IN;
 use std::alloc::Global;
 use std::test::Fail;
 
@@ -57,5 +58,10 @@ peer = "bob"
 
 fn lending(alloc: Global) -> Result<Config, Fail> {
     let config = Config::read(alloc, LENDING.as_bytes())?;
+    Ok(config)
+}
+
+fn built_in(alloc: Global) -> Result<Config, Fail> {
+    let config = Config::read(alloc, BUILT_IN.as_bytes())?;
     Ok(config)
 }

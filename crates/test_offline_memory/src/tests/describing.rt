@@ -1,10 +1,10 @@
 //! Packets in words, and what is wrong with lines of a script.
 
-use super::{GROWTHS, PREPARE};
+use super::{GROWTHS, PREPARE, built_in};
 use ilp_accounts::Config;
-use ilp_config_file::BUILT_IN;
 use ilp_offline::{bad_lines, describe_packet, reject_words};
 use ilp_refusals::Refusal;
+use std::alloc::Global;
 use std::process::Abort;
 use std::test::Fail;
 use test_allocator::DenyingAllocator;
@@ -29,34 +29,48 @@ fn each_description(rt: HostRuntime) -> Result<(), Fail> {
 // Describes a packet with each growth denied in turn.
 fn describe(rt: &(impl Abort + AllocGlobal), packet: &str) -> Result<(), Fail> {
     for granted in 0..GROWTHS {
-        let heap = DenyingAllocator::after(rt.alloc(), granted);
-        let outcome = describe_packet(&heap, packet);
-        if !heap.has_denied() {
-            assert!(rt; outcome.is_ok());
+        let attempt = attempt_description(rt.alloc(), packet, granted);
+        assert_eq!(rt;
+            attempt.refused,
+            attempt.is_denied.then_some(Refusal::Memory),
+            "after {granted} growths"
+        );
+        if !attempt.is_denied {
             assert!(rt; granted > 1);
             return Ok(());
         }
-        assert_eq!(rt;
-            outcome.err(),
-            Some(Refusal::Memory),
-            "after {granted} growths"
-        );
     }
     assert!(rt; false, "some growth was always denied");
     Ok(())
 }
 
+// A description of which one growth is denied: whether that was made, and why there is none.
+#[derive(Clone, Copy)]
+struct Described {
+    is_denied: bool,
+    refused: Option<Refusal>,
+}
+
+// Describes a packet. The growth behind as many as are granted is denied.
+fn attempt_description(alloc: Global, packet: &str, granted: u64) -> Described {
+    let heap = DenyingAllocator::after(alloc, granted);
+    let refused = describe_packet(&heap, packet).err();
+    Described {
+        is_denied: heap.has_denied(),
+        refused,
+    }
+}
+
 #[test]
 fn words_of_a_reject(rt: HostRuntime) -> Result<(), Fail> {
     for granted in 0..GROWTHS {
-        let heap = DenyingAllocator::after(rt.alloc(), granted);
-        let outcome = reject_words(&heap, REJECT);
-        if !heap.has_denied() {
-            assert!(rt; matches!(outcome, Ok(Some(_))));
+        let counted = words_found(rt.alloc(), granted);
+        if !counted.is_denied {
+            assert_eq!(rt; counted.found, Some(1));
             assert!(rt; granted > 1);
             return Ok(());
         }
-        assert!(rt; outcome.is_err(), "after {granted} growths");
+        assert!(rt; counted.found.is_none(), "after {granted} growths");
     }
     assert!(rt; false, "some growth was always denied");
     Ok(())
@@ -64,27 +78,55 @@ fn words_of_a_reject(rt: HostRuntime) -> Result<(), Fail> {
 
 #[test]
 fn bad_lines_of_a_script(rt: HostRuntime) -> Result<(), Fail> {
-    match Config::read(rt.alloc(), BUILT_IN.as_bytes()) {
-        Ok(config) => tell_bad_lines(&rt, &config),
-        Err(fault) => {
-            assert!(rt; false, "{fault}");
-            Ok(())
-        }
-    }
+    let config = built_in(rt.alloc())?;
+    tell_bad_lines(&rt, &config)
 }
 
 // Tells the bad lines with each growth denied in turn.
 fn tell_bad_lines(rt: &(impl Abort + AllocGlobal), config: &Config) -> Result<(), Fail> {
     for granted in 0..GROWTHS {
-        let heap = DenyingAllocator::after(rt.alloc(), granted);
-        let outcome = bad_lines(&heap, config, SCRIPT);
-        if !heap.has_denied() {
-            assert!(rt; matches!(&outcome, Ok(found) if found.len() == 2));
+        let counted = bad_lines_found(rt.alloc(), config, granted);
+        if !counted.is_denied {
+            assert_eq!(rt; counted.found, Some(2));
             assert!(rt; granted > 0);
             return Ok(());
         }
-        assert!(rt; outcome.is_err(), "after {granted} growths");
+        assert!(rt; counted.found.is_none(), "after {granted} growths");
     }
     assert!(rt; false, "some growth was always denied");
     Ok(())
+}
+
+// A call of which one growth is denied: whether that was made, and how much was found; nothing where
+// memory was short.
+#[derive(Clone, Copy)]
+struct Counted {
+    is_denied: bool,
+    found: Option<usize>,
+}
+
+// How many texts a Reject's code and message are. The growth behind as many as are granted is denied.
+fn words_found(alloc: Global, granted: u64) -> Counted {
+    let heap = DenyingAllocator::after(alloc, granted);
+    let found = match reject_words(&heap, REJECT) {
+        Ok(words) => Some(usize::from(words.is_some())),
+        Err(_) => None,
+    };
+    Counted {
+        is_denied: heap.has_denied(),
+        found,
+    }
+}
+
+// How many lines of the script are bad. The growth behind as many as are granted is denied.
+fn bad_lines_found(alloc: Global, config: &Config, granted: u64) -> Counted {
+    let heap = DenyingAllocator::after(alloc, granted);
+    let found = match bad_lines(&heap, config, SCRIPT) {
+        Ok(lines) => Some(lines.len()),
+        Err(_) => None,
+    };
+    Counted {
+        is_denied: heap.has_denied(),
+        found,
+    }
 }

@@ -157,7 +157,7 @@ struct Attempt {
 }
 
 // Replays what a reader has. The growth behind as many as are granted is denied.
-fn attempted(alloc: Global, config: &Config, mut reader: Pieces<'_>, granted: u64) -> Attempt {
+fn attempt_replay(alloc: Global, config: &Config, mut reader: Pieces<'_>, granted: u64) -> Attempt {
     let heap = DenyingAllocator::after(alloc, granted);
     let mut writer = Recording::new(alloc);
     let outcome = replay(&heap, config, &mut reader, &mut writer);
@@ -190,7 +190,7 @@ fn replay_over_each(
     let mut before = 0;
     for granted in 0..GROWTHS {
         let reader = Pieces::new(script.as_bytes(), PIECE);
-        let attempt = attempted(rt.alloc(), config, reader, granted);
+        let attempt = attempt_replay(rt.alloc(), config, reader, granted);
         if !attempt.is_denied {
             assert!(rt; granted > 1);
             whole(rt, &attempt, text);
@@ -239,18 +239,41 @@ fn sink_over_each(
 ) -> Result<(), Fail> {
     let mut failed_writes = 0u64;
     for granted in 0..GROWTHS {
-        let heap = DenyingAllocator::after(rt.alloc(), granted);
-        let failed = into_sink(rt, &heap, config, script);
-        if !heap.has_denied() {
-            assert!(rt; failed.is_none());
+        let sunk = attempt_sink(rt, config, script, granted);
+        assert_eq!(rt; sunk.is_stopped, sunk.is_denied, "after {granted} growths");
+        if !sunk.is_denied {
             assert!(rt; failed_writes > 1);
             return Ok(());
         }
-        assert!(rt; failed.is_some(), "after {granted} growths");
-        failed_writes = failed_writes.saturating_add(failed.unwrap_or(0));
+        failed_writes = failed_writes.saturating_add(sunk.failed_writes);
     }
     assert!(rt; false, "some growth was always denied");
     Ok(())
+}
+
+// A replay into a sink of the same memory, of which one growth is denied: whether that was made, whether
+// the replay stopped, and how many writes failed.
+#[derive(Clone, Copy)]
+struct Sunk {
+    is_denied: bool,
+    is_stopped: bool,
+    failed_writes: u64,
+}
+
+// Replays into such a sink. The growth behind as many as are granted is denied.
+fn attempt_sink(
+    rt: &(impl Abort + AllocGlobal),
+    config: &Config,
+    script: &str,
+    granted: u64,
+) -> Sunk {
+    let heap = DenyingAllocator::after(rt.alloc(), granted);
+    let failed = into_sink(rt, &heap, config, script);
+    Sunk {
+        is_denied: heap.has_denied(),
+        is_stopped: failed.is_some(),
+        failed_writes: failed.unwrap_or(0),
+    }
 }
 
 // Replays into a sink of the same memory. It writes the whole text, or a front of it and tells how many
@@ -293,7 +316,7 @@ fn fail_over_each(
 ) -> Result<(), Fail> {
     for granted in 0..GROWTHS {
         let reader = Pieces::failing(script.as_bytes(), PIECE, script.len());
-        let attempt = attempted(rt.alloc(), config, reader, granted);
+        let attempt = attempt_replay(rt.alloc(), config, reader, granted);
         unwritten(rt, &attempt, ReplayFault::ReadFault);
         assert_eq!(rt; attempt.failed_reads, u64::from(!attempt.is_denied));
         if !attempt.is_denied {
@@ -319,8 +342,12 @@ fn unwritten(rt: &impl Abort, attempt: &Attempt, fault: ReplayFault) {
 #[test]
 fn a_script_that_is_too_long(rt: HostRuntime) -> Result<(), Fail> {
     let script = vec![in rt.alloc(); b'x'; MAX_SCRIPT + 1]?;
+    stop_each(&rt, &script)
+}
+
+fn stop_each(rt: &(impl Abort + AllocGlobal), script: &[u8]) -> Result<(), Fail> {
     let config = lending(rt.alloc())?;
-    stop_over_each(&rt, &config, &script)
+    stop_over_each(rt, &config, script)
 }
 
 fn stop_over_each(
@@ -330,7 +357,7 @@ fn stop_over_each(
 ) -> Result<(), Fail> {
     for granted in 0..GROWTHS {
         let reader = Pieces::new(script, 65_536);
-        let attempt = attempted(rt.alloc(), config, reader, granted);
+        let attempt = attempt_replay(rt.alloc(), config, reader, granted);
         unwritten(rt, &attempt, ReplayFault::ScriptTooLong);
         if !attempt.is_denied {
             assert!(rt; granted > 1);

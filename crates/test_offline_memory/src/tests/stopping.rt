@@ -1,10 +1,11 @@
 //! Replays whose reading or writing is cut short, and the greatest length of a script.
 
+use super::built_in;
 use ilp_accounts::Config;
-use ilp_config_file::BUILT_IN;
-use ilp_io::{Counting, Narrow, Pieces, Recording, WhenFull};
+use ilp_io::{Counting, Narrow, Pieces, Recording, Source, WhenFull};
 use ilp_offline::{ReplayFault, replay};
-use std::alloc::{AllocError, Global};
+use std::alloc::Global;
+use std::process::Abort;
 use std::test::Fail;
 
 // A Prepare of 100 by alice that bob fulfills, and a report. The moments are 2025-01-01T00:00:00Z
@@ -31,83 +32,121 @@ entries                                                    2
 fulfilled                                                  1
 ";
 
-fn built_in(alloc: Global) -> Result<Config, Fail> {
-    let config = Config::read(alloc, BUILT_IN.as_bytes())?;
-    Ok(config)
+// A replay that a reader or a writer may stop: how it ended, what was written, and how many writes failed.
+#[derive(Drop)]
+struct Replayed {
+    outcome: Result<(), ReplayFault>,
+    written: Vec<u8>,
+    failed_writes: u64,
+}
+
+// Replays what a reader has, into a writer with room for all.
+fn replay_from(alloc: Global, config: &Config, reader: &mut impl Source) -> Replayed {
+    let mut writer = Recording::new(alloc);
+    let outcome = replay(alloc, config, reader, &mut writer);
+    Replayed::of(outcome, writer)
+}
+
+// Replays the script into a writer with so much room.
+fn replay_into(alloc: Global, config: &Config, room: usize, when_full: WhenFull) -> Replayed {
+    let mut reader = SCRIPT.as_bytes();
+    let mut writer = Narrow::new(alloc, 7, room, when_full);
+    let outcome = replay(alloc, config, &mut reader, &mut writer);
+    Replayed::of(outcome, writer.recording)
+}
+
+impl Replayed {
+    fn of(outcome: Result<(), ReplayFault>, recording: Recording) -> Replayed {
+        let Recording {
+            octets: written,
+            failures: failed_writes,
+        } = recording;
+        Replayed {
+            outcome,
+            written,
+            failed_writes,
+        }
+    }
 }
 
 #[test]
 fn stops_where_a_read_fails(rt: HostRuntime) -> Result<(), Fail> {
-    let alloc = rt.alloc();
-    let config = built_in(alloc)?;
+    let config = built_in(rt.alloc())?;
     for place in 0..SCRIPT.len() {
-        let mut reader = Pieces::failing(SCRIPT.as_bytes(), 50, place);
-        let mut writer = Recording::new(alloc);
-        let outcome = replay(alloc, &config, &mut reader, &mut writer);
-        assert_eq!(rt; outcome, Err(ReplayFault::ReadFault), "at {place}");
-        assert_eq!(rt; reader.failures, 1);
-        assert!(rt; writer.octets.is_empty());
+        stops_at(&rt, &config, place);
     }
     Ok(())
 }
 
+// A replay of which the read at a place fails.
+fn stops_at(rt: &(impl Abort + AllocGlobal), config: &Config, place: usize) {
+    let mut reader = Pieces::failing(SCRIPT.as_bytes(), 50, place);
+    let replayed = replay_from(rt.alloc(), config, &mut reader);
+    assert_eq!(rt; replayed.outcome, Err(ReplayFault::ReadFault), "at {place}");
+    assert_eq!(rt; reader.failures, 1);
+    assert!(rt; replayed.written.is_empty());
+}
+
 #[test]
 fn stops_where_a_write_takes_nothing(rt: HostRuntime) -> Result<(), Fail> {
-    let alloc = rt.alloc();
-    let config = built_in(alloc)?;
+    let config = built_in(rt.alloc())?;
     for when_full in [WhenFull::TakesNone, WhenFull::Fails] {
         for room in 0..TEXT.len() {
-            let mut reader = SCRIPT.as_bytes();
-            let mut writer = Narrow::new(alloc, 7, room, when_full);
-            let outcome = replay(alloc, &config, &mut reader, &mut writer);
-            assert_eq!(rt;
-                outcome,
-                Err(ReplayFault::WriteFault),
-                "with room for {room}"
-            );
-            assert_eq!(rt; writer.recording.failures, 1);
-            assert_eq!(rt;
-                writer.recording.octets.as_slice(),
-                &TEXT.as_bytes()[..room]
-            );
+            is_full(&rt, &config, room, when_full);
         }
     }
     Ok(())
 }
 
+// A replay into a writer with too little room.
+fn is_full(rt: &(impl Abort + AllocGlobal), config: &Config, room: usize, when_full: WhenFull) {
+    let replayed = replay_into(rt.alloc(), config, room, when_full);
+    assert_eq!(rt;
+        replayed.outcome,
+        Err(ReplayFault::WriteFault),
+        "with room for {room}"
+    );
+    assert_eq!(rt; replayed.failed_writes, 1);
+    assert_eq!(rt; replayed.written.len(), room);
+    assert!(rt; TEXT.as_bytes().starts_with(&replayed.written));
+}
+
 #[test]
 fn reads_once_for_each_octet_and_the_end(rt: HostRuntime) -> Result<(), Fail> {
-    let alloc = rt.alloc();
-    let config = built_in(alloc)?;
+    let config = built_in(rt.alloc())?;
     let mut reader = Pieces::new(SCRIPT.as_bytes(), 1);
-    let mut writer = Recording::new(alloc);
-    let outcome = replay(alloc, &config, &mut reader, &mut writer);
-    assert_eq!(rt; outcome, Ok(()));
+    is_whole(&rt, &replay_from(rt.alloc(), &config, &mut reader));
     assert_eq!(rt; reader.reads, SCRIPT.len() as u64 + 1);
-    assert_eq!(rt; writer.octets.as_slice(), TEXT.as_bytes());
-
-    let mut counting = Counting::new(SCRIPT.as_bytes());
-    let mut again = Recording::new(alloc);
-    let outcome = replay(alloc, &config, &mut counting, &mut again);
-    assert_eq!(rt; outcome, Ok(()));
-    assert_eq!(rt; counting.reads, 2);
+    let mut reader = Counting::new(SCRIPT.as_bytes());
+    is_whole(&rt, &replay_from(rt.alloc(), &config, &mut reader));
+    assert_eq!(rt; reader.reads, 2);
     Ok(())
+}
+
+// A replay that nothing stopped.
+fn is_whole(rt: &impl Abort, replayed: &Replayed) {
+    assert_eq!(rt; replayed.outcome, Ok(()));
+    assert_eq!(rt; replayed.written.as_slice(), TEXT.as_bytes());
 }
 
 #[test]
 fn takes_scripts_up_to_their_limit(rt: HostRuntime) -> Result<(), Fail> {
-    let alloc = rt.alloc();
-    let config = built_in(alloc)?;
-    for (len, outcome) in [
-        (1_048_576, Ok(())),
-        (1_048_577, Err(ReplayFault::ScriptTooLong)),
-    ] {
-        let script = vec![in alloc; b'#'; len]?;
-        let mut reader = Pieces::new(&script, 4096);
-        let mut writer = Recording::new(alloc);
-        let found = replay(alloc, &config, &mut reader, &mut writer);
-        assert_eq!(rt; found, outcome, "of {len} octets");
-        assert!(rt; writer.octets.is_empty());
-    }
+    let config = built_in(rt.alloc())?;
+    is_read(&rt, &config, 1_048_576, Ok(()))?;
+    is_read(&rt, &config, 1_048_577, Err(ReplayFault::ScriptTooLong))
+}
+
+// A replay of a comment of so many octets.
+fn is_read(
+    rt: &(impl Abort + AllocGlobal),
+    config: &Config,
+    len: usize,
+    outcome: Result<(), ReplayFault>,
+) -> Result<(), Fail> {
+    let script = vec![in rt.alloc(); b'#'; len]?;
+    let mut reader = Pieces::new(&script, 4096);
+    let replayed = replay_from(rt.alloc(), config, &mut reader);
+    assert_eq!(rt; replayed.outcome, outcome, "of {len} octets");
+    assert!(rt; replayed.written.is_empty());
     Ok(())
 }
