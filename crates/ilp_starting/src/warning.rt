@@ -39,12 +39,7 @@ impl Telling {
 
     // Tells one thing of the journal at this path. How full the book is a running connector tells by
     // itself.
-    fn tell_of_journal<R: time::Clock + Eprint>(
-        self,
-        rt: &R,
-        path: &str,
-        warning: JournalWarning,
-    ) {
+    fn tell_of_journal<R: time::Clock + Eprint>(self, rt: &R, path: &str, warning: JournalWarning) {
         match (self, warning) {
             (Telling::Line, warning) => {
                 let _ = eprintln!(rt; "journal {path:?}: {warning}");
