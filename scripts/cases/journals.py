@@ -86,10 +86,10 @@ class Kept:
         expect("what check says", (done.returncode, done.stdout, done.stderr), (0, told, ""))
         expect("the files after a check", self.files(), before)
 
-    def expect_refused(self, told: str, *lines: str) -> None:
+    def expect_refused(self, told: str, *lines: str, made: tuple[str, ...] = ("journal.lock",)) -> None:
         """A start ends at once as refused, with these lines on standard error, and so does a check. The
-        files stay as they are, but that the lock is there."""
-        before = sorted({*self.files(), "journal.lock"})
+        files stay as they are, but that those are there that a start makes."""
+        before = sorted({*self.files(), *made})
         text = self.path.read_bytes() if self.path.is_file() else b""
         program = self.start()
         expect("the exit status", program.end(START), 1)
@@ -354,7 +354,7 @@ def journal_that_is_not_read(laboratory: Laboratory) -> None:
     """A folder in its place, and a file that is too long."""
     kept = Kept(laboratory)
     kept.path.mkdir()
-    kept.expect_refused("73 JournalUnread", r"error can't read \".+/journal\": .+")
+    kept.expect_refused("73 JournalUnread", r"error can't use \".+/journal\": it is a folder", made=())
     kept.path.rmdir()
     with open(kept.path, "wb") as text:
         text.truncate(LONGEST + 1)

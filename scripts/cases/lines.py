@@ -25,6 +25,10 @@ PLACE = r"\S{1,64}"
 SECONDS = r"(1 second|\d+ seconds)"
 WAIT = rf"\d+ (waits? )?for (peer|the engine of) {NAME}"
 MORE = r"( \(([1-9]\d*) more since the last line\))?"
+# The hold of a packet that a peer may have fulfilled all the same.
+HELD = r" \(hold \d+ of \d+, condition [0-9a-f]{8}\)"
+KEY = r'("[!#-~]{1,128}"|0x[0-9a-f]{2,256})'
+QUANTITY = r"\d+ at scale \d+"
 WHY = (r"(no IP:PORT in digits|not reached: .+|no answer in time|no response of HTTP: .+"
        r"|status \d{3})")
 BAD_200 = ("a 200 without a Fulfill or a Reject that can be read: it may have fulfilled the packet, at "
@@ -51,14 +55,17 @@ FORMS = [re.compile(form) for form in (
     r"error a thread can't be started",
     r"info closing: no connection is accepted any more",
     re.escape(FOLLOWS),
-    rf"warn (peer|engine of) {NAME} at {PLACE}: {WHY}{MORE}",
-    rf"error peer {NAME} at {PLACE}: {BAD_200}{MORE}",
+    rf"warn (peer|engine of) {NAME} at {PLACE}: {WHY}({HELD})?{MORE}",
+    rf"error peer {NAME} at {PLACE}: {BAD_200}({HELD})?{MORE}",
     rf"info (peer|engine of) {NAME} at {PLACE}: {REACHED_AGAIN}",
     rf"info settlement \d+ with {NAME} of \d+: confirmed",
     rf"warn settlement \d+ with {NAME} of \d+: refused with the status 4\d\d, and the amount is back; "
     rf"the next one waits {SECONDS}",
     rf"warn settlement \d+ with {NAME}: {KEPT_OPEN}{MORE}",
-    rf"info credit \d+ of {NAME}: \d+",
+    rf"info credit \d+ of {NAME}: \d+, key {KEY}",
+    rf"error settlement of {NAME} refused, and not credited: {QUANTITY} under the key {KEY}, which credit \d+ has with "
+    rf"{QUANTITY}: see which one its engine means{MORE}",
+    rf"warn wrong tokens: (1 request|\d+ requests) got 401(, \d+ from {PLACE})?",
     rf"info rejects to {NAME}: .+",
     rf"warn work waits for a worker, for {SECONDS} now: of \d+ workers? {WAIT}(, {WAIT})*{MORE}",
     rf"info no work waits for a worker any more, after {SECONDS}",
@@ -70,9 +77,11 @@ FORMS = [re.compile(form) for form in (
     rf"info journal {PATH}: (begun with its \d+ entries|saved with \d+ entries)",
     rf"warn journal {PATH}: not there yet, .+",
     rf"warn journal {PATH}: can't be saved: .+",
+    rf"warn journal {PATH}: its last entry is of .+",
     rf"error journal {PATH}: (not saved.+|another connector has it: .+|a connector stopped .+)",
+    rf"error journal {PATH}: (it is the new one, but .+|saved and whole, but .+|a settlement with .+|what it counts .+)",
     r"error compare with peers and engines what was booked since, .+",
-    rf"error can't (make|read|lock|remove) {PATH}: .+",
+    rf"error can't (make|read|use|lock|remove) {PATH}: .+",
     rf"warn {PATH} lies there, .+",
     r"error clock: \d+\.\d{3} seconds behind the last moment of the book, so that packets come too late",
 )]

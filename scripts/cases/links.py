@@ -5,7 +5,7 @@ from dataclasses import dataclass
 from cases.case import case, expect, expect_that, expect_within
 from cases.laboratory import (AT_ONCE, Laboratory, close, expect_packet, expect_served, post_close,
                               send_packet)
-from cases.lines import BAD_200
+from cases.lines import BAD_200, HELD
 from cases.messages import HERE, response, seconds_since, soon
 from cases.program import Program
 from cases.stand_ins import (FULFILLS, Behaviour, answers, closes, drips, in_turn,
@@ -42,7 +42,7 @@ def other_status(code: int, octets: bytes) -> Fault:
 
 def no_packet(what: str, octets: bytes) -> Fault:
     """A 200 without a Fulfill or a Reject."""
-    return Fault(what, answers(octets), "error", BAD_200)
+    return Fault(what, answers(octets), "error", BAD_200 + HELD)
 
 
 FAULTS = [

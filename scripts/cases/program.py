@@ -11,7 +11,7 @@ from pathlib import Path
 
 from cases.case import Differs, expect, expect_that
 from cases.lines import WARNING, Line, check_lines, read_lines
-from cases.messages import HERE
+from cases.messages import HERE, connect
 from cases.stand_ins import free_port
 
 DESCRIPTORS = 4096
@@ -57,6 +57,8 @@ class Setup:
     least: int = -1_000_000
     routes: dict[str, str] = field(
         default_factory=lambda: {"test.alice": "alice", "test.bob": "bob"})
+    scale: int = 2
+    asset_of_bob: str | None = None
     # Tables behind those of the two.
     further: list[str] = field(default_factory=list)
 
@@ -73,12 +75,12 @@ class Setup:
     @property
     def secrets(self) -> list[str]:
         """What is never on standard error."""
-        return [self.token, self.bob_token, self.to_alice, self.to_bob, self.key]
+        return [self.token, self.bob_token, self.to_alice, self.to_bob]
 
     def peer(self, name: str, token: str, out_token: str, host: str,
-             engine: int | None) -> list[str]:
+             engine: int | None, asset: str | None = None) -> list[str]:
         """The table of a peer."""
-        lines = ["[[peer]]", f'name = "{name}"', 'asset = "USD/2"', f'token = "{token}"',
+        lines = ["[[peer]]", f'name = "{name}"', f'asset = "{asset or f"USD/{self.scale}"}"', f'token = "{token}"',
                  f'out_token = "{out_token}"', f'host = "{host}"',
                  f'out_path = "{self.out_path}"', f"least = {self.least}"]
         if engine is not None:
@@ -93,11 +95,11 @@ class Setup:
                "engine_listen": self.engine_listen, **self.top}
         lines = [f'{name} = "{value}"' if isinstance(value, str) else f"{name} = {value}"
                  for name, value in top.items()]
-        lines += ["[[asset]]", 'code = "USD"', "scale = 2"]
+        lines += ["[[asset]]", 'code = "USD"', f"scale = {self.scale}"]
         lines += self.peer("alice", self.token, self.to_alice, f"{HERE}:{self.alice}",
                            self.engine_of_alice)
         lines += self.peer("bob", self.bob_token, self.to_bob,
-                           self.bob_host or f"{HERE}:{self.bob}", self.engine)
+                           self.bob_host or f"{HERE}:{self.bob}", self.engine, self.asset_of_bob)
         for prefix, name in self.routes.items():
             lines += ["[[route]]", f'prefix = "{prefix}"', f'peer = "{name}"']
         return "\n".join(lines + self.further) + "\n"
@@ -131,12 +133,14 @@ def limit_threads(threads: int) -> None:
 class Program:
     """`connector serve` over a configuration, or with another argument that is given. Its two streams
     go to files, or to other descriptors that are given. It can start so many threads where that is
-    given. A journal is kept where one is given, and another user runs it where his number is."""
+    given. A journal is kept where one is given, and another user runs it where his number is. No file of
+    it may be larger than that, and streams are closed, where these are given."""
 
     def __init__(self, binary: Path, folder: Path, setup: Setup, descriptors: int = DESCRIPTORS,
                  errors: int | None = None, argument: str | None = None,
                  output: int | None = None, threads: int | None = None,
-                 journal: Path | str | None = None, user: int | None = None) -> None:
+                 journal: Path | str | None = None, user: int | None = None,
+                 largest_file: int | None = None, closed: tuple[int, ...] = ()) -> None:
         self.setup = setup
         self.folder = folder
         self.binary = binary
@@ -148,11 +152,13 @@ class Program:
         words += [str(journal)] if journal is not None else []
 
         def limit() -> None:
-            # A file that is too large is to be an error, and no signal.
-            signal.signal(signal.SIGXFSZ, signal.SIG_IGN)
             resource.setrlimit(resource.RLIMIT_NOFILE, (descriptors, descriptors))
             if threads is not None:
                 limit_threads(threads)
+            if largest_file is not None:
+                resource.setrlimit(resource.RLIMIT_FSIZE, (largest_file, largest_file))
+            for number in closed:
+                os.close(number)
 
         with open(folder / "stdout", "wb") as printed, open(folder / "stderr", "wb") as told:
             self.child = subprocess.Popen(
@@ -216,6 +222,17 @@ class Program:
             time.sleep(0.005)
         expect_that(f"the line does not name {self.setup.listen}: {self.errors()!r}",
                     self.setup.listen in self.errors())
+
+    def await_served(self, within: float = 10.0) -> None:
+        """Waits until its engines' side takes a connection, also where it tells nobody that it listens."""
+        end = time.monotonic() + within
+        while True:
+            try:
+                connect(self.setup.engines_port).close()
+                return
+            except OSError:
+                expect_that(f"it takes no connection within {within} seconds", time.monotonic() < end)
+                time.sleep(0.02)
 
     def limit_files(self, octets: int) -> None:
         """Lets no file of it grow beyond so many octets."""

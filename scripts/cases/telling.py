@@ -6,7 +6,7 @@ from concurrent.futures import Future, ThreadPoolExecutor
 from cases.case import case, expect, expect_that, expect_within
 from cases.laboratory import (Laboratory, close, credit, expect_end, expect_packet, expect_served,
                               post_close, send_packet)
-from cases.lines import MORE, NO_JOURNAL, expect_longer_waits
+from cases.lines import BAD_200, HELD, MORE, NO_JOURNAL, expect_longer_waits
 from cases.links import FAULTS
 from cases.messages import HERE, bearer, created, post, request, response, seconds_since, soon
 from cases.program import Program, Setup, secret
@@ -39,15 +39,13 @@ def line_at_the_start(laboratory: Laboratory) -> None:
     setup = program.setup
     expect_served(program, amount=1)
     expect("a credit", credit(program, 1), created(quantity(1, 2)))
-    stranger = request("/ilp", bearer(secret()))
-    expect("a wrong token", post(setup.peers_port, stranger), response(401))
     close(program, alice=-1, bob=2)
     expect("the lines", [line.said for line in program.lines()],
            [NO_JOURNAL,
             f"info listening at {setup.listen} for peers and at {setup.engine_listen} for engines: "
             f"37 workers, 2 peers, alice without an engine, bob with the engine at "
             f"{HERE}:{setup.engine}",
-            "info credit 2 of bob: 1",
+            f'info credit 2 of bob: 1, key "{setup.key}"',
             "info closing: no connection is accepted any more"])
 
 
@@ -91,6 +89,45 @@ def lines_of_faults(laboratory: Laboratory) -> None:
 
 
 @case
+def lines_name_the_hold(laboratory: Laboratory) -> None:
+    """A line on a packet that the peer may have fulfilled names its hold, the amount that went out and the
+    condition; none on a packet that it can't have got does."""
+    cut = answers(b"HTTP/1.1 200 OK\r\nContent-Length: 36\r\n\r\n" + FULFILL)
+    rows = [(cut, "warn", r"no response of HTTP: [a-z ]+ \(hold 0 of 7, condition 66687aad\)"),
+            (answers(response(200, b"rubbish")), "error", rf"{BAD_200} \(hold 0 of 7, condition 66687aad\)"),
+            (status(503), "warn", "status 503")]
+    for behaviour, level, text in rows:
+        program = laboratory.serve(behaviour)
+        expect_packet("a packet", program, soon(7), T01)
+        program.await_told(of_bob(program, level, text), within=2.0)
+        close(program)
+
+
+@case
+def lines_of_wrong_tokens(laboratory: Laboratory) -> None:
+    """Requests without a token of a peer are told at once with their number and the address that most came
+    from, and then again at longer intervals; the numbers add up at the close. No line has the token."""
+    program = laboratory.serve(FULFILLS)
+    marker = secret()
+    form = rf"warn wrong tokens: .+ got 401, \d+ from {HERE}"
+    strangers = 0
+    start = time.monotonic()
+    while len(program.told(form)) < 3:
+        for shown in ([bearer(marker)], []):
+            expect("a stranger", post(program.setup.peers_port, request("/ilp", *shown)), response(401))
+            strangers += 1
+        expect_that("after 8 seconds there were not three lines", seconds_since(start) < 8.0)
+    expect_longer_waits("wrong tokens", program.told(form))
+    expect("another stranger", post(program.setup.peers_port, request("/ilp")), response(401))
+    close(program)
+    said = [line.said for line in program.told(form)]
+    expect("how many requests the lines tell of", sum(int(line.split(": ")[1].split()[0]) for line in said),
+           strangers + 1)
+    expect("how many from here", sum(int(line.split()[-3]) for line in said), strangers + 1)
+    expect_that("the token is on standard error", marker not in program.errors())
+
+
+@case
 def lines_of_peers_that_give_no_answer(laboratory: Laboratory) -> None:
     """Nor do these: a peer in letters, one that is not there, and one that says nothing."""
     lettered = laboratory.start(Setup(bob_host="localhost:7001"))
@@ -102,7 +139,7 @@ def lines_of_peers_that_give_no_answer(laboratory: Laboratory) -> None:
     absent.await_told(of_bob(absent, "warn", "not reached: connection refused"))
     silent = laboratory.serve(never_answers, max_hold_ms=1000)
     expect_packet("to a peer that says nothing", silent, soon(), R00)
-    silent.await_told(of_bob(silent, "warn", "no answer in time"))
+    silent.await_told(of_bob(silent, "warn", f"no answer in time{HELD}"))
     for program in (lettered, absent, silent):
         close(program)
         expect("how many lines are on bob", len(program.told(r"\w+ peer bob at .*")), 1)

@@ -3,10 +3,11 @@ import re
 import time
 
 from cases.case import case, expect, expect_that, expect_within
+from cases.journals import Kept
 from cases.laboratory import Laboratory, close, credit, expect_end, expect_packet, post_close
 from cases.lines import KEPT_OPEN, MORE, expect_longer_waits
 from cases.messages import HERE, bearer, created, post, request, response, soon
-from cases.program import Program
+from cases.program import Program, Setup
 from cases.stand_ins import FULFILLS, answers_packet, engine_of, in_turn, status
 from connections import F02, F03, MESSAGE, quantity
 from packets import reject
@@ -18,8 +19,8 @@ JOURNAL_WITHIN = 2.0 + 1.5
 
 @case
 def lines_of_credits(laboratory: Laboratory) -> None:
-    """Each credit that is booked is told once, by the number of its entry; one that is told again or is
-    refused is not."""
+    """Each credit that is booked is told once, by the number of its entry, with its key; one that is told
+    again is not, and one that is refused under a taken key is told with both quantities."""
     program = laboratory.serve(FULFILLS, engine_of(), levels=False)
     for _ in range(2):
         expect("a credit", credit(program, 7, key="one"), created(quantity(7, 2)))
@@ -27,13 +28,18 @@ def lines_of_credits(laboratory: Laboratory) -> None:
     expect("alice's", credit(program, 2**64 - 1, name="alice", key="one"),
            created(quantity(2**64 - 1, 2)))
     expect_packet("a packet", program, soon(5), FULFILL)
+    odd = request("/accounts/bob/settlements", "Idempotency-Key: a b\xfe", body=quantity(1, 2))
+    expect("a key of other octets", post(program.setup.engines_port, odd), created(quantity(1, 2)))
     expect("nobody's", credit(program, 8, name="carol"), response(404))
     small = request("/accounts/bob/settlements", "Idempotency-Key: small", body=quantity(9_999_999, 9))
     expect("less than a unit", post(program.setup.engines_port, small), created(quantity(0, 2)))
-    close(program, alice=2**64 - 6, bob=12)
+    close(program, alice=2**64 - 6, bob=13)
     expect("the lines on credits", [line.said for line in program.told("info credit .+")],
-           ["info credit 0 of bob: 7", f"info credit 1 of alice: {2**64 - 1}",
-            "info credit 4 of bob: 0"])
+           ['info credit 0 of bob: 7, key "one"', f'info credit 1 of alice: {2**64 - 1}, key "one"',
+            "info credit 4 of bob: 1, key 0x612062fe", 'info credit 5 of bob: 0, key "small"'])
+    expect("the lines on taken keys", [line.said for line in program.told("error settlement .+")],
+           ['error settlement of bob refused, and not credited: 8 at scale 2 under the key "one", which credit '
+            "0 has with 7 at scale 2: see which one its engine means"])
 
 
 # ---- settlements
@@ -185,3 +191,49 @@ def journal_that_is_full_at_once(laboratory: Laboratory) -> None:
     post_close(program)
     expect_end(program, alice=0, bob=2)
     expect("the lines on the journal", [line.said for line in program.told(r"\w+ journal: .+")], [form])
+
+
+# ---- a journal that is carried over
+
+def lines_of_a_check(kept: Kept, program: Program, entries: int) -> list[str]:
+    """What `check` says on standard error of a journal of so many entries, with which a start would begin."""
+    done = kept.check(program)
+    expect("what check says", (done.returncode, done.stdout), (0, f"ok 2 peers 1 assets 2 routes {entries} entries\n"))
+    return done.stderr.splitlines()
+
+
+@case
+def journal_ahead_of_the_clock(laboratory: Laboratory) -> None:
+    """Where a journal's last moment lies ahead of the clock the start and `check` tell it with that moment; packets
+    that expire before it are too late. A new start with it changes nothing."""
+    kept = Kept(laboratory)
+    moment = int((time.time() + 100) * 1000)
+    kept.path.write_text(f"ilp-journal 1\n{moment} 0 credited bob 6b 7 2 7\nend 1\n")
+    when = time.strftime("%Y-%m-%dT%H:%M:%S", time.gmtime(moment // 1000)) + f".{moment % 1000:03}Z"
+    form = re.escape(kept.said(f"its last entry is of {when}, ")) + (
+        r"\d+(\.\d{3})? seconds ahead of the clock: until then packets come too late \(R00, R02\), and a new start "
+        r"with it changes nothing")
+    for _ in range(2):
+        program = kept.serve()
+        program.await_told(f"warn {form}")
+        expect_packet("a packet", program, soon(), R00)
+        close(program, bob=7)
+        lines = lines_of_a_check(kept, program, 1)
+        expect_that(f"the lines of a check: {lines}", len(lines) == 1 and re.fullmatch(form, lines[0]) is not None)
+
+
+@case
+def journal_that_is_nearly_full_at_the_start(laboratory: Laboratory) -> None:
+    """From 80 percent of its entries on a journal that is carried over is told by `check`, and by the start as that
+    of a running connector is."""
+    kept = Kept(laboratory, Setup(bob=laboratory.stand_in(FULFILLS).port, top={"journal": 5}))
+    for count in range(1, 5):
+        program = kept.serve()
+        expect("a credit", credit(program, 1, key=f"{count}"), created(quantity(1, 2)))
+        close(program, bob=count)
+        told = [kept.said("it has 4 of 5 entries, and a start carries them over: give `journal` more")]
+        expect(f"the lines of a check, with {count} entries", lines_of_a_check(kept, program, count),
+               told if count == 4 else [])
+    program = kept.serve()
+    program.await_told("warn journal: 4 of 5 entries, 80 percent")
+    close(program, bob=4)

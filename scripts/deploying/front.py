@@ -26,6 +26,9 @@ TOOLS = {"nginx": "nginx-light", "curl": "curl", "openssl": "openssl"}
 # Of nginx-peers.conf: how many packets of a sender may be open, and how many may come at once.
 MOST_OPEN, MOST_AT_ONCE = 32, 51
 
+# How many requests are sent at once with another token each, and how many of those an address may send at least.
+MANY, MOST_OF_AN_ADDRESS = 960, 101
+
 # The longest Prepare, and the first length that is too great for the front.
 LONGEST, TOO_LONG = 33_857, 34 * 1024 + 1
 
@@ -147,6 +150,19 @@ def too_many_at_once(world: World) -> None:
     expect("another sender", send(world, "bob"), f"fulfilled: preimage {'00' * 32}")
 
 
+def too_many_tokens(world: World) -> None:
+    """So is what is beyond the rate of an address, though each request shows another token."""
+    octets = b"".join(request("/ilp", bearer(f"nobody-{place}"), body=b"x") for place in range(MANY))
+    with link_to(world) as link:
+        writer = threading.Thread(target=link.sendall, args=(octets,))
+        writer.start()
+        with link.makefile("rb") as file:
+            statuses = Counter(statuses_in(file, MANY))
+        writer.join()
+    expect("the statuses", set(statuses), {401, 429})
+    expect_that(f"{statuses[401]} of {MANY} went through", statuses[401] >= MOST_OF_AN_ADDRESS)
+
+
 def statuses_in(file: BinaryIO, count: int) -> Iterator[int]:
     """The statuses of answers that come one behind the other."""
     for _ in range(count):
@@ -205,7 +221,7 @@ def what_is_not_served(world: World) -> None:
 
 
 STEPS = (a_packet_goes_through, a_peer_that_sends_chunks, certificates_that_do_not_fit, a_slow_sender,
-         too_many_at_once, too_many_open, lengths, what_is_not_served)
+         too_many_at_once, too_many_open, too_many_tokens, lengths, what_is_not_served)
 
 # What the steps above have fulfilled: four packets to the receiver, the slow one, one to who sends chunks, and those
 # that were held.

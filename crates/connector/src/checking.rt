@@ -4,7 +4,9 @@ use crate::{Exit, print_line};
 use ilp_accounts::Config;
 use ilp_book::Book;
 use ilp_offline::{check, check_book};
-use ilp_starting::{Refused, Telling, book_at, config_octets, config_of, tell_warnings};
+use ilp_starting::{
+    JournalWarnings, Refused, Telling, book_at, config_octets, config_of, tell_warnings,
+};
 use std::fs::File;
 use std::rt::{Files, Runtime};
 
@@ -30,8 +32,12 @@ where
         Ok(octets) => octets,
         Err(refused) => return Exit::Refused(refused),
     };
-    match journal_line(rt, &octets, journal) {
-        Ok(line) => print_checked(rt, path, &octets, line.as_str()),
+    match checked_journal(rt, &octets, journal) {
+        Ok(checked) => {
+            let exit = print_checked(rt, path, &octets, checked.line.as_str());
+            checked.warnings.tell(rt, journal, Telling::Line);
+            exit
+        }
         Err(refused) => Exit::Refused(refused),
     }
 }
@@ -43,28 +49,41 @@ fn print_checked<R: Runtime + AllocGlobal>(rt: &R, path: &str, octets: &[u8], li
     exit
 }
 
-// The line of a configuration and a journal.
-fn journal_line<R>(rt: &R, octets: &[u8], journal: &str) -> Result<String, Refused>
+// What there is to say of a configuration and a journal: the line, and what is in the way of a start.
+#[derive(Drop)]
+struct Checked {
+    line: String,
+    warnings: JournalWarnings,
+}
+
+// What there is to say of them.
+fn checked_journal<R>(rt: &R, octets: &[u8], journal: &str) -> Result<Checked, Refused>
 where
     R: Runtime + AllocGlobal + Files<File = File> + Copy,
 {
     let config = config_of(rt.alloc(), octets)?;
-    line_by(rt, &config, journal)
+    checked_by(rt, &config, journal)
 }
 
 // The same by a configuration that was read.
-fn line_by<R>(rt: &R, config: &Config, journal: &str) -> Result<String, Refused>
+fn checked_by<R>(rt: &R, config: &Config, journal: &str) -> Result<Checked, Refused>
 where
     R: Runtime + AllocGlobal + Files<File = File> + Copy,
 {
     match book_at(rt, config, journal) {
-        Ok(book) => book_line(rt, &book),
+        Ok(book) => checked_book(rt, &book),
         Err(refused) => Err(refused),
     }
 }
 
-// The line of a book.
-fn book_line<R: AllocGlobal>(rt: &R, book: &Book) -> Result<String, Refused> {
+// The same of a book.
+fn checked_book<R>(rt: &R, book: &Book) -> Result<Checked, Refused>
+where
+    R: Runtime + AllocGlobal + Copy,
+{
     let line = check_book(rt.alloc(), book)?;
-    Ok(line)
+    Ok(Checked {
+        line,
+        warnings: JournalWarnings::of(rt, book),
+    })
 }

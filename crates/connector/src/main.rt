@@ -9,6 +9,7 @@ mod asking;
 mod checking;
 mod helping;
 mod replaying;
+mod streams;
 
 use asking::{Asked, Words};
 use checking::{run_check, run_check_journal};
@@ -23,6 +24,7 @@ use std::io::ErrorKind;
 use std::net::{Net, TcpListener, TcpStream};
 use std::process::ExitCode;
 use std::rt::{Files, Runtime};
+use streams::HeldStreams;
 
 // How the program ends.
 #[derive(Drop)]
@@ -43,6 +45,7 @@ impl From<Refusal> for Exit {
 }
 
 fn main(rt: HostRuntime) -> ExitCode {
+    let _held = HeldStreams::hold(&rt);
     let exit = match given_words(&rt) {
         Ok(words) => run(&rt, &words),
         Err(exit) => exit,

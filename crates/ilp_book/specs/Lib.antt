@@ -24,6 +24,7 @@ pub use Rattle.ilp_rules.specs.Tables
 pub use Rattle.ilp_rules.specs.Lawful
 pub use Rattle.ilp_rules.specs.Parts
 pub use Rattle.ilp_rules.specs.Judging
+pub use Rattle.ilp_rules.specs.Broken
 pub use Rattle.ilp_rules.specs.Carried
 pub use Rattle.ilp_rules.specs.Carry
 pub use Rattle.ilp_rules.specs.TakenUp

@@ -23,7 +23,8 @@
 //!   was tried last, else of all, with its amount; `most_open_asks`, four, may be open at once.
 //! - `save` writes exactly the text of the journal; where a write fails or takes no octet, a front
 //!   of it that is not all. It has no allocator. Its condition: the configuration is the book's
-//!   own.
+//!   own. What it wrote is carried over by that configuration, and refused for nothing but want of
+//!   memory.
 //! - `carry_over` answers the book that `ilp_rules` makes of a text, or why there is none.
 //! - `runs_are_lawful`: over a valid configuration, for every list of the six calls within their
 //!   conditions (known peers, the destination's own route, a key of 1 to 128 octets), of any

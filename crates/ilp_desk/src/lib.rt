@@ -18,8 +18,9 @@
 //! - `Desk::hold` and the five others take the lock for one session. When it is let go, it is known
 //!   that some book of the desk was found, and what the step makes of it is what was replied and
 //!   booked (`IsReplyAt`).
-//! - `LockedBook::snapshot` copies what the report tells of its book, `Desk::snapshot` of some book
-//!   of the desk; nothing changes.
+//! - `LockedBook::snapshot` copies what the report tells of its book, and `open_settlement` tells the
+//!   open settlement that comes next; those of `Desk` tell it of some book of the desk. Nothing
+//!   changes.
 //! - `gather` answers the book only where each actor has one end (its share and records) with the
 //!   records that the journal has of that actor since the opening. It takes no memory.
 //! - Then the shares add up to the entries since the opening, and the records to what was fulfilled

@@ -9,7 +9,8 @@ use thiserror::Error;
 /// denied.
 #[derive(Clone, Copy, Debug, PartialEq, Eq, Error)]
 pub enum FileFault {
-    /// It can't be read or is too long, another connector has it, or one has stopped without saving it.
+    /// It can't be read or is too long, what stands at its path or beside it is no file that it can be, another
+    /// connector has it, or one has stopped without saving it.
     #[error("the journal can't be read, is in use, or was not saved")]
     Unread,
     /// It can't be written, or what stands beside it.

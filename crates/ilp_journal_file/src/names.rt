@@ -4,6 +4,7 @@ ghost use Rattle.std.specs.Prelude.{◌≡◌, ◌++◌, codes, string_bytes, If
 use crate::fault::FileFault;
 use ilp_notices::not_made;
 use std::alloc::{AllocError, Global};
+use std::fs::OpenFile;
 use std::io::{Eprint, ErrorKind};
 use std::path::Path;
 use std::rt::Files;
@@ -64,7 +65,7 @@ impl Names {
     }
 
     /// Has the system keep the names in the folder as they are now, even where the machine stops.
-    pub(crate) fn sync_folder<R: Files<File = fs::File>>(&self, rt: &R) -> io::Result<()> {
+    pub(crate) fn sync_folder<R: Files>(&self, rt: &R) -> io::Result<()> {
         fs::open(rt, self.folder())?.sync_all()
     }
 }

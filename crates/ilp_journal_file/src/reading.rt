@@ -8,7 +8,7 @@ use ilp_io::{ReadFault, read_to_limit};
 use ilp_notices::{journal_too_long, journal_unread};
 use std::alloc::Global;
 use std::fs;
-use std::fs::File;
+use std::fs::OpenFile;
 use std::io::{Eprint, ErrorKind};
 use std::rt::Files;
 use std::time::Clock;
@@ -16,13 +16,13 @@ use std::time::Clock;
 // The most octets of a journal's text.
 const TEXT_LIMIT: usize = 8_589_934_592;
 
-impl JournalFile {
+impl<F> JournalFile<F> {
     /// The text of the journal, or nothing where there is no file.
     ///
     /// Refusals: `Unread` where it can't be read or has more than 8,589,934,592 octets; `Memory`.
     pub fn read<R>(&self, rt: &R, alloc: Global) -> Result<Option<Vec<u8>>, FileFault>
     where
-        R: Files<File = File> + Clock + Eprint,
+        R: Files + Clock + Eprint,
     {
         self.names.read(rt, alloc)
     }
@@ -32,7 +32,7 @@ impl Names {
     /// As `JournalFile::read`.
     pub(crate) fn read<R>(&self, rt: &R, alloc: Global) -> Result<Option<Vec<u8>>, FileFault>
     where
-        R: Files<File = File> + Clock + Eprint,
+        R: Files + Clock + Eprint,
     {
         let path = self.journal.as_str();
         let file = match fs::open(rt, path) {
@@ -60,7 +60,7 @@ impl Names {
 }
 
 // Whether the system says so, before any of it is in memory. A pipe has no length.
-fn is_too_long(file: &File) -> bool {
+fn is_too_long<F: OpenFile>(file: &F) -> bool {
     match file.metadata() {
         Ok(metadata) => metadata.len() > TEXT_LIMIT as u64,
         Err(_) => false,
@@ -68,7 +68,7 @@ fn is_too_long(file: &File) -> bool {
 }
 
 // Why a file that was opened was not read to its end: the error of a read, or its length.
-fn tell_unread<R: Clock + Eprint>(rt: &R, path: &str, reader: &Noting<File>) {
+fn tell_unread<R: Clock + Eprint, F>(rt: &R, path: &str, reader: &Noting<F>) {
     match &reader.error {
         Some(error) => journal_unread(rt, path, error),
         None => journal_too_long(rt, path),

@@ -1,35 +1,45 @@
 //! Taking a journal's file, so that no other connector has it.
 
 use crate::fault::FileFault;
+use crate::locking::LockFile;
 use crate::names::Names;
 use ilp_notices::{journal_in_use, journal_not_locked, left_unsaved, not_made};
 use std::alloc::Global;
 use std::fs::{File, OpenOptions, TryLockError};
 use std::io::Eprint;
 use std::rt::Files;
-use std::time::Clock;
+use std::thread::sleep;
+use std::time::{Clock, Duration};
 use std::{fs, io};
+
+// How often a lock that another has is tried again, and the milliseconds before each time: who looks at
+// the journal (`look_at`) has it for a moment.
+const TRIES: u32 = 10;
+
+const REST: u64 = 50;
 
 /// A journal's file, which no other connector has while this lives.
 #[derive(Drop)]
-pub struct JournalFile {
+pub struct JournalFile<F = File> {
     pub(crate) names: Names,
     // The system unlocks it when it is closed, however the program ends.
-    lock: File,
+    lock: F,
 }
 
-impl JournalFile {
+impl<F: LockFile> JournalFile<F> {
     /// Takes the journal at this path, which need not be there yet. `J.lock` is made where it is not
     /// there, and stays.
     ///
-    /// Refusals: `Unwritten` where the path is empty, or `J.lock` can't be made; `Unread` where another connector has the
-    /// journal, or `J.running` is there; `Memory`.
-    pub fn take<R>(rt: &R, alloc: Global, path: &str) -> Result<JournalFile, FileFault>
+    /// Refusals: `Unwritten` where the path is empty, or `J.lock` can't be made; `Unread` where what stands
+    /// at the journal's path or beside it is no plain file with one name, or is a mount point, another
+    /// connector has the journal, or `J.running` is there; `Memory`.
+    pub fn take<R>(rt: &R, alloc: Global, path: &str) -> Result<JournalFile<F>, FileFault>
     where
-        R: Files<File = File> + Clock + Eprint,
+        R: Files<File = F> + Clock + Eprint,
     {
         let names = Names::of(alloc, path)?;
         names.expect_named(rt)?;
+        names.expect_fit(rt, alloc)?;
         let lock = match open_lock(rt, names.lock.as_str()) {
             Ok(lock) => lock,
             Err(error) => {
@@ -37,23 +47,47 @@ impl JournalFile {
                 return Err(FileFault::Unwritten);
             }
         };
-        match lock.try_lock() {
-            Ok(()) => {}
-            Err(TryLockError::WouldBlock) => {
-                journal_in_use(rt, path);
-                return Err(FileFault::Unread);
-            }
-            Err(TryLockError::Error(error)) => {
-                journal_not_locked(rt, names.lock.as_str(), &error);
-                return Err(FileFault::Unread);
-            }
-        }
+        names.expect_locked(rt, lock_patiently(rt, &lock))?;
         names.expect_saved(rt)?;
         if let Ok(true) = fs::exists(rt, names.new.as_str()) {
             left_unsaved(rt, names.new.as_str());
         }
         Ok(JournalFile { names, lock })
     }
+}
+
+impl Names {
+    /// Finds that a lock was had.
+    ///
+    /// It is refused as `Unread` where it wasn't.
+    pub(crate) fn expect_locked<R: Clock + Eprint>(
+        &self,
+        rt: &R,
+        locked: Result<(), TryLockError>,
+    ) -> Result<(), FileFault> {
+        match locked {
+            Ok(()) => Ok(()),
+            Err(TryLockError::WouldBlock) => {
+                journal_in_use(rt, self.journal.as_str());
+                Err(FileFault::Unread)
+            }
+            Err(TryLockError::Error(error)) => {
+                journal_not_locked(rt, self.lock.as_str(), &error);
+                Err(FileFault::Unread)
+            }
+        }
+    }
+}
+
+// Locks a file, also where another has it for a moment.
+fn lock_patiently<R: Clock, F: LockFile>(rt: &R, lock: &F) -> Result<(), TryLockError> {
+    for _try in 0..TRIES {
+        match lock.try_lock_alone() {
+            Err(TryLockError::WouldBlock) => sleep(rt, Duration::from_millis(REST)),
+            outcome => return outcome,
+        }
+    }
+    lock.try_lock_alone()
 }
 
 // The file that is locked, with what it has in it.

@@ -66,6 +66,35 @@ pub record CanStand (C : Configuration) (e : Entry) : Type 0 where
   pub actor : e.actor < 2 ^ 32
   pub what : WhatStands C e.what
 
+-- ---- entries whose numbers are of their types, as those in memory are
+
+pub record HoldIsTyped (h : Hold) : Type 0 where
+  pub amount : h.amount < 2 ^ 64
+  pub fee : h.fee < 2 ^ 64
+  pub out : h.out < 2 ^ 64
+  pub deadline : h.deadline <ℤ pos (2 ^ 63)
+  pub condition : AreOctets 32 h.condition
+
+pub record CreditIsTyped (c : Credited) : Type 0 where
+  pub key : IsKey c.key × IsBytes c.key
+  pub named : c.named < 2 ^ 128
+  pub scale : c.scale < 2 ^ 8
+  pub credited : c.credited < 2 ^ 64
+
+abbrev pub WhatIsTyped : What → Type 0
+WhatIsTyped (what.Hold h) = HoldIsTyped h
+WhatIsTyped (what.Fulfilled hold preimage) = (hold < 2 ^ 32) × AreOctets 32 preimage
+WhatIsTyped (what.Released hold cause) = (hold < 2 ^ 32) × CauseStands cause
+WhatIsTyped (what.Credited c) = CreditIsTyped c
+WhatIsTyped (what.Asked a) = a.amount < 2 ^ 64
+WhatIsTyped (what.Confirmed ask) = ask < 2 ^ 32
+WhatIsTyped (what.Undone ask) = ask < 2 ^ 32
+
+pub record IsTyped (e : Entry) : Type 0 where
+  pub moment : e.moment <ℤ pos (2 ^ 63)
+  pub actor : e.actor < 2 ^ 32
+  pub what : WhatIsTyped e.what
+
 -- ---- what a text stands for
 
 -- the text of these entries, each of which can stand in it

@@ -1,6 +1,7 @@
 //! The line of an entry.
 ghost use Rattle.std.specs.Prelude.{◌≡◌, ◌≤◌, ◌++◌, length};
 ghost use Rattle.std.specs.List.{flat_map};
+ghost use Rattle.ilp_journal_text.specs.Reading.{CauseStands, CreditIsTyped, HoldIsTyped, IsTyped, WhatIsTyped};
 ghost use Rattle.ilp_journal_text.specs.Text.{after_space, name_at, cause_fields, what_fields, entry_line};
 
 use crate::line::Line;
@@ -12,7 +13,8 @@ const LONGEST_FRONT: usize = 81;
 
 /// The line of an entry.
 pub(crate) fn entry_line(config: &Config, entry: &Entry) -> Line
-    ensures { result ≡ entry_line config.now entry.now }
+    ensures octets { result ≡ entry_line config.now entry.now }
+    ensures typed { IsTyped entry.now }
 {
     let mut line = Line::at(entry.moment);
     line.number(u64::from(entry.actor));
@@ -26,6 +28,7 @@ fn put_what(line: &mut Line, config: &Config, what: &What)
     requires front { length line.old ≤ LONGEST_FRONT }
     ensures octets { line.new ≡ line.old ++ flat_map after_space (what_fields config.now what.now) }
     ensures short { length line.new ≤ 511 }
+    ensures typed { WhatIsTyped what.now }
 {
     match what {
         What::Hold(hold) => put_hold(line, config, hold),
@@ -62,6 +65,7 @@ fn put_hold(line: &mut Line, config: &Config, hold: &Hold)
     ensures octets { line.new ≡ line.old
         ++ flat_map after_space (what_fields config.now (What.Hold hold.now)) }
     ensures short { length line.new ≤ 511 }
+    ensures typed { HoldIsTyped hold.now }
 {
     line.word("hold");
     line.word(name_of(config, hold.from));
@@ -79,6 +83,7 @@ fn put_credited(line: &mut Line, config: &Config, credited: &Credited)
     ensures octets { line.new ≡ line.old
         ++ flat_map after_space (what_fields config.now (What.Credited credited.now)) }
     ensures short { length line.new ≤ 511 }
+    ensures typed { CreditIsTyped credited.now }
 {
     line.word("credited");
     line.word(name_of(config, credited.peer));
@@ -93,6 +98,7 @@ fn put_cause(line: &mut Line, cause: Cause)
     requires front { length line.old ≤ 200 }
     ensures octets { line.new ≡ line.old ++ flat_map after_space (cause_fields cause) }
     ensures short { length line.new ≤ 511 }
+    ensures typed { CauseStands cause }
 {
     match cause {
         Cause::Late => line.word("Late"),

@@ -1,7 +1,7 @@
 //! One line of the text, field by field.
 ghost use Rattle.std.specs.Prelude.{◌≡◌, ◌+◌, ◌*◌, ◌≤◌, ◌∷◌, ◌++◌, [], length};
 ghost use Rattle.std.specs.Fmt.{decimal, signed_decimal};
-ghost use Rattle.hex.specs.Hex.{encode_lower};
+ghost use Rattle.hex.specs.Hex.{IsBytes, encode_lower};
 ghost use Rattle.ilp_journal_text.specs.Text.{after_space, end_line};
 
 use arrayvec::ArrayVec;
@@ -110,6 +110,7 @@ impl Line {
         requires room { length self.old + 2 * length octets.now + 1 ≤ LONGEST }
         ensures octets { self.new ≡ self.old ++ after_space (encode_lower octets.now) }
         ensures longer { length self.new ≡ length self.old + 2 * length octets.now + 1 }
+        ensures bytes { IsBytes octets.now }
     {
         let mut digits = [0; 2 * LONGEST_KEY];
         let digits = &mut digits[..2 * octets.len()];

@@ -1,9 +1,10 @@
 //! Writing the text of a journal.
-ghost use Rattle.std.specs.Prelude.{◌++◌, length, is_err, OnOk, OnErr, codes, if◌then◌else◌};
+ghost use Rattle.std.specs.Prelude.{◌++◌, length, All, is_err, OnOk, OnErr, codes, if◌then◌else◌};
 ghost use Rattle.std.specs.List.{flat_map};
 ghost use Rattle.std.specs.Io.KnownBytes.{Appends};
 ghost use Rattle.ilp_io.specs.Counts.{CountsUp};
 ghost use Rattle.ilp_io.specs.Writing.{AppendsProperPrefix};
+ghost use Rattle.ilp_journal_text.specs.Reading.{IsTyped};
 ghost use Rattle.ilp_journal_text.specs.Text.{entry_line, end_line, journal_text};
 
 use crate::entry::entry_line;
@@ -17,7 +18,8 @@ use std::alloc::Allocator;
 /// is taken.
 ///
 /// It is refused only where a write fails or takes no octet. Then a front of the text was taken, and
-/// not all of it.
+/// not all of it. Once all is written it tells too that the numbers of the entries are of their types,
+/// as those that a text may have (`specs/Reading.antt`, `IsTyped`).
 pub fn put_journal<A: Allocator, W: Sink>(
     config: &Config,
     journal: &Journal<A>,
@@ -25,6 +27,7 @@ pub fn put_journal<A: Allocator, W: Sink>(
 ) -> Result<(), WriteFault>
     ensures ok { OnOk result (Appends (W.contents sink.old) (W.contents sink.new)
         (journal_text config.now journal.now.entries)) }
+    ensures typed { OnOk result (All IsTyped journal.now.entries) }
     ensures err { OnErr result (AppendsProperPrefix (W.contents sink.old) (W.contents sink.new)
         (journal_text config.now journal.now.entries)) }
     ensures failed { CountsUp (W.failures sink.old) (W.failures sink.new)
@@ -43,6 +46,7 @@ fn put_entries<A: Allocator, W: Sink>(
 ) -> Result<(), WriteFault>
     ensures ok { OnOk result (Appends (W.contents sink.old) (W.contents sink.new)
         (flat_map (entry_line config.now) journal.now.entries)) }
+    ensures typed { OnOk result (All IsTyped journal.now.entries) }
     ensures err { OnErr result (AppendsProperPrefix (W.contents sink.old) (W.contents sink.new)
         (flat_map (entry_line config.now) journal.now.entries)) }
     ensures failed { CountsUp (W.failures sink.old) (W.failures sink.new)
@@ -61,6 +65,7 @@ fn put_entries<A: Allocator, W: Sink>(
 fn put_entry<W: Sink>(config: &Config, entry: &Entry, sink: &mut W) -> Result<(), WriteFault>
     ensures ok { OnOk result (Appends (W.contents sink.old) (W.contents sink.new)
         (entry_line config.now entry.now)) }
+    ensures typed { IsTyped entry.now }
     ensures err { OnErr result (AppendsProperPrefix (W.contents sink.old) (W.contents sink.new)
         (entry_line config.now entry.now)) }
     ensures failed { CountsUp (W.failures sink.old) (W.failures sink.new)

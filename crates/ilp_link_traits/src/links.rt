@@ -63,6 +63,13 @@ pub trait Uplink {
         ensures { Tells (told self.old)
             (sending to packet.now deadline (came_of result reply.new.octets)) (told self.new) };
 
+    /// By this the link learns of which hold the packet is that it is handed next: the hold's number,
+    /// the amount that goes out, in units of the receiving peer's asset, and the condition. It hands
+    /// nothing to anybody. A link that doesn't care leaves it as it is.
+    fn note_hold(&mut self, number: u32, amount: u64, condition: &[u8; 32])
+        ensures { told self.new ≡ told self.old }
+    {}
+
     /// By this the link learns what the octets are that this peer replied last, from whoever read
     /// them. It hands nothing to anybody. A link that doesn't care leaves it as it is.
     fn note_reply(&mut self, from: u32, kind: ReplyKind)

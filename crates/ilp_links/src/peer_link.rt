@@ -2,13 +2,13 @@
 ghost use Rattle.std.specs.Prelude.{◌<◌, length};
 
 use crate::calling::call;
-use crate::no_answer::NoAnswer;
+use crate::no_answer::{Failure, NoAnswer};
 use crate::time_left::time_left;
 use ilp_accounts::Config;
 use ilp_client::{packet_head, packet_reply};
 use ilp_http::Buffer;
 use ilp_link_traits::{Clock, LinkFault, ReplyKind, Uplink};
-use ilp_notices::Notices;
+use ilp_notices::{Notices, SentHold};
 use ilp_oer::Octets;
 use std::alloc::{AllocError, Allocator};
 use std::io::Eprint;
@@ -24,7 +24,8 @@ use std::net::{Net, TcpStream};
 /// last are told to the notices.
 ///
 /// The octets of a 200 are handed on whatever they are. Whoever reads them tells the link whether they
-/// are a Fulfill or a Reject, and the link the notices.
+/// are a Fulfill or a Reject, and the link the notices. A line on a packet that the peer may have
+/// fulfilled names its hold.
 #[derive(Drop)]
 pub struct PeerLink<'c, R: Copy, C: Clock + Copy> {
     rt: R,
@@ -32,6 +33,9 @@ pub struct PeerLink<'c, R: Copy, C: Clock + Copy> {
     clock: C,
     notices: &'c Notices,
     buffer: Buffer,
+    // The hold of the packet that is sent next, and that of the last one; none of a message.
+    next: Option<SentHold>,
+    last: Option<SentHold>,
 }
 
 impl<'c, R: Copy, C: Clock + Copy> PeerLink<'c, R, C> {
@@ -49,6 +53,8 @@ impl<'c, R: Copy, C: Clock + Copy> PeerLink<'c, R, C> {
             clock,
             notices,
             buffer: Buffer::new(config.allocator())?,
+            next: None,
+            last: None,
         })
     }
 }
@@ -62,6 +68,7 @@ impl<R: Net<Stream = TcpStream> + std::time::Clock + Eprint + Copy, C: Clock + C
         deadline: i64,
         reply: &mut Octets<A>,
     ) -> Result<(), LinkFault> {
+        self.last = self.next.take();
         if to >= self.config.peers() {
             return Err(LinkFault);
         }
@@ -82,16 +89,24 @@ impl<R: Net<Stream = TcpStream> + std::time::Clock + Eprint + Copy, C: Clock + C
                 }
             },
             Err(why) => {
+                let why = Failure::new(why, self.last);
                 self.notices.peer_failed(&self.rt, self.config, to, why);
                 Err(LinkFault)
             }
         }
     }
 
+    fn note_hold(&mut self, number: u32, amount: u64, condition: &[u8; 32]) {
+        self.next = Some(SentHold::new(number, amount, condition));
+    }
+
     fn note_reply(&mut self, from: u32, kind: ReplyKind) {
         match kind {
             ReplyKind::Answer => self.notices.peer_answered(from),
-            ReplyKind::NoAnswer => self.notices.peer_unreadable(&self.rt, self.config, from),
+            ReplyKind::NoAnswer => {
+                self.notices
+                    .peer_unreadable(&self.rt, self.config, from, self.last);
+            }
         }
     }
 }

@@ -1,5 +1,5 @@
 -- How full a journal is, and when that is told.
-use Rattle.std.specs.Prelude.{ℕ, nat_le, if◌then◌else◌}
+use Rattle.std.specs.Prelude.{ℕ, ◌*◌, ◌≤◌, nat_le, if◌then◌else◌}
 use Rattle.ilp_notices.specs.declared.journal.Mark.{Mark}
 use Rattle.ilp_notices.specs.declared.journal.Mark.TheVariants.{Eighty, Ninety, NinetyFive}
 
@@ -14,3 +14,7 @@ abbrev pub greatest_reached : ℕ → ℕ
 greatest_reached percent =
     if nat_le 95 percent then 95
     else (if nat_le 90 percent then 90 else (if nat_le 80 percent then 80 else 0))
+
+-- a journal has 80 percent or more of the entries that it may have
+abbrev pub IsNearlyFull : ℕ → ℕ → Type 0
+IsNearlyFull entries limit = limit * 80 ≤ entries * 100

@@ -1,6 +1,10 @@
 //! What is told of the file in which a journal is kept.
 
+ghost use Rattle.std.specs.Prelude.{◌<◌, length};
+
 use crate::line::{Level, tell};
+use ilp_accounts::Config;
+use std::fmt::Display;
 use std::io;
 use std::io::Eprint;
 use std::time::Clock;
@@ -51,6 +55,23 @@ pub fn not_saved<R: Clock + Eprint>(rt: &R, path: &str, new: &str, error: &io::E
     tell(rt, Level::Error, text);
 }
 
+/// Tells that the journal is the new one, but that the system may forget it where the machine stops, and
+/// what to do.
+pub fn not_synced<R: Clock + Eprint>(rt: &R, path: &str, running: &str, error: &io::Error) {
+    let text = format_args!(
+        "journal {path:?}: it is the new one, but its folder can't be synced: {error}: keep the report, see to the disk, and remove {running:?} before the next start"
+    );
+    tell(rt, Level::Error, text);
+}
+
+/// Tells that the journal was saved, and why the run is refused all the same.
+pub fn saved_and_marked<R: Clock + Eprint>(rt: &R, path: &str, running: &str, error: &io::Error) {
+    let text = format_args!(
+        "journal {path:?}: saved and whole, but can't remove {running:?}: {error}: remove it before the next start"
+    );
+    tell(rt, Level::Error, text);
+}
+
 /// Tells that a connector ended in a way that leaves no journal to be saved.
 pub fn nothing_to_save<R: Clock + Eprint>(rt: &R, path: &str) {
     let text = format_args!(
@@ -62,6 +83,34 @@ pub fn nothing_to_save<R: Clock + Eprint>(rt: &R, path: &str) {
 /// Tells that the mark of a connector that runs could not be taken away.
 pub fn mark_left<R: Clock + Eprint>(rt: &R, running: &str, error: &io::Error) {
     let text = format_args!("can't remove {running:?}: {error}: remove it before the next start");
+    tell(rt, Level::Error, text);
+}
+
+/// Tells that what stands at a path can't be a file of a journal, and why.
+pub fn journal_unfit<R: Clock + Eprint, D: Display + Drop>(rt: &R, path: &str, why: D) {
+    tell(rt, Level::Error, format_args!("can't use {path:?}: {why}"));
+}
+
+/// Tells that the configuration has another run than the journal was last run by, while a settlement with a
+/// peer is open.
+pub fn journal_of_another_run<R: Clock + Eprint>(rt: &R, path: &str, config: &Config, peer: u32)
+    requires { peer < length config.now.peers }
+{
+    let (name, run) = (config.name(peer), config.run());
+    let text = format_args!(
+        "journal {path:?}: a settlement with {name} is open, and it was asked for by another run than {run:?}: give `run` the name that stands in its `.lock`, until nothing is open"
+    );
+    tell(rt, Level::Error, text);
+}
+
+/// Tells that a peer has another asset than the one in which the journal counts what it has of the peer.
+pub fn journal_of_another_asset<R: Clock + Eprint>(rt: &R, path: &str, config: &Config, peer: u32)
+    requires { peer < length config.now.peers }
+{
+    let name = config.name(peer);
+    let text = format_args!(
+        "journal {path:?}: what it counts of {name} is not in the asset of the configuration: give {name} the asset that stands in its `.lock`, and settle before it gets another"
+    );
     tell(rt, Level::Error, text);
 }
 

@@ -1,19 +1,23 @@
 //! What an operator of a running connector is told on standard error, and how often.
 //!
 //! A line is `TIME LEVEL TEXT`. It is written at once, so that lines of threads don't mix, and one that
-//! can't be written is passed over. No line has a token, a key or an octet of a packet. What is
-//! written, and when, no clause can say: it stands in the comments, and `test_sockets` tests it.
+//! can't be written is passed over. No line has a token, of a packet none has more than its
+//! amount, four octets of its condition and the code of a Reject, and only a credit's has a key. What
+//! is written, and when, no clause can say: it stands in the comments, and `test_sockets` tests it.
 //!
 //! # What is proved
 //!
-//! Lines are proved safe, no more. Of private functions:
+//! Lines are proved safe, no more. Else:
 //!
 //! - the text of a time has the digits of its moment, as RFC 3339 places them;
 //! - `Pace::after`: a line is due just where its moment has come, and the next rest is the first
 //!   one or twice the last, up to the longest (`specs/Pace.antt`);
-//! - a threshold of the journal is told just where it is reached, and once.
+//! - a threshold of the journal is told just where it is reached, and once;
+//! - `JournalWarning` is made just where a journal's last moment lies a second ahead of the clock, or
+//!   where it has 80 percent of its entries.
 #![tactic(auto)]
 
+mod carried_journal;
 mod doubling;
 mod journal;
 mod journal_file;
@@ -24,19 +28,27 @@ mod peers;
 mod rejects;
 mod repeated;
 mod seconds;
+mod sent_hold;
 mod settlements;
+mod shown_key;
 mod starting;
 mod time_text;
 mod waiting;
 mod work;
+mod wrong_tokens;
 
+pub use carried_journal::{JournalWarning, journal_warning};
 pub use doubling::doubled;
 pub use journal_file::{
-    journal_absent, journal_carried, journal_in_use, journal_not_locked, journal_saved,
-    journal_too_long, journal_unread, left_unsaved, mark_left, no_journal, not_made, not_saved,
-    not_saved_yet, nothing_to_save, stopped_unsaved,
+    journal_absent, journal_carried, journal_in_use, journal_not_locked, journal_of_another_asset,
+    journal_of_another_run, journal_saved, journal_too_long, journal_unfit, journal_unread,
+    left_unsaved, mark_left, no_journal, not_made, not_saved, not_saved_yet, not_synced,
+    nothing_to_save, saved_and_marked, stopped_unsaved,
 };
 pub use notices::Notices;
+pub use sent_hold::SentHold;
+pub use settlements::ToldQuantity;
+pub use shown_key::ShownKey;
 pub use starting::{
     closing, configuration_warning, few_files, listening, no_thread, not_listening, one_worker,
     report_follows,

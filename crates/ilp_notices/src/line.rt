@@ -36,14 +36,21 @@ pub(crate) fn tell<R: Clock + Eprint, T: Display + Drop>(rt: &R, level: Level, t
     let _ = eprintln!(rt; "{time} {level} {text}");
 }
 
-// When a line is told, in milliseconds since 1970.
+/// A moment as lines have it, in milliseconds since 1970.
 #[derive(Clone, Copy)]
-struct Time {
+pub(crate) struct Time {
     moment: i64,
     ghost in_years: { IsMoment moment },
 }
 
 impl Time {
+    /// This moment, and at least 1970 and at most the last of the year 9999.
+    pub(crate) fn of(moment: i64) -> Time {
+        Time {
+            moment: cut(u64::try_from(moment).unwrap_or(0)),
+        }
+    }
+
     // The time now, and at most the last of the year 9999. Where the clock can't be read it is 0.
     fn now(rt: &impl Clock) -> Time {
         let moment = match rt.since_1970() {

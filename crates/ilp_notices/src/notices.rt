@@ -5,9 +5,11 @@ use crate::peers::OfPeer;
 use crate::rejects::Rejects;
 use crate::repeated::Repeated;
 use crate::work::WaitingWork;
+use crate::wrong_tokens::WrongTokens;
 use ilp_accounts::Config;
 use std::alloc::{AllocError, Global};
 use std::io::Eprint;
+use std::net::IpAddr;
 use std::sync::Wait;
 use std::time::Clock;
 
@@ -25,6 +27,7 @@ pub struct Notices {
     pub(crate) fullness: Fullness,
     pub(crate) clock: Repeated,
     rejects: Rejects,
+    wrong_tokens: WrongTokens,
 }
 
 impl Notices {
@@ -41,6 +44,7 @@ impl Notices {
             fullness: Fullness::new(),
             clock: Repeated::new(),
             rejects: Rejects::new(alloc, config.peers())?,
+            wrong_tokens: WrongTokens::new(),
         })
     }
 
@@ -51,18 +55,26 @@ impl Notices {
         }
     }
 
-    /// Tells what is over, and once a minute how many Rejects went to each peer. Somebody calls it each
+    /// Counts a request from this address that got 401, since it shows no peer's token.
+    pub fn wrong_token(&self, rt: &impl Wait, address: Option<IpAddr>) {
+        self.wrong_tokens.count(rt, address);
+    }
+
+    /// Tells what is over, how many requests got 401, and once a minute how many Rejects went to each peer. Somebody calls it each
     /// second.
     pub fn look<R: Clock + Eprint + Wait>(&self, rt: &R, config: &Config) {
         self.tell_over(rt, config);
+        self.wrong_tokens.tell_due(rt);
         if self.rejects.are_due(rt) {
             self.rejects.tell(rt, config);
         }
     }
 
-    /// Tells what is over, and at once of the Rejects that no line told of, since the connector ends.
+    /// Tells what is over, and at once of the Rejects and of requests with 401 that no line told of, since
+    /// the connector ends.
     pub fn last_look<R: Clock + Eprint + Wait>(&self, rt: &R, config: &Config) {
         self.tell_over(rt, config);
+        self.wrong_tokens.tell(rt);
         self.rejects.tell(rt, config);
     }
 

@@ -4,8 +4,10 @@ ghost use Rattle.std.specs.Prelude.{◌<◌, length, IfSome};
 use crate::line::{Level, tell};
 use crate::notices::Notices;
 use crate::repeated::Repeated;
+use crate::sent_hold::SentHold;
 use crate::waiting::Waiters;
 use ilp_accounts::Config;
+use std::fmt;
 use std::fmt::Display;
 use std::io::Eprint;
 use std::time::Clock;
@@ -17,6 +19,7 @@ pub(crate) struct OfPeer {
     unreadable: Repeated,
     engine: Repeated,
     pub(crate) settlements: Repeated,
+    pub(crate) taken_keys: Repeated,
     pub(crate) wait_for_peer: Waiters,
     pub(crate) wait_for_engine: Waiters,
 }
@@ -29,6 +32,7 @@ impl OfPeer {
             unreadable: Repeated::new(),
             engine: Repeated::new(),
             settlements: Repeated::new(),
+            taken_keys: Repeated::new(),
             wait_for_peer: Waiters::new(),
             wait_for_engine: Waiters::new(),
         }
@@ -55,16 +59,23 @@ impl Notices {
     }
 
     /// Tells that a peer answered with a 200 whose body is no Fulfill and no Reject. For `peer_failed`
-    /// it has answered.
-    pub fn peer_unreadable<R: Clock + Eprint>(&self, rt: &R, config: &Config, peer: u32) {
+    /// it has answered. The line names the hold of the packet, if it is of one.
+    pub fn peer_unreadable<R: Clock + Eprint>(
+        &self,
+        rt: &R,
+        config: &Config,
+        peer: u32,
+        hold: Option<SentHold>,
+    ) {
         let Some(of_peer) = self.of_peer(config, peer) else {
             return;
         };
         of_peer.itself.answered();
         if let Some(left_out) = of_peer.unreadable.failed(rt) {
             let (name, host) = (config.name(peer), config.host(peer));
+            let packet = Packet(hold);
             let text = format_args!(
-                "peer {name} at {host}: a 200 without a Fulfill or a Reject that can be read: it may have fulfilled the packet, at the connector's cost{left_out}"
+                "peer {name} at {host}: a 200 without a Fulfill or a Reject that can be read: it may have fulfilled the packet, at the connector's cost{packet}{left_out}"
             );
             tell(rt, Level::Error, text);
         }
@@ -129,6 +140,19 @@ impl Notices {
             self.peers.get(peer as usize)
         } else {
             None
+        }
+    }
+}
+
+// Which hold a packet is of, if it is of one.
+#[derive(Clone, Copy)]
+struct Packet(Option<SentHold>);
+
+impl Display for Packet {
+    fn fmt<W: fmt::Write>(&self, f: &mut fmt::Formatter<W>) -> fmt::Result {
+        match self.0 {
+            Some(hold) => write!(f, " ({hold})"),
+            None => Ok(()),
         }
     }
 }

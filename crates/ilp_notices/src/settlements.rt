@@ -3,7 +3,10 @@
 use crate::line::{Level, tell};
 use crate::notices::Notices;
 use crate::seconds::Seconds;
+use crate::shown_key::ShownKey;
 use ilp_accounts::Config;
+use std::fmt;
+use std::fmt::Display;
 use std::io::Eprint;
 use std::time::{Clock, Duration};
 
@@ -67,7 +70,8 @@ impl Notices {
         }
     }
 
-    /// Tells that this amount, in units of the peer's asset, came from a peer as a settlement.
+    /// Tells that this amount, in units of the peer's asset, came from a peer as a settlement, under
+    /// this key.
     pub fn credited<R: Clock + Eprint>(
         &self,
         rt: &R,
@@ -75,11 +79,49 @@ impl Notices {
         peer: u32,
         number: u32,
         amount: u64,
+        key: ShownKey,
     ) {
         if self.of_peer(config, peer).is_some() {
             let name = config.name(peer);
-            let text = format_args!("credit {number} of {name}: {amount}");
+            let text = format_args!("credit {number} of {name}: {amount}, key {key}");
             tell(rt, Level::Info, text);
         }
+    }
+
+    /// Tells that a settlement of a peer was refused, since the entry of this number has its key with
+    /// another quantity.
+    pub fn key_taken<R: Clock + Eprint>(
+        &self,
+        rt: &R,
+        config: &Config,
+        peer: u32,
+        number: u32,
+        key: ShownKey,
+        kept: ToldQuantity,
+        told: ToldQuantity,
+    ) {
+        let Some(of_peer) = self.of_peer(config, peer) else {
+            return;
+        };
+        if let Some(left_out) = of_peer.taken_keys.failed(rt) {
+            let name = config.name(peer);
+            let text = format_args!(
+                "settlement of {name} refused, and not credited: {told} under the key {key}, which credit {number} has with {kept}: see which one its engine means{left_out}"
+            );
+            tell(rt, Level::Error, text);
+        }
+    }
+}
+
+/// A quantity as an engine told it: an amount, of which 10 to the power of its scale make one whole.
+#[derive(Clone, Copy, Debug, PartialEq, Eq)]
+pub struct ToldQuantity {
+    pub amount: u128,
+    pub scale: u8,
+}
+
+impl Display for ToldQuantity {
+    fn fmt<W: fmt::Write>(&self, f: &mut fmt::Formatter<W>) -> fmt::Result {
+        write!(f, "{} at scale {}", self.amount, self.scale)
     }
 }

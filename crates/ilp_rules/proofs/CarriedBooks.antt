@@ -86,7 +86,7 @@ pub carried_or_not : (C : Configuration) (octets : List ℕ) (now : ℤ) (book :
 carried_or_not C octets now book (BadJournalText line) valid is bad = absurd (never_bad C is.entries octets line is.written bad)
 carried_or_not C octets now book (Unlawful n rule) valid is bad =
     let same : bad.0 ≡ is.entries = text.one_journal C valid bad.0 is.entries octets bad.1 is.written in
-    let stop : IsFirstUnlawful C is.entries n = subst (λ j. IsFirstUnlawful C j n) same bad.2 in
+    let stop : IsFirstUnlawful C is.entries n rule = subst (λ j. IsFirstUnlawful C j n rule) same bad.2 in
     absurd (stop.unlawful (lawful_front (begun_with C is.entries) (n + 1) is.lawful))
 carried_or_not C octets now book Memory valid is bad = refl
 

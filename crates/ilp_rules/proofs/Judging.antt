@@ -15,7 +15,10 @@ use Rattle.ilp_journal.specs.Journal.{Entries, opening, closing, open_count, ope
 use Rattle.ilp_journal.specs.Balance.{balance, rise, fall}
 use Rattle.ilp_order.proofs.Sums.{Each-parts}
 use Rattle.ilp_journal.proofs.Growth.{balance-push, open_count-push}
+use Rattle.ilp_rules.specs.declared.rule.BrokenRule.{BrokenRule}
+use Rattle.ilp_rules.specs.declared.rule.BrokenRule.TheVariants as rule
 use Rattle.ilp_rules.specs.Book.{PlainBook, has_room, pushed}
+use Rattle.ilp_rules.specs.Broken.{Breaks, BreaksRule}
 use Rattle.ilp_rules.specs.Configured.{IsKnown}
 use Rattle.ilp_rules.specs.Judging.{behind_all, HasRoom, KeepsLimits}
 use Rattle.ilp_rules.specs.Lawful.{IsLawful, IsWithinLimits, IsInTime, KeepsRule, KeepsRuleOf, IsDueAsk, most_open_asks, owed_above, due_amount}
@@ -159,3 +162,10 @@ up_to last d last' d' same_last same_d e = omega (arith, ints)
 
 pub not_reached : (d m d' m' : ℤ) → d' ≡ d → m' ≡ m → int_le d' m' ≡ false → d ≤ℤ m → ⊥
 not_reached d m d' m' same_d same_m e h = omega (arith, ints)
+
+-- ---- which rule is broken
+
+-- a rule but that of moments
+pub breaks_rule : (C : Configuration) (before : Entries) (e : Entry) (r : BrokenRule) → BreaksRule C before e.moment e.what r → Breaks C before e r
+breaks_rule C before e rule.Moment breaks = absurd breaks
+breaks_rule C before e r breaks = breaks

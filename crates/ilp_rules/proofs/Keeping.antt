@@ -152,12 +152,6 @@ grown_fits C base journal tallies holds keys opened e parts after none opens =
 
 -- ---- one entry more
 
--- an entry that may come next fits
-pub next_fits : (C : Configuration) (base : ℕ) (journal : Booked) (tallies : PlainTallies) (holds : Table) (keys : PlainKeyTable) (e : Entry) → AreParts C base journal tallies holds keys → IsLawful (pushed (book_of C base journal) e)
-    → length journal.entries < journal.limit
-next_fits C base journal tallies holds keys e parts after =
-    omega (arith, (limits_now (pushed (book_of C base journal) e) after).room, length-append journal.entries (e ∷ []), parts.limited)
-
 -- it opens one at most
 pub opens_one : (w : What) → opening w ≤ 1
 opens_one (what.Hold h) = omega arith
@@ -169,7 +163,7 @@ opens_one (what.Confirmed ask) = omega arith
 opens_one (what.Undone ask) = omega arith
 
 -- and leaves no more open than were and it opens
-opens_at_most : (book : PlainBook) (e : Entry) → IsLawful book → IsLawful (pushed book e) → open_count (book.entries ++ e ∷ []) ≤ open_count book.entries + opening e.what
+pub opens_at_most : (book : PlainBook) (e : Entry) → IsLawful book → IsLawful (pushed book e) → open_count (book.entries ++ e ∷ []) ≤ open_count book.entries + opening e.what
 opens_at_most book e before after =
     omega (arith, open_count-push book.entries e (answers_once book before) (closes_once book before) (answers_last book e after) (closes_last book e after))
 
@@ -186,23 +180,29 @@ pub record IsNext (j : Entries) (tallies : PlainTallies) (deadlines : FinMap nat
   pub absent : fin_map.get deadlines (length j) ≡ None
 
 -- it is so of an entry that the book's rules allow
-pub is_next : (C : Configuration) (base : ℕ) (journal : Booked) (tallies : PlainTallies) (holds : Table) (keys : PlainKeyTable) (e : Entry) → AreParts C base journal tallies holds keys → IsLawful (pushed (book_of C base journal) e) → length journal.entries < journal.limit
-    → IsNext journal.entries tallies holds.map e
-is_next C base journal tallies holds keys e parts after room =
+pub next_by : (C : Configuration) (base : ℕ) (journal : Booked) (tallies : PlainTallies) (deadlines : FinMap nat_cmp ℤ) (e : Entry) → IsValid C → IsLawful (book_of C base journal) → IsLawful (pushed (book_of C base journal) e) → length journal.entries < C.settings.journal
+    → AreTallies (peer_assets C) base journal.entries tallies → fin_map.get deadlines (length journal.entries) ≡ None → IsNext journal.entries tallies deadlines e
+next_by C base journal tallies deadlines e valid lawful after room tallied absent =
     let j = journal.entries in
     let book = book_of C base journal in
     let rule = rule_last book e after in
     record {
-      tallied = own_tallies (peer_assets C) base j tallies parts.tabled.tallied;
-      longer = omega (arith, room, parts.limited, parts.valid.settings.journal.1);
+      tallied = own_tallies (peer_assets C) base j tallies tallied;
+      longer = omega (arith, room, valid.settings.journal.1);
       few = room_to_ask C base j e.moment e.what rule;
-      known = subst (λ (assets : List ℕ). KnowsPeers (length assets) e.what) (sym parts.tabled.tallied.listed) (peers_known C base j e.moment e.what rule);
-      answers = answers_once book parts.lawful;
-      closings = closes_once book parts.lawful;
+      known = subst (λ (assets : List ℕ). KnowsPeers (length assets) e.what) (sym tallied.listed) (peers_known C base j e.moment e.what rule);
+      answers = answers_once book lawful;
+      closings = closes_once book lawful;
       answer = answers_last book e after;
       closes = closes_last book e after;
-      absent = parts.tabled.open_holds (length j) ∙ ap deadline_of (none_past j (length j) (omega arith));
+      absent = absent;
     }
+
+pub is_next : (C : Configuration) (base : ℕ) (journal : Booked) (tallies : PlainTallies) (holds : Table) (keys : PlainKeyTable) (e : Entry) → AreParts C base journal tallies holds keys → IsLawful (pushed (book_of C base journal) e) → length journal.entries < journal.limit
+    → IsNext journal.entries tallies holds.map e
+is_next C base journal tallies holds keys e parts after room =
+    let j = journal.entries in
+    next_by C base journal tallies holds.map e parts.valid parts.lawful after (omega (arith, room, parts.limited)) parts.tabled.tallied (parts.tabled.open_holds (length j) ∙ ap deadline_of (none_past j (length j) (omega arith)))
   where
     none_past : (j : Entries) (n : ℕ) → length j ≤ n → open_hold_at j n ≡ None
     none_past j n past = ap (λ o. cond (is_unanswered j n) (option_and_then (λ (d : Entry). as_hold d.what) o) None) (slice_get_past j n past) ∙ either (is_unanswered j n)
@@ -216,12 +216,6 @@ pub still_next : (j k : Entries) (tallies same : PlainTallies) (deadlines those 
 still_next j k tallies same deadlines those e entries listed held next =
     subst (λ (es : Entries). IsNext es same those e) (sym entries)
     (subst (λ (t : PlainTallies). IsNext j t those e) (sym listed) (subst (λ (m : FinMap nat_cmp ℤ). IsNext j tallies m e) (sym held) next))
-
--- it is so of each entry that may come next, where room is made for it
-pub next_of : (C : Configuration) (base : ℕ) (journal : Booked) (entries : Entries) (tallies same : PlainTallies) (holds : Table) (those : FinMap nat_cmp ℤ) (keys : PlainKeyTable) (e : Entry) → AreParts C base journal tallies holds keys → IsLawful (pushed (book_of C base journal) e)
-    → entries ≡ journal.entries → same ≡ tallies → those ≡ holds.map → IsNext entries same those e
-next_of C base journal entries tallies same holds those keys e parts lawful grown listed held =
-    still_next journal.entries entries tallies same holds.map those e grown listed held (is_next C base journal tallies holds keys e parts lawful (next_fits C base journal tallies holds keys e parts lawful))
 
 -- the parts of the book after an entry that its tables follow
 pub parts_next : (C : Configuration) (base : ℕ) (before after : Booked) (tallies tallied : PlainTallies) (holds held : Table) (keys kept : PlainKeyTable) (e : Entry) → AreParts C base before tallies holds keys → IsLawful (pushed (book_of C base before) e)

@@ -9,6 +9,8 @@ pub mod Keeping
 pub mod Judging
 pub mod Ending
 pub mod Rebasing
+mod CarriedParts
 mod TakingUp
 mod CarriedBooks
+pub mod Saved
 mod KeptOnce

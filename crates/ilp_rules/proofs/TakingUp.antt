@@ -1,13 +1,15 @@
 -- The entries of a text are taken up one by one.
-use Rattle.std.proofs.Common.{◌≡◌, ℕ, ◌+◌, ◌^◌, ◌<◌, ◌≤◌, true, false, Option, Some, List, [], ◌∷◌, ◌++◌, length, take, refl, sym, ap, ◌∙◌, subst, arith, length-append}
-use Rattle.std.specs.Prelude.{Result, Ok, Err, IfErr, OnOk, OnErr, IfSome}
+use Rattle.std.proofs.Common.{◌≡◌, ℕ, ◌+◌, ◌^◌, ◌<◌, ◌≤◌, Bool, true, false, cond, Option, Some, List, [], ◌∷◌, ◌++◌, length, take, refl, sym, ap, ◌∙◌, subst, arith, length-append}
+use Rattle.std.specs.Prelude.{Result, Ok, Err, IfErr, OnOk, OnErr, IfSome, IsSomeAnd, slice_get, ◌==◌}
 use Rattle.std.specs.Result.{is_ok}
+use Rattle.std.proofs.lemmas.Bool.{eqb-true, eq-eqb}
 use Rattle.std.proofs.Math.Seq.{take-length, take-append_seam}
 use Rattle.std.proofs.lemmas.List.{take-append-le, length-take-le}
 use Rattle.ilp_accounts.specs.Configuration.{Configuration}
 use Rattle.ilp_accounts.specs.Valid.{IsValid}
 use Rattle.ilp_journal.specs.declared.entry.Entry.{Entry}
 use Rattle.ilp_journal.specs.Journal.{Entries}
+use Rattle.ilp_order.proofs.Sums.{slice_get-push}
 use Rattle.ilp_journal_text.specs.declared.reading.TextFault.{TextFault}
 use Rattle.ilp_journal_text.specs.declared.reading.TextFault.TheVariants as text_fault
 use Rattle.ilp_journal_text.specs.Reading.{Unread, Begins, Takes, IsAtEnd, HasRead, Explains, LacksFirstLine, IsTextOf}
@@ -15,6 +17,7 @@ use Rattle.ilp_journal_text.proofs.Read.{has_begun, has_taken, has_ended}
 use Rattle.ilp_journal_text.proofs.FirstBad.{first_bad, lacks_first}
 use Rattle.ilp_rules.specs.declared.fault.CarryFault.{CarryFault}
 use Rattle.ilp_rules.specs.declared.fault.CarryFault.TheVariants.{BadJournalText, Unlawful, Memory}
+use Rattle.ilp_rules.specs.Broken.{Breaks}
 use Rattle.ilp_rules.specs.Book.{PlainBook, with_entries, pushed}
 use Rattle.ilp_rules.specs.Carried.{begun_with}
 use Rattle.ilp_rules.specs.Carry.{of_text, IsWhyNotCarried}
@@ -46,6 +49,17 @@ taking_up C text lines u now is begins = record {
 
 -- ---- one more entry
 
+-- what stands in front of the last entry, and the last
+in_front : (j : Entries) (e : Entry) (n : ℕ) → n < length j → slice_get (j ++ e ∷ []) n ≡ slice_get j n
+in_front j e n within = slice_get-push j e n ∙ of (n == length j) refl
+  where
+    of : (b : Bool) → (n == length j) ≡ b → cond b (Some e) (slice_get j n) ≡ slice_get j n
+    of true same = absurd (omega (arith, eqb-true n (length j) same, within))
+    of false other = refl
+
+at_last : (j : Entries) (e : Entry) (n : ℕ) → n ≡ length j → slice_get (j ++ e ∷ []) n ≡ Some e
+at_last j e n number = slice_get-push j e n ∙ ap (λ b. cond b (Some e) (slice_get j n)) (eq-eqb n (length j) number)
+
 -- one that came after the last lawful one
 pub passed_over : (C : Configuration) (text : List ℕ) (lines after : Unread) (fault : CarryFault) (now : PlainBook) (e : Entry) → IsTakingUp C text lines (Err fault) now → Takes C e lines after
     → IsTakingUp C text after (Err fault) now
@@ -66,6 +80,9 @@ passed_over C text lines after fault now e so_far takes = record {
       below = stopped.below;
       lawful = subst (λ es. IsLawful (with_entries (carrying C) es)) (sym (front n (omega (arith, stopped.within)))) stopped.lawful;
       unlawful = λ lawful. stopped.unlawful (subst (λ es. IsLawful (with_entries (carrying C) es)) (front (n + 1) (omega (arith, stopped.within))) lawful);
+      broken =
+          let P : Option Entry → Entries → Type 0 = λ o es. IsSomeAnd o (λ (d : Entry). Breaks C es d rule) in
+          subst (λ o. P o (take n (so_far.entries ++ e ∷ []))) (sym (in_front so_far.entries e n stopped.within)) (subst (P (slice_get so_far.entries n)) (sym (front n (omega (arith, stopped.within)))) stopped.broken);
     }
     still Memory stopped = tt
 
@@ -104,6 +121,9 @@ stopped_here C text lines after u fault now new e so_far takes stops same = reco
           below = stops.below;
           lawful = subst (λ es. IsLawful (with_entries (carrying C) es)) (sym front) (subst IsLawful so_far.state stops.lawful);
           unlawful = λ lawful. stops.unlawful (subst (λ (b : PlainBook). IsLawful (pushed b e)) (sym so_far.state) (subst (λ es. IsLawful (with_entries (carrying C) es)) whole lawful));
+          broken =
+              let P : Option Entry → Entries → Type 0 = λ o es. IsSomeAnd o (λ (d : Entry). Breaks C es d rule) in
+              subst (λ o. P o (take n (j ++ e ∷ []))) (sym (at_last j e n number)) (subst (P (Some e)) (sym front) (subst (λ (b : PlainBook). Breaks b.config b.entries e rule) so_far.state stops.broken));
         }
     halted Memory stops = tt
 
@@ -149,6 +169,7 @@ not_taken_up C text lines fault now so_far ends = of fault so_far.state
         within = stopped.within;
         lawful = lawful_behind (with_entries (carrying C) (take n j)) (length j) (omega (arith, length-take-le n j (omega (arith, stopped.within)), stopped.within)) stopped.lawful;
         unlawful = λ lawful. stopped.unlawful (lawful_behind (with_entries (begun_with C j) (take (n + 1) j)) behind_all (omega (arith, length-take-le (n + 1) j (omega (arith, stopped.within)), stopped.below)) lawful);
+        broken = stopped.broken;
       },
     )
     of Memory stopped = tt

@@ -5,6 +5,7 @@ pub mod Tables
 pub mod Lawful
 pub mod Parts
 pub mod Judging
+pub mod Broken
 pub mod Carried
 pub mod Carry
 pub mod TakenUp

@@ -1,36 +1,40 @@
 -- How far the entries of a text were taken up. No public clause cites these words.
-use Rattle.std.specs.Prelude.{◌≡◌, ℕ, ◌+◌, ◌<◌, length, take, ⊤}
+use Rattle.std.specs.Prelude.{◌≡◌, ℕ, ◌+◌, ◌<◌, length, take, slice_get, IsSomeAnd, ⊤}
 use Rattle.ilp_accounts.specs.Configuration.{Configuration}
 use Rattle.ilp_journal.specs.declared.entry.Entry.{Entry}
 use Rattle.ilp_journal.specs.Journal.{Entries}
 use Rattle.ilp_rules.specs.declared.fault.CarryFault.{CarryFault}
 use Rattle.ilp_rules.specs.declared.fault.CarryFault.TheVariants.{BadJournalText, Unlawful, Memory}
+use Rattle.ilp_rules.specs.declared.rule.BrokenRule.{BrokenRule}
+use Rattle.ilp_rules.specs.Broken.{Breaks}
 use Rattle.ilp_rules.specs.Book.{PlainBook, with_entries, pushed}
 use Rattle.ilp_rules.specs.Judging.{behind_all, carrying}
 use Rattle.ilp_rules.specs.Lawful.{IsLawful}
 
--- a journal that is lawful stops being so with an entry that comes next
-pub record IsStop (book : PlainBook) (e : Entry) (n : ℕ) : Type 0 where
+-- a journal that is lawful stops being so with an entry that comes next, which breaks the rule
+pub record IsStop (book : PlainBook) (e : Entry) (n : ℕ) (rule : BrokenRule) : Type 0 where
   pub number : n ≡ length book.entries
   pub below : n < behind_all
   pub lawful : IsLawful book
   pub unlawful : IsLawful (pushed book e) → ⊥
+  pub broken : Breaks book.config book.entries e rule
 
 -- why an entry isn't taken up
 abbrev pub StopsAt : PlainBook → Entry → CarryFault → Type 0
 StopsAt book e (BadJournalText line) = ⊥
-StopsAt book e (Unlawful n rule) = IsStop book e n
+StopsAt book e (Unlawful n rule) = IsStop book e n rule
 StopsAt book e Memory = ⊤
 
 -- the entries before the number n are lawful, and with that one they aren't
-pub record StopsBelow (C : Configuration) (entries : Entries) (n : ℕ) : Type 0 where
+pub record StopsBelow (C : Configuration) (entries : Entries) (n : ℕ) (rule : BrokenRule) : Type 0 where
   pub within : n < length entries
   pub below : n < behind_all
   pub lawful : IsLawful (with_entries (carrying C) (take n entries))
   pub unlawful : IsLawful (with_entries (carrying C) (take (n + 1) entries)) → ⊥
+  pub broken : IsSomeAnd (slice_get entries n) (λ (e : Entry). Breaks C (take n entries) e rule)
 
 -- why not all entries were taken up
 abbrev pub HasStopped : Configuration → Entries → CarryFault → Type 0
 HasStopped C entries (BadJournalText line) = ⊥
-HasStopped C entries (Unlawful n rule) = StopsBelow C entries n
+HasStopped C entries (Unlawful n rule) = StopsBelow C entries n rule
 HasStopped C entries Memory = ⊤

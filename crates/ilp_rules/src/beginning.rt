@@ -61,7 +61,7 @@ impl<A: Allocator + Clone> Beginning<A> {
     {
         let mut carrying = Carrying::new(alloc, config)?;
         carrying.take_up_text(text)?;
-        carrying.end_holds(now)?;
+        carrying.end_holds(now);
         Ok(Beginning::begun_with(carrying))
     }
 

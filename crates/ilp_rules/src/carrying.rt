@@ -4,6 +4,7 @@ mod judging;
 mod reading;
 
 ghost use Rattle.std.specs.Prelude.{◌≡◌, OnOk, OnErr, IfOk};
+ghost use Rattle.ilp_journal.specs.Journal.{closing};
 ghost use Rattle.ilp_rules.specs.Book.{pushed};
 ghost use Rattle.ilp_rules.specs.Lawful.{IsLawful};
 ghost use Rattle.ilp_rules.specs.Judging.{carrying};
@@ -18,7 +19,8 @@ use std::marker::Model;
 const BEHIND_ALL: u32 = u32::MAX;
 
 /// A book that isn't whole yet: it is lawful as far as it has come, and began with all of that. Holds
-/// may be open in it.
+/// may be open in it. Its table of holds stays empty all the same, since all of them end before there is
+/// a book: so no hold is put there and taken out again.
 #[derive(Drop)]
 pub(crate) struct Carrying<A: Allocator> {
     pub(crate) config: Config,
@@ -29,14 +31,14 @@ pub(crate) struct Carrying<A: Allocator> {
 impl<A: Allocator> Model for Carrying<A> {
     ghost use Rattle.ilp_rules.specs.Book.{PlainBook};
     ghost use Rattle.ilp_rules.specs.Judging.{behind_all};
-    ghost use Rattle.ilp_rules.specs.Parts.{AreParts, book_of};
+    ghost use Rattle.ilp_rules.specs.Parts.{AreCarried, book_of};
 
     ghost Value = { PlainBook };
 
     ghost view = { λ c. book_of c.config behind_all c.journal };
 
     ghost invariant = { λ c.
-        AreParts c.config behind_all c.journal c.tables.tallies c.tables.holds c.tables.keys };
+        AreCarried c.config c.journal c.tables.tallies c.tables.holds c.tables.keys };
 }
 
 impl<A: Allocator + Clone> Carrying<A> {
@@ -63,8 +65,20 @@ impl<A: Allocator + Clone> Carrying<A> {
         let open_count = self.tables.tallies.open_count();
         self.journal.reserve(open_count as usize + 2)?;
         self.tables.prepare(number, &entry.what)?;
-        self.tables.apply(&self.journal, &entry);
+        self.tables.tallies.apply(&self.journal, &entry);
         self.journal.push_reserved(entry);
         Ok(())
+    }
+}
+
+impl<A: Allocator> Carrying<A> {
+    /// Takes up an entry that ends something, for which room was made with what it ends.
+    pub(crate) fn close(&mut self, ending: Entry)
+        requires ends { closing ending.what ≡ 1 }
+        requires lawful { IsLawful (pushed self.old ending) }
+        ensures { self.new ≡ pushed self.old ending }
+    {
+        self.tables.tallies.apply(&self.journal, &ending);
+        self.journal.push_reserved(ending);
     }
 }

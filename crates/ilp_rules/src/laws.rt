@@ -2,12 +2,14 @@
 //! nothing: their contracts are the laws. A law tells whoever reads the definitions what follows from
 //! them; no code needs to call it.
 
-ghost use Rattle.std.specs.Prelude.{◌≡◌, ℕ, ℤ, ◌≤◌, List, Some, None};
+ghost use Rattle.std.specs.Prelude.{◌≡◌, ℕ, ℤ, ◌≤◌, List, All, Some, None};
 ghost use Rattle.ilp_accounts.specs.Configuration.{Configuration};
 ghost use Rattle.ilp_accounts.specs.Valid.{IsValid};
 ghost use Rattle.ilp_journal.specs.declared.entry.Credited.{Credited};
 ghost use Rattle.ilp_journal.specs.Journal.{Entries, IsBase, open_hold_at};
 ghost use Rattle.ilp_journal.specs.TrialBalance.{IsBalanced};
+ghost use Rattle.ilp_journal_text.specs.Reading.{IsTyped};
+ghost use Rattle.ilp_journal_text.specs.Text.{journal_text};
 ghost use Rattle.ilp_rules.specs.declared.fault.CarryFault.{CarryFault};
 ghost use Rattle.ilp_rules.specs.declared.fault.CarryFault.TheVariants as CarryFault;
 ghost use Rattle.ilp_rules.specs.Book.{PlainBook, with_base};
@@ -55,4 +57,16 @@ pub fn texts_are_carried_in_one_way()
     ensures one { (C : Configuration) (text : List ℕ) (now : ℤ) (book other : PlainBook)
         → IsValid C → IsCarriedOver C text now book → IsCarriedOver C text now other
         → book ≡ other }
+{}
+
+/// The text of a lawful book whose numbers are of their types, as `put_journal` tells of what it wrote,
+/// is carried over, and refused for nothing but want of memory.
+pub fn saved_texts_are_carried()
+    ensures carried { (book : PlainBook) (now : ℤ) → IsLawful book → All IsTyped book.entries
+        → IsCarriedOver book.config (journal_text book.config book.entries) now
+        (carried book.config book.entries now) }
+    ensures refused { (book : PlainBook) (fault : CarryFault) → IsValid book.config → IsLawful book
+        → All IsTyped book.entries
+        → IsWhyNotCarried book.config (journal_text book.config book.entries) fault
+        → fault ≡ CarryFault.Memory }
 {}

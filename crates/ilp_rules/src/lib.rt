@@ -10,16 +10,17 @@
 //! - `Beginning::carry_over` answers what a book begins with by a text (`specs/Carry.antt`,
 //!   `IsCarriedOver`): the text's entries are lawful with the base behind them, and behind them are
 //!   the ends of their open holds. Else it names the first bad line of a text that is none, or the
-//!   first entry at which the journal of one stops being lawful (`IsWhyNotCarried`), or is short of
-//!   memory. `Beginning` keeps that the journal is lawful, that no hold is open in it, and that its
+//!   first entry at which the journal of one stops being lawful and a rule that this breaks
+//!   (`IsWhyNotCarried`, `specs/Broken.antt`), or is short of memory. `Beginning` keeps that the journal is lawful, that no hold is open in it, and that its
 //!   tables are the journal's.
-//! - `Tables` has what a journal comes to. `prepare` makes the room for one entry more, and leaves
-//!   all as it was where memory is denied; `apply` takes it up, without memory.
+//! - `Tables` has what a journal comes to. `prepare` makes the room for one entry more; where memory
+//!   is denied sums, holds and keys are as they were. `apply` takes it up.
 //! - `are_few_open`, `due_amount`, `open_ask_at`, `is_short`, `open_hold_at`, `quote_between`,
 //!   `after` and `moment_at` are the values of the definitions of their names.
 //! - `carried_books`: what is carried over is lawful, no hold is open in it, and its base is its
 //!   length. `texts_are_carried_in_one_way`: a text that is carried over is refused for want of
-//!   memory alone, and is carried over as one book.
+//!   memory alone, and is carried over as one book. `saved_texts_are_carried`: the text of a lawful
+//!   book is one, where the numbers of its entries are of their types.
 //! - `bases_can_rise`: a book stays lawful where its base is raised. `lawful_books`: no two credits
 //!   are of one peer and under one key, and the books of each asset balance.
 #![tactic(auto)]

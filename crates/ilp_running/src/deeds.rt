@@ -1,17 +1,23 @@
-//! What there is to tell of a connection that was served: a settlement that was credited, and a Reject
-//! that went to its sender.
+//! What there is to tell of a connection that was served: a settlement that was credited, or refused
+//! under a key that is taken, and a Reject that went to its sender.
 
 use crate::threads::Shared;
 use ilp_desk::Naming;
+use ilp_journal::What;
+use ilp_notices::{ShownKey, ToldQuantity};
 use ilp_server::Deed;
+use ilp_settlement::Quantity;
 use ilp_workers::{LocalReject, ToldReject};
 use std::io::Eprint;
 use std::sync::Wait;
 use std::time;
 
-/// Tells what a request brought about, whatever became of its response: a credit, and that the journal
-/// has no room.
-pub(crate) fn tell_deed<J: Naming, R: time::Clock + Eprint>(shared: &Shared<'_, J, R>, deed: Deed) {
+/// Tells what a request brought about, whatever became of its response: a credit, one under a key that
+/// is taken, and that the journal has no room.
+pub(crate) fn tell_deed<J: Naming, R: Wait + time::Clock + Eprint>(
+    shared: &Shared<'_, J, R>,
+    deed: Deed,
+) {
     match deed {
         Deed::Nothing => {}
         Deed::Credited {
@@ -20,15 +26,60 @@ pub(crate) fn tell_deed<J: Naming, R: time::Clock + Eprint>(shared: &Shared<'_, 
             amount,
         } => {
             let config = shared.desk.config();
+            let Some(credit) = credit_at(shared, number) else {
+                return;
+            };
             shared
                 .notices
-                .credited(shared.rt, config, peer, number, amount);
+                .credited(shared.rt, config, peer, number, amount, credit.key);
+        }
+        Deed::KeyTaken {
+            peer,
+            number,
+            quantity: Quantity { amount, scale },
+        } => {
+            let config = shared.desk.config();
+            let Some(credit) = credit_at(shared, number) else {
+                return;
+            };
+            let told = ToldQuantity { amount, scale };
+            shared.notices.key_taken(
+                shared.rt,
+                config,
+                peer,
+                number,
+                credit.key,
+                credit.quantity,
+                told,
+            );
         }
         Deed::Rejected { peer: _, reject } => {
             if reject == ToldReject::Own(LocalReject::ConnectorBusy) {
                 shared.seen.note_full();
             }
         }
+    }
+}
+
+// What a line says of a credit.
+#[derive(Clone, Copy)]
+struct ShownCredit {
+    key: ShownKey,
+    quantity: ToldQuantity,
+}
+
+// The credit that the entry of this number is. The lock is free again when it is told.
+fn credit_at<J: Naming, R: Wait>(shared: &Shared<'_, J, R>, number: u32) -> Option<ShownCredit> {
+    let locked = shared.desk.lock(shared.rt);
+    match &locked.book().entry(number)?.what {
+        What::Credited(credit) => Some(ShownCredit {
+            key: ShownKey::new(credit.key.as_slice()),
+            quantity: ToldQuantity {
+                amount: credit.named,
+                scale: credit.scale,
+            },
+        }),
+        _ => None,
     }
 }
 

@@ -37,4 +37,4 @@ mod turns;
 mod watching;
 
 pub use fault::{ServeFault, Unprinted};
-pub use serving::serve;
+pub use serving::{run_to_close, serve, write_report};

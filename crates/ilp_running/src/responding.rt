@@ -6,6 +6,7 @@ use crate::deeds::{count_reject, tell_deed};
 use crate::threads::Shared;
 use crossbeam_channel::Receiver;
 use ilp_desk::{Desk, End, Naming};
+use ilp_http::Status;
 use ilp_intake::ReadyConnection;
 use ilp_links::{TimedWriter, instant_after};
 use ilp_server::{Handled, answer_connection};
@@ -54,13 +55,23 @@ fn serve_job<
     R: Wait + time::Clock + Eprint,
 >(shared: &Shared<'_, J, R>, responder: &mut Responder<J, C, U, E>, job: Job) {
     let rt = shared.rt;
+    // Behind the response the client may be gone, and its address with it.
+    let address = job
+        .connection
+        .stream
+        .peer_addr()
+        .ok()
+        .map(|place| place.ip());
     let handled = serve_connection(rt, shared.desk, responder, &job);
     let Job { side, connection } = job;
     match handled {
         Handled::Close => shared.intakes.close(rt),
-        Handled::Done { deed, status: _ } => {
+        Handled::Done { deed, status } => {
             tell_deed(shared, deed);
             count_reject(shared, deed);
+            if status == Status::Unauthorized {
+                shared.notices.wrong_token(rt, address);
+            }
         }
         Handled::Fault { deed, fault: _ } => tell_deed(shared, deed),
     }

@@ -65,13 +65,39 @@ where
     ensures refused { IfErr result (λ fault. Refuses (desk_of config.now book.entries)
         (W.contents writer.old) (W.contents writer.new) fault) }
 {
-    let sides = open_sides(rt, config)?;
-    let blanks = Blank::new(u64::from(config.workers()) + 2);
-    let closed = serve_desk::<Brand, R, L>(rt, config, book, blanks, links, sides)?;
+    let closed = run_to_close(rt, config, book, links)?;
     match write_report(rt, &closed, writer) {
         Ok(()) => Ok(closed),
         Err(fault) => Err(fault),
     }
+}
+
+/// Runs a connector as `serve` does, and gives the book back before its report: so that it can be saved
+/// where there is no memory for that.
+///
+/// A refusal does not give the book back.
+pub fn run_to_close<R, L>(
+    rt: &R,
+    config: &Config,
+    book: Book,
+    links: &L,
+) -> Result<Book, ServeFault>
+where
+    R: Net<Listener = TcpListener, Stream = TcpStream>
+        + Threads
+        + Wait
+        + Clock
+        + Eprint
+        + Files
+        + Sync,
+    L: Links,
+    requires config { book.config ≡ config.now }
+    requires opening { length book.entries ≡ book.base }
+    ensures { ClosesDesk (desk_of config.now book.entries) result }
+{
+    let sides = open_sides(rt, config)?;
+    let blanks = Blank::new(u64::from(config.workers()) + 2);
+    serve_desk::<Brand, R, L>(rt, config, book, blanks, links, sides)
 }
 
 // What takes connections in at both sides, and what reaches it.
@@ -246,9 +272,9 @@ fn close_desk<J: Naming>(
     }
 }
 
-// Writes the report of a book. Nothing is written where memory is denied. Where a write fails the report
-// is told on standard error.
-fn write_report<R: Clock + Eprint, W: Sink>(
+/// Writes the report of a book. Nothing is written where memory is denied. Where a write fails the report
+/// is told on standard error.
+pub fn write_report<R: Clock + Eprint, W: Sink>(
     rt: &R,
     book: &Book,
     writer: &mut W,

@@ -2,15 +2,25 @@
 use Rattle.std.specs.Prelude.{ℕ, if◌then◌else◌, Option, Some, None, Result, Ok, Err}
 use Rattle.ilp_book.specs.declared.calls.Kept.{Kept}
 use Rattle.ilp_workers.specs.declared.rejects.ToldReject.{ToldReject}
+use Rattle.ilp_settlement.specs.declared.quantity.Quantity.{Quantity}
+use Rattle.ilp_book.specs.declared.fault.CreditFault.{CreditFault}
+use Rattle.ilp_book.specs.declared.fault.CreditFault.TheVariants.{KeyTaken}
 use Rattle.ilp_server.specs.declared.unserved.NotServed.{NotServed}
+use Rattle.ilp_server.specs.declared.unserved.NotServed.TheVariants.{Credit}
 use Rattle.ilp_server.specs.declared.served.Served.{Served}
 use Rattle.ilp_server.specs.declared.served.Served.TheVariants.{Packet, Settlement, Message, Report, Close}
 use Rattle.ilp_server.specs.declared.handled.Deed.{Deed}
 use Rattle.ilp_server.specs.declared.handled.Deed.TheVariants.{Nothing, Credited, Rejected}
+use Rattle.ilp_server.specs.declared.handled.Deed.TheVariants as deed
 
 -- a credit, if it was made now
 abbrev pub credit_deed : ℕ → Kept → Deed
 credit_deed peer kept = if kept.fresh then Credited peer kept.number kept.amount else Nothing
+
+-- a settlement that is not credited, if that is since its key is taken
+abbrev pub refusal_deed : ℕ → Quantity → CreditFault → Deed
+refusal_deed peer quantity (KeyTaken number) = deed.KeyTaken peer number quantity
+refusal_deed peer quantity fault = Nothing
 
 -- the Reject that the sender of a packet is answered, if it is one
 abbrev pub packet_deed : ℕ → Option ToldReject → Deed
@@ -24,4 +34,5 @@ deed_of (Ok (Settlement peer kept text)) = credit_deed peer kept
 deed_of (Ok Message) = Nothing
 deed_of (Ok (Report text)) = Nothing
 deed_of (Ok Close) = Nothing
+deed_of (Err (Credit peer quantity fault)) = refusal_deed peer quantity fault
 deed_of (Err why) = Nothing

@@ -98,16 +98,16 @@ IsNoQuantity body fault = (fault ≡ quantity_fault.Memory) ⊎ (quantity_in bod
 
 -- the outcome of a payment that is credited, which answers the amount that is kept under its key, at the scale of the peer's
 -- balance; or that is refused
-abbrev pub IsCreditOutcome : PlainDesk → ℕ → Result Kept CreditFault → Result Served NotServed → Type 0
-IsCreditOutcome desk peer (Ok kept) outcome =
+abbrev pub IsCreditOutcome : PlainDesk → ℕ → Quantity → Result Kept CreditFault → Result Served NotServed → Type 0
+IsCreditOutcome desk peer quantity (Ok kept) outcome =
     (text : OctetsWithRoom) × (outcome ≡ Ok (Settlement peer kept text)) × (text.octets ≡ quantity_text kept.amount (scale_at desk.config peer))
-IsCreditOutcome desk peer (Err fault) outcome = outcome ≡ Err (unserved.Credit fault)
+IsCreditOutcome desk peer quantity (Err fault) outcome = outcome ≡ Err (unserved.Credit peer quantity fault)
 
 -- A quantity under a key: there is no memory for its answer; or it is credited, with its outcome.
 abbrev pub ServesQuantity : PlainDesk → ℕ → List ℕ → Quantity → PlainWorker → PlainWorker → Result Served NotServed → Type 0
 ServesQuantity desk peer key quantity before after outcome =
     IsTurnedAway unserved.Memory before after outcome
-    ⊎ ((credit : Result Kept CreditFault) × Credits desk (payment peer key quantity) before after credit × IsCreditOutcome desk peer credit outcome)
+    ⊎ ((credit : Result Kept CreditFault) × Credits desk (payment peer key quantity) before after credit × IsCreditOutcome desk peer quantity credit outcome)
 
 -- A body under a key: what is no quantity is turned away.
 abbrev pub ServesPayment : PlainDesk → ℕ → List ℕ → List ℕ → PlainWorker → PlainWorker → Result Served NotServed → Type 0

@@ -6,12 +6,20 @@ use Rattle.ilp_http.specs.declared.refusal.RequestFault.TheVariants as request_f
 use Rattle.ilp_http.specs.declared.status.Status.{Status}
 use Rattle.ilp_http.specs.declared.status.Status.TheVariants.{BadRequest, Unauthorized, NotFound, Conflict, BadGateway, Unavailable}
 use Rattle.ilp_settlement.specs.declared.quantity.QuantityFault.TheVariants as quantity_fault
+use Rattle.ilp_book.specs.declared.fault.CreditFault.{CreditFault}
 use Rattle.ilp_book.specs.declared.fault.CreditFault.TheVariants as credit_fault
 use Rattle.ilp_workers.specs.declared.messaging.MessageFault.TheVariants as message_fault
 use Rattle.ilp_server.specs.declared.unserved.NotServed.{NotServed}
 use Rattle.ilp_server.specs.declared.unserved.NotServed.TheVariants.{NoRequest, UnknownTarget, UnknownSender, Packet, NoKey, Quantity, Credit, Message, Memory}
 use Rattle.ilp_server.specs.declared.handled.ConnectionFault.{ConnectionFault}
 use Rattle.ilp_server.specs.declared.handled.ConnectionFault.TheVariants as connection_fault
+
+-- the status of a settlement that is not credited
+abbrev pub status_of_credit : CreditFault → Status
+status_of_credit credit_fault.TooLarge = BadRequest
+status_of_credit (credit_fault.KeyTaken kept) = Conflict
+status_of_credit credit_fault.Full = Unavailable
+status_of_credit credit_fault.Memory = Unavailable
 
 -- the status of each reason
 abbrev pub status_of : NotServed → Status
@@ -24,10 +32,7 @@ status_of (Quantity quantity_fault.NotJson) = BadRequest
 status_of (Quantity quantity_fault.BadAmount) = BadRequest
 status_of (Quantity quantity_fault.BadScale) = BadRequest
 status_of (Quantity quantity_fault.Memory) = Unavailable
-status_of (Credit credit_fault.TooLarge) = BadRequest
-status_of (Credit (credit_fault.KeyTaken kept)) = Conflict
-status_of (Credit credit_fault.Full) = Unavailable
-status_of (Credit credit_fault.Memory) = Unavailable
+status_of (Credit peer quantity fault) = status_of_credit fault
 status_of (Message message_fault.TooLong) = BadGateway
 status_of (Message message_fault.NoAnswer) = BadGateway
 status_of (Message message_fault.Memory) = Unavailable

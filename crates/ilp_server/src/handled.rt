@@ -1,6 +1,7 @@
 //! What became of a connection.
 
 use ilp_http::Status;
+use ilp_settlement::Quantity;
 use ilp_workers::ToldReject;
 use thiserror::Error;
 
@@ -23,9 +24,23 @@ pub enum Deed {
     Nothing,
     /// A settlement of the peer was credited by the entry of this number, with so many units of the
     /// peer's asset. One that had been credited before is none.
-    Credited { peer: u32, number: u32, amount: u64 },
+    Credited {
+        peer: u32,
+        number: u32,
+        amount: u64,
+    },
+    /// A settlement of the peer is not credited, since the entry of this number has its key with another
+    /// quantity than this.
+    KeyTaken {
+        peer: u32,
+        number: u32,
+        quantity: Quantity,
+    },
     /// The peer is answered this Reject for its packet.
-    Rejected { peer: u32, reject: ToldReject },
+    Rejected {
+        peer: u32,
+        reject: ToldReject,
+    },
 }
 
 /// Why no response was written whole.

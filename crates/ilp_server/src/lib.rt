@@ -18,8 +18,8 @@
 //! - `Done`: the response with this status was written whole; `Close`: the same of 200, only for a
 //!   close at the engines' side. `Fault`: a write failed before its end; or nothing that is
 //!   answered was read, nothing was written, and the worker is as it was. `Done` and `Fault` have
-//!   the `Deed` (`specs/Deeds.antt`): the credit that was made now, or the Reject that the packet's
-//!   sender is answered, and nothing else.
+//!   the `Deed` (`specs/Deeds.antt`): the credit that was made now, the settlement that was refused
+//!   since its key is taken, or the Reject that the packet's sender is answered, and nothing else.
 //! - `target_of` is what a path asks for at a side (`specs/Targets.antt`), `sender_of` the peer
 //!   whose token the one Authorization field shows, `key_of` the octets of the key in the one
 //!   Idempotency-Key field (`specs/Fields.antt`); each is none just where there is none.

@@ -1,11 +1,12 @@
 //! What a worker made of a request.
 ghost use Rattle.std.specs.Prelude.{◌≡◌};
-ghost use Rattle.ilp_server.specs.Deeds.{deed_of, credit_deed};
+ghost use Rattle.ilp_server.specs.Deeds.{deed_of, credit_deed, refusal_deed};
 
 use crate::handled::Deed;
 use crate::unserved::NotServed;
-use ilp_book::Kept;
+use ilp_book::{CreditFault, Kept};
 use ilp_oer::Octets;
+use ilp_settlement::Quantity;
 use ilp_workers::ToldReject;
 
 /// What the response to a request that was served has as its body.
@@ -43,6 +44,27 @@ pub(crate) fn deed_of(outcome: &Result<Served, NotServed>) -> Deed
             None => Deed::Nothing,
         },
         Ok(Served::Settlement { peer, kept, .. }) => credit_deed(*peer, *kept),
+        Err(
+            NotServed::Credit {
+                peer,
+                quantity,
+                fault,
+            },
+        ) => refusal_deed(*peer, *quantity, *fault),
+        _ => Deed::Nothing,
+    }
+}
+
+// A settlement that is not credited, if that is since its key is taken.
+fn refusal_deed(peer: u32, quantity: Quantity, fault: CreditFault) -> Deed
+    ensures { result ≡ refusal_deed peer quantity fault }
+{
+    match fault {
+        CreditFault::KeyTaken { kept } => Deed::KeyTaken {
+            peer,
+            number: kept,
+            quantity,
+        },
         _ => Deed::Nothing,
     }
 }

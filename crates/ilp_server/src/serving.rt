@@ -125,7 +125,11 @@ fn serve_payment<J: Naming, C: Clock + Drop, U: Uplink + Drop, E: EngineLink + D
             put_quantity(&mut text, kept.amount, desk.config().scale(peer));
             Ok(Served::Settlement { peer, kept, text })
         }
-        Err(fault) => Err(NotServed::Credit(fault)),
+        Err(fault) => Err(NotServed::Credit {
+            peer,
+            quantity,
+            fault,
+        }),
     }
 }
 

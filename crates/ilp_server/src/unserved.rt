@@ -1,12 +1,12 @@
 //! Why a request is not served.
 ghost use Rattle.std.specs.Prelude.{◌≡◌};
 ghost use Rattle.ilp_server.specs.Statuses as statuses;
-ghost use Rattle.ilp_server.specs.Statuses.{status_of};
+ghost use Rattle.ilp_server.specs.Statuses.{status_of, status_of_credit};
 
 use crate::handled::ConnectionFault;
 use ilp_book::CreditFault;
 use ilp_http::{Refusal, RequestFault, Status};
-use ilp_settlement::QuantityFault;
+use ilp_settlement::{Quantity, QuantityFault};
 use ilp_workers::{BadPacket, MessageFault};
 use thiserror::Error;
 
@@ -31,9 +31,13 @@ pub enum NotServed {
     /// The body is no quantity, or memory to read it was denied.
     #[error("{0}")]
     Quantity(QuantityFault),
-    /// The settlement is not credited.
-    #[error("{0}")]
-    Credit(CreditFault),
+    /// The settlement of the peer, of this quantity, is not credited.
+    #[error("{fault}")]
+    Credit {
+        peer: u32,
+        quantity: Quantity,
+        fault: CreditFault,
+    },
     /// The message has no answer.
     #[error("{0}")]
     Message(MessageFault),
@@ -55,15 +59,24 @@ impl NotServed {
             NotServed::NoKey => Status::BadRequest,
             NotServed::Quantity(QuantityFault::Memory) => Status::Unavailable,
             NotServed::Quantity(_) => Status::BadRequest,
-            NotServed::Credit(CreditFault::TooLarge) => Status::BadRequest,
-            NotServed::Credit(CreditFault::KeyTaken { .. }) => Status::Conflict,
-            NotServed::Credit(CreditFault::Full) => Status::Unavailable,
-            NotServed::Credit(CreditFault::Memory) => Status::Unavailable,
+            NotServed::Credit { fault, .. } => status_of_credit(fault),
             NotServed::Message(MessageFault::TooLong) => Status::BadGateway,
             NotServed::Message(MessageFault::NoAnswer) => Status::BadGateway,
             NotServed::Message(MessageFault::Memory) => Status::Unavailable,
             NotServed::Memory => Status::Unavailable,
         }
+    }
+}
+
+// The status by which a settlement is answered that is not credited.
+fn status_of_credit(fault: CreditFault) -> Status
+    ensures { result ≡ status_of_credit fault }
+{
+    match fault {
+        CreditFault::TooLarge => Status::BadRequest,
+        CreditFault::KeyTaken { .. } => Status::Conflict,
+        CreditFault::Full => Status::Unavailable,
+        CreditFault::Memory => Status::Unavailable,
     }
 }
 

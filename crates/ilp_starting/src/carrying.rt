@@ -7,6 +7,7 @@ ghost use Rattle.ilp_starting.specs.Beginning.{BeginsWith, IsWhyNotBegun};
 
 use crate::expecting::expected_at;
 use crate::refused::Refused;
+use crate::remembering::expect_unchanged;
 use ilp_accounts::Config;
 use ilp_book::{Book, CarryFault};
 use ilp_journal_file::look_at;
@@ -20,17 +21,20 @@ use std::rt::{Files, Runtime};
 /// The book with which a connector would begin from the journal at this path now. No file is made or
 /// changed.
 ///
-/// Refusals: those of `book_of`, and `JournalUnread` or `WriteFault` where the journal's file could not
-/// be used, of which a line on standard error says more.
+/// Refusals: those of `book_of`; `JournalUnread` or `WriteFault` where the journal's file could not be
+/// used, or the configuration has another run or other assets than what the journal has open, of which a
+/// line on standard error says more.
 pub fn book_at<R>(rt: &R, config: &Config, path: &str) -> Result<Book, Refused>
 where
     R: Runtime + AllocGlobal + Files<File = File> + Copy,
     ensures config { IfOk result (λ b. b.config ≡ config.now) }
     ensures opening { IfOk result (λ b. length b.entries ≡ b.base) }
 {
-    let text = look_at(rt, rt.alloc(), path)?;
+    let found = look_at(rt, rt.alloc(), path)?;
     let now = SystemClock::new(*rt).now();
-    book_of(rt.alloc(), config, path, text, now)
+    let book = book_of(rt.alloc(), config, path, found.text, now)?;
+    expect_unchanged(rt, path, &book, &found.remembered)?;
+    Ok(book)
 }
 
 /// The book of a journal's text, carried over at this time, in milliseconds since 1970, or a new one

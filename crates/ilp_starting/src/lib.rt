@@ -12,24 +12,29 @@
 //! - `config_of`: the configuration of the octets, or the refusal by their first fault or for want of
 //!   memory (`specs/Configuring.antt`).
 //! - Of a private function, `Run::serve`: the book that is given back is a closed one of a desk
-//!   that was opened with that journal (`IsClosed`), and the report is that book's.
+//!   that was opened with that journal (`ClosesDesk`). The report is that of the book by
+//!   `ilp_running::write_report`.
 //! - All else is proved safe, and no more.
 #![tactic(auto)]
 
+mod book_file;
 mod carrying;
 mod configuring;
 mod expecting;
 mod host;
 mod keeping;
 mod refused;
+mod remembering;
+mod report;
 mod run;
 mod saved;
 mod serving;
 mod warning;
 
+pub use book_file::BookFile;
 pub use carrying::{book_at, book_of};
 pub use configuring::{config_octets, config_of, configured};
 pub use host::Host;
 pub use refused::{Refused, RunFault};
 pub use serving::serve;
-pub use warning::{Telling, tell_warnings};
+pub use warning::{JournalWarnings, Telling, tell_warnings};

@@ -2,7 +2,6 @@
 
 use crate::configuring::noticed;
 use crate::host::Host;
-use crate::keeping::KeptRun;
 use crate::refused::RunFault;
 use crate::run::Run;
 use ilp_accounts::Config;
@@ -37,7 +36,7 @@ where
         notices: &notices,
     };
     match journal {
-        Some(path) => KeptRun::serve_journal(run, path),
+        Some(path) => run.serve_journal(path),
         None => run.serve_once(),
     }
 }

@@ -1,12 +1,17 @@
-//! What of a configuration is allowed and probably not meant, told on standard error.
+//! What of a configuration is allowed and probably not meant, and what of a journal is in the way of a
+//! connector that begins with it, told on standard error.
 
 use ilp_accounts::Config;
-use ilp_notices::configuration_warning;
+use ilp_book::Book;
+use ilp_link_traits::Clock;
+use ilp_links::SystemClock;
+use ilp_notices::{JournalWarning, configuration_warning, journal_warning};
 use ilp_warnings::{Warning, warnings};
 use std::alloc::AllocError;
-use std::fs;
+use std::io::Eprint;
 use std::os::unix::fs::PermissionsExt;
 use std::rt::Runtime;
+use std::{fs, time};
 
 // The right of everybody to read a file.
 const OTHERS_READ: u32 = 0o004;
@@ -29,6 +34,18 @@ impl Telling {
                 let _ = rt.eprintln(what);
             }
             Telling::Notice => configuration_warning(rt, what),
+        }
+    }
+
+    // Tells one thing of the journal at this path. How full the book is a running connector tells by
+    // itself.
+    fn tell_of_journal<R: time::Clock + Eprint>(self, rt: &R, path: &str, warning: JournalWarning) {
+        match (self, warning) {
+            (Telling::Line, warning) => {
+                let _ = eprintln!(rt; "journal {path:?}: {warning}");
+            }
+            (Telling::Notice, JournalWarning::Ahead { .. }) => journal_warning(rt, path, warning),
+            (Telling::Notice, JournalWarning::NearlyFull { .. }) => {}
         }
     }
 
@@ -83,4 +100,38 @@ fn tell_all<R: Runtime + AllocGlobal>(
         }
     }
     Ok(())
+}
+
+/// What of a journal is in the way of a connector that begins with it.
+#[derive(Clone, Copy)]
+pub struct JournalWarnings {
+    ahead: Option<JournalWarning>,
+    nearly_full: Option<JournalWarning>,
+}
+
+impl JournalWarnings {
+    /// What is in the way now of one that begins with this book: its last moment lies ahead of the clock,
+    /// or it is nearly full.
+    pub fn of<R: time::Clock + Copy>(rt: &R, book: &Book) -> JournalWarnings {
+        let now = SystemClock::new(*rt).now();
+        let ahead = match book.entry(book.len().saturating_sub(1)) {
+            Some(entry) => JournalWarning::ahead(entry.moment, now),
+            None => None,
+        };
+        let limit = book.config().journal();
+        JournalWarnings {
+            ahead,
+            nearly_full: JournalWarning::nearly_full(book.len(), limit),
+        }
+    }
+
+    /// Tells it of the journal at this path.
+    pub fn tell<R: time::Clock + Eprint>(self, rt: &R, path: &str, telling: Telling) {
+        if let Some(warning) = self.ahead {
+            telling.tell_of_journal(rt, path, warning);
+        }
+        if let Some(warning) = self.nearly_full {
+            telling.tell_of_journal(rt, path, warning);
+        }
+    }
 }

@@ -5,9 +5,9 @@ use Rattle.ilp_fields.specs.declared.fault.Field.TheVariants as field
 use Rattle.ilp_accounts.specs.Configuration.{Configuration, peer_at}
 use Rattle.ilp_warnings.specs.declared.warning.ConfigTable.TheVariants.{Peer}
 use Rattle.ilp_warnings.specs.declared.warning.Warning.{Warning}
-use Rattle.ilp_warnings.specs.declared.warning.Warning.TheVariants.{NoAddress}
+use Rattle.ilp_warnings.specs.declared.warning.Warning.TheVariants.{NoAddress, SharedHost, OnePacket, TooLargeOut}
 use Rattle.ilp_warnings.specs.Meaning.{IsSocketAddress}
-use Rattle.ilp_warnings.specs.Complete.{KeepsAll, AreTopTold, AreTokensTold, AreAddressesTold, IsPeerTold, ArePeersTold, AreRoutesTold}
+use Rattle.ilp_warnings.specs.Complete.{KeepsAll, Names, AreTopTold, AreTokensTold, AreAddressesTold, IsPeerTold, ArePeersTold, AreRoutesTold}
 
 -- what follows on success
 pub on_ok : {X E P Q : Type 0} (r : Result X E) → (P → Q) → OnOk r P → OnOk r Q
@@ -47,6 +47,7 @@ module _ (old new : List Warning) (keeps : KeepsAll old new) where
     listen = λ h. keeps _ (told.listen h);
     engine_listen = λ h. keeps _ (told.engine_listen h);
     engines = λ h. keeps _ (told.engines h);
+    shared = λ h. keeps _ (told.shared h);
     worker = λ h. keeps _ (told.worker h);
     holds = λ h. keeps _ (told.holds h);
     no_routes = λ h. keeps _ (told.no_routes h);
@@ -71,10 +72,16 @@ module _ (old new : List Warning) (keeps : KeepsAll old new) where
     engine = if_kept (λ x. ¬ IsSocketAddress x) (NoAddress (Peer peer) field.Engine) (peer_at C peer).engine told.engine;
   }
 
+  pub names_kept : (warning : ℕ → Warning) → Names old warning → Names new warning
+  names_kept warning told = (told.0, keeps (warning told.0) told.1)
+
   pub peer_kept : (C : Configuration) (targets : List ℕ) (peer : ℕ) → IsPeerTold C targets peer old → IsPeerTold C targets peer new
   peer_kept C targets peer told = record {
     tokens = tokens_kept C peer told.tokens;
     addresses = addresses_kept C peer told.addresses;
+    same_host = λ other below h. names_kept (SharedHost peer) (told.same_host other below h);
+    one_packet = λ sender below other h. names_kept (OnePacket peer) (told.one_packet sender below other h);
+    too_large = λ other below differs h. names_kept (TooLargeOut peer) (told.too_large other below differs h);
     unreached = λ h. keeps _ (told.unreached h);
   }
 

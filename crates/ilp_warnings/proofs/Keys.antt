@@ -13,7 +13,7 @@ Entry = String Global × Value
 abbrev pub HasKeys : List (List ℕ) → List Entry → Type 0
 HasKeys keys entries = All (λ e. Contains keys (string_bytes e.0)) entries
 
-keys_seen : (entries : List Entry) → keys_of (members_view entries) ≡ map (λ e. string_bytes e.0) entries
+pub keys_seen : (entries : List Entry) → keys_of (members_view entries) ≡ map (λ e. string_bytes e.0) entries
 keys_seen [] = refl
 keys_seen (e ∷ entries) = ap (λ keys. string_bytes e.0 ∷ keys) (keys_seen entries)
 

@@ -1,3 +1,6 @@
 pub mod Keys
 pub mod Targets
 pub mod Keeping
+pub mod SharedAddresses
+pub mod KeysTold
+pub mod Levels

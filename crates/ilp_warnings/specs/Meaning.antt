@@ -1,11 +1,14 @@
 -- What each warning says of a configuration. Peers and assets are named by their places.
-use Rattle.std.specs.Prelude.{◌≡◌, ◌≢◌, ◌⊎◌, ℕ, ◌<◌, pos, ◌≤ℤ◌, ◌+ℤ◌, List, [], ◌++◌, length, codes, map, Contains, Some, IsSome, Ok}
-use Rattle.std.specs.Net.Addr.{MatchIp, IsLoopbackV4, IsLoopbackV6}
+use Rattle.std.specs.Prelude.{◌≡◌, ◌≢◌, ◌⊎◌, ℕ, ◌<◌, pos, ◌≤ℤ◌, ◌+ℤ◌, List, [], ◌++◌, length, codes, map, Contains, Some, IsSome, Ok, Err}
+use Rattle.std.specs.declared.net.ip_addr.IpAddr.{IpAddr}
+use Rattle.std.specs.declared.net.ip_addr.IpAddr.TheVariants.{V4, V6}
+use Rattle.std.specs.Net.Addr.{MatchIp, IsLoopbackV4, IsLoopbackV6, IsUnspecifiedV4, IsUnspecifiedV6}
 use Rattle.std.specs.Net.Grammar.{IsSocketText}
 use Rattle.std.specs.Net.Socket.{socket_ip, socket_port}
 use Rattle.std.specs.declared.net.socket_addr.SocketAddr.{SocketAddr}
 use Rattle.ilp_assets.specs.Quote.{price_of, quote, most}
 use Rattle.ilp_assets.specs.declared.quote.Quote.{Quote}
+use Rattle.ilp_assets.specs.declared.quote.QuoteFault.TheVariants.{OutTooLarge}
 use Rattle.ilp_accounts.specs.Configuration.{Configuration, peer_at}
 use Rattle.ilp_accounts.specs.declared.peer.Levels.{Levels}
 
@@ -27,9 +30,24 @@ IsOpen text = (address : SocketAddr) × (IsSocketText text address × ¬ IsLoopb
 abbrev pub IsClosed : List ℕ → Type 0
 IsClosed text = (¬ IsSocketAddress text) ⊎ ((address : SocketAddr) × (IsSocketText text address × IsLoopback address))
 
--- both texts name one address, whose port is not left to the system
-abbrev pub IsShared : List ℕ → List ℕ → Type 0
-IsShared text other = (address : SocketAddr) × (IsSocketText text address × IsSocketText other address × (socket_port address ≢ 0))
+-- the one stands for all addresses of this machine, and so for the other: 0.0.0.0 for those of version 4, and :: for each
+abbrev pub StandsFor : IpAddr → IpAddr → Type 0
+StandsFor (V4 all) (V4 ip) = IsUnspecifiedV4 all
+StandsFor (V4 all) (V6 ip) = ⊥
+StandsFor (V6 all) ip = IsUnspecifiedV6 all
+
+-- both are one address, or the one stands for the other at the same port
+abbrev pub Meets : SocketAddr → SocketAddr → Type 0
+Meets a b = (a ≡ b) ⊎ ((socket_port a ≡ socket_port b) × (StandsFor (socket_ip a) (socket_ip b) ⊎ StandsFor (socket_ip b) (socket_ip a)))
+
+-- both texts name addresses that meet, and their port is not left to the system
+pub record IsShared (text other : List ℕ) : Type 0 where
+  pub a : SocketAddr
+  pub b : SocketAddr
+  pub text_is : IsSocketText text a
+  pub other_is : IsSocketText other b
+  pub port : socket_port a ≢ 0
+  pub meets : Meets a b
 
 -- ---- tokens
 
@@ -55,6 +73,11 @@ pub record ReachesAtOnce (C : Configuration) (sender peer : ℕ) : Type 0 where
   pub limited : (peer_at C sender).max_packet ≢ most
   pub quoted : quote C.table (peer_at C sender).asset (peer_at C peer).asset (peer_at C sender).fee_ppm (peer_at C sender).max_packet ≡ Ok out
   pub enough : levels.threshold ≤ℤ (levels.settle_to +ℤ pos out.out)
+
+-- The sender may send a certain amount at most, and that doesn't fit on its way to the peer.
+pub record IsTooLargeFor (C : Configuration) (sender peer : ℕ) : Type 0 where
+  pub limited : (peer_at C sender).max_packet ≢ most
+  pub quoted : quote C.table (peer_at C sender).asset (peer_at C peer).asset (peer_at C sender).fee_ppm (peer_at C sender).max_packet ≡ Err OutTooLarge
 
 -- the asset of the one peer has a price in that of the other
 abbrev pub CanSend : Configuration → ℕ → ℕ → Type 0

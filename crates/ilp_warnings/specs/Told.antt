@@ -16,9 +16,9 @@ use Rattle.ilp_accounts.specs.Configuration.{Configuration, peer_at}
 use Rattle.ilp_warnings.specs.declared.warning.ConfigTable.{ConfigTable}
 use Rattle.ilp_warnings.specs.declared.warning.ConfigTable.TheVariants.{Top, Asset, Price, Peer, Route}
 use Rattle.ilp_warnings.specs.declared.warning.Warning.{Warning}
-use Rattle.ilp_warnings.specs.declared.warning.Warning.TheVariants.{Unknown, Displaced, NoAddress, OpenEngines, SharedListen, OneWorker, ShortHolds, NoRoutes, ShortToken, ExampleToken, SameTokens, SharedHost, OnePacket, Unreached, Unpriced}
+use Rattle.ilp_warnings.specs.declared.warning.Warning.TheVariants.{Unknown, Displaced, NoAddress, OpenEngines, SharedListen, OneWorker, ShortHolds, NoRoutes, ShortToken, ExampleToken, SameTokens, SharedHost, OnePacket, TooLargeOut, Unreached, Unpriced}
 use Rattle.ilp_warnings.specs.declared.examined.Examined.{Examined}
-use Rattle.ilp_warnings.specs.Meaning.{IsSocketAddress, IsOpen, IsShared, IsShort, IsExample, HaveSameHost, ReachesAtOnce, IsUnreached, IsUnpriced}
+use Rattle.ilp_warnings.specs.Meaning.{IsSocketAddress, IsOpen, IsShared, IsShort, IsExample, HaveSameHost, ReachesAtOnce, IsTooLargeFor, IsUnreached, IsUnpriced}
 
 -- ---- fields that are not known
 
@@ -113,6 +113,7 @@ Warrants t C targets (ExampleToken peer f) = IsSomeAnd (token_at C peer f) IsExa
 Warrants t C targets (SameTokens peer) = (peer_at C peer).token ≡ (peer_at C peer).out_token
 Warrants t C targets (SharedHost peer other) = (other < peer) × HaveSameHost C peer other
 Warrants t C targets (OnePacket peer sender) = (sender ≢ peer) × ReachesAtOnce C sender peer
+Warrants t C targets (TooLargeOut peer other) = (other ≢ peer) × IsTooLargeFor C peer other
 Warrants t C targets (Unreached peer) = IsUnreached targets peer
 Warrants t C targets (Unpriced route peer) = (slice_get targets route ≡ Some peer) × IsUnpriced C peer
 
@@ -125,4 +126,4 @@ AreWarranted examined told = All (IsWarranted examined) told
 
 -- the value of a table, and none where it is not there
 abbrev pub IsAt : Examined → ConfigTable → Option (Bor Value) → Type 0
-IsAt examined within value = IfSome value (λ v. table_at (table_view examined.table.now) within ≡ as_table (view v.now))
+IsAt examined within value = table_at (table_view examined.table.now) within ≡ option_and_then (λ v. as_table (view v.now)) value

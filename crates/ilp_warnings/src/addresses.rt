@@ -1,9 +1,9 @@
 //! Texts that are to name addresses.
 ghost use Rattle.std.specs.Prelude.{◌≡◌, ◌↔◌, ◌≢◌, false, IsTrue};
 ghost use Rattle.std.specs.Net.Socket.{socket_port};
-ghost use Rattle.ilp_warnings.specs.Meaning.{IsSocketAddress, IsOpen, IsClosed, IsShared};
+ghost use Rattle.ilp_warnings.specs.Meaning.{IsSocketAddress, IsOpen, IsClosed, StandsFor, Meets, IsShared};
 
-use std::net::SocketAddr;
+use std::net::{IpAddr, SocketAddr};
 
 /// Whether a text is `IP:PORT`.
 pub(crate) fn is_address(text: &str) -> bool
@@ -23,20 +23,40 @@ pub(crate) fn is_open(text: &str) -> bool
     }
 }
 
-/// Whether both texts name one address, and not each a port that the system chooses.
+/// Whether only one of both texts can be listened at: they name one address, or one stands for the
+/// other. A port that the system chooses is another one each time.
 pub(crate) fn is_shared(text: &str, other: &str) -> bool
-    ensures { IsTrue result → IsShared text.now other.now }
+    ensures { IsTrue result ↔ IsShared text.now other.now }
 {
     match (text.parse::<SocketAddr>(), other.parse::<SocketAddr>()) {
-        (Ok(address), Ok(other)) => is_same(address, other),
+        (Ok(address), Ok(other)) => conflicts(address, other),
         _ => false,
     }
 }
 
-// Whether both are one address, and its port is not left to the system.
-fn is_same(address: SocketAddr, other: SocketAddr) -> bool
-    ensures same { IsTrue result → address ≡ other }
-    ensures port { IsTrue result → socket_port address ≢ 0 }
+// Whether only one of both can be listened at.
+fn conflicts(address: SocketAddr, other: SocketAddr) -> bool
+    ensures { IsTrue result ↔ ((socket_port address ≢ 0) × Meets address other) }
 {
-    address == other && address.port() != 0
+    address.port() != 0 && meets(address, other)
+}
+
+// Whether both are one address, or one stands for the other at the same port.
+fn meets(address: SocketAddr, other: SocketAddr) -> bool
+    ensures { IsTrue result ↔ Meets address other }
+{
+    address == other
+        || (address.port() == other.port()
+            && (stands_for(address.ip(), other.ip()) || stands_for(other.ip(), address.ip())))
+}
+
+// Whether the one stands for all addresses of this machine, and so for the other.
+fn stands_for(all: IpAddr, ip: IpAddr) -> bool
+    ensures { IsTrue result ↔ StandsFor all ip }
+{
+    match (all, ip) {
+        (IpAddr::V4(all), IpAddr::V4(_)) => all.is_unspecified(),
+        (IpAddr::V4(_), IpAddr::V6(_)) => false,
+        (IpAddr::V6(all), _) => all.is_unspecified(),
+    }
 }

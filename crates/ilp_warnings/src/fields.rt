@@ -2,8 +2,8 @@
 ghost use Rattle.std.specs.Prelude.{◌≡◌, Some, Contains, IfOk, OnOk, IfSome};
 ghost use Rattle.std.specs.List.{list_all};
 ghost use Rattle.toml.specs.View.{table_view};
-ghost use Rattle.ilp_warnings.specs.Complete.{KeepsAll};
-ghost use Rattle.ilp_warnings.specs.Told.{AreWarranted, IsWarranted, IsUnknown, table_at, keys_of, known_in, top_fields, is_plain, is_plain_octet, IsNear};
+ghost use Rattle.ilp_warnings.specs.Complete.{KeepsAll, TellsOf, IsFieldTold, IsTableTold};
+ghost use Rattle.ilp_warnings.specs.Told.{AreWarranted, IsWarranted, IsUnknown, IsNoneOf, table_at, keys_of, known_in, top_fields, is_plain, is_plain_octet, IsNear};
 
 use crate::examined::Examined;
 use crate::known::{known_in, named, top_fields};
@@ -31,6 +31,8 @@ pub(crate) fn tell_fields(
     requires sound { AreWarranted examined told.old.items }
     ensures sound { OnOk result (AreWarranted examined.entry told.new.items) }
     ensures kept { OnOk result (KeepsAll told.old.items told.new.items) }
+    ensures fields { OnOk result
+        (IsTableTold (table_view examined.entry.table.now) within told.new.items) }
 {
     for (key, _) in table.iter() {
         tell_field(examined, told, within, table, key.as_str())?;
@@ -51,6 +53,8 @@ fn tell_field(
     requires sound { AreWarranted examined told.old.items }
     ensures sound { OnOk result (AreWarranted examined.entry told.new.items) }
     ensures kept { OnOk result (KeepsAll told.old.items told.new.items) }
+    ensures told { OnOk result (IsNoneOf (known_in within) key.now
+        → IsFieldTold within key.now told.new.items) }
 {
     let _table = table;
     if named(known_in(within), key).is_some() {
@@ -63,7 +67,8 @@ fn tell_field(
 // What is told of a field that is not known in its table.
 fn unknown(examined: Examined<'_>, within: ConfigTable, key: &str) -> Result<Warning, AllocError>
     requires { IsUnknown (table_view examined.table.now) within key.now }
-    ensures { IfOk result (IsWarranted examined.entry) }
+    ensures so { IfOk result (IsWarranted examined.entry) }
+    ensures tells { IfOk result (TellsOf within key.now) }
 {
     if let Some(field) = named(top_fields(), key) {
         return Ok(Warning::Displaced { within, field });

@@ -6,10 +6,10 @@
 //!   (`specs/Told.antt`): a field that is told is in the table and not known there, one that may be
 //!   meant is known there and at most two edits away, and a peer that is called unreached has no
 //!   route.
-//! - Ten of its fifteen kinds are told wherever they are so (`specs/Complete.antt`): texts that are
-//!   no addresses, an open engine side, one worker, short holds, no routes, short tokens, those of
-//!   the examples, the same two, peers without a route, routes without a price. `AllocError` is its
-//!   only error.
+//! - Each of its sixteen kinds is told wherever it is so (`specs/Complete.antt`). Each field that is
+//!   not known in its table is told by a line of its own, whose key is shown where it can't spoil the
+//!   line. Of the other peers at one host, of whose packets one reaches a threshold, or on the way to
+//!   whom a greatest packet doesn't fit, one is named. `AllocError` is its only error.
 #![tactic(auto)]
 
 mod addresses;

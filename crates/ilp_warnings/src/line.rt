@@ -27,6 +27,7 @@ impl Warning {
             | Warning::SameTokens { peer }
             | Warning::SharedHost { peer, .. }
             | Warning::OnePacket { peer, .. }
+            | Warning::TooLargeOut { peer, .. }
             | Warning::Unreached { peer } => ConfigTable::Peer(*peer),
             Warning::Unpriced { route, .. } => ConfigTable::Route(*route),
             Warning::OpenEngines
@@ -75,6 +76,11 @@ impl fmt::Display for Line<'_> {
                 write_table(f, self.config, ConfigTable::Peer(*sender))?;
                 f.write_str(" can take the balance from `settle_to` to `threshold`")
             }
+            Warning::TooLargeOut { other, .. } => {
+                f.write_str("`max_packet` is more than fits on the way to ")?;
+                write_table(f, self.config, ConfigTable::Peer(*other))?;
+                f.write_str(": what doesn't fit is refused (F03)")
+            }
             Warning::Unpriced { peer, .. } => {
                 f.write_str("no other peer's asset has a price in that of ")?;
                 write_table(f, self.config, ConfigTable::Peer(*peer))?;
@@ -92,7 +98,7 @@ fn text(warning: &Warning) -> &'static str {
             "`engine_listen` is no loopback address: whoever reaches it can credit peers and close the connector"
         }
         Warning::SharedListen =>
-            "`listen` and `engine_listen` are one address, and only one side can have it",
+            "`listen` and `engine_listen` have an address in common, and only one side can have it",
         Warning::OneWorker =>
             "`workers` is 1: while a packet waits for a peer, all else waits for that",
         Warning::ShortHolds => {
@@ -109,6 +115,7 @@ fn text(warning: &Warning) -> &'static str {
         | Warning::ExampleToken { .. }
         | Warning::SharedHost { .. }
         | Warning::OnePacket { .. }
+        | Warning::TooLargeOut { .. }
         | Warning::Unpriced { .. } => "",
     }
 }

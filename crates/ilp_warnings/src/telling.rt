@@ -1,11 +1,11 @@
 //! All that is told of a configuration, in order.
-ghost use Rattle.std.specs.Prelude.{Contains, ◌≡◌, ◌<◌, All, length, Some, IfOk, OnOk, IsTrue};
+ghost use Rattle.std.specs.Prelude.{ℕ, Contains, ◌≡◌, ◌<◌, ◌≤◌, ◌⊎◌, All, length, Some, IfOk, OnOk, IsTrue};
 ghost use Rattle.toml.specs.Data.{Members};
 ghost use Rattle.toml.specs.View.{table_view};
 ghost use Rattle.ilp_accounts.specs.Configuration.{configuration};
 ghost use Rattle.ilp_accounts.specs.Faults.{IsToml};
 ghost use Rattle.ilp_accounts.specs.Limits.{most_routes};
-ghost use Rattle.ilp_warnings.specs.Complete.{KeepsAll, ArePeersTold, AreRoutesTold, IsComplete};
+ghost use Rattle.ilp_warnings.specs.Complete.{KeepsAll, IsTableTold, AreTablesTold, ArePeersTold, AreRoutesTold, IsComplete};
 ghost use Rattle.ilp_warnings.specs.Meaning.{IsSocketAddress, targets_of};
 ghost use Rattle.ilp_warnings.specs.Told.{Warrants, IsWarranted, AreWarranted, IsAt, address_at};
 
@@ -33,7 +33,7 @@ pub fn warnings(alloc: Global, octets: &[u8], config: &Config) -> Result<Vec<War
     ensures sound { (t : Members) → IsToml octets.now t → configuration t ≡ config.now
         → IfOk result (λ told. All (Warrants t config.now (targets_of config.now)) told.items) }
     ensures complete { (t : Members) → IsToml octets.now t → configuration t ≡ config.now
-        → IfOk result (λ told. IsComplete config.now (targets_of config.now) told.items) }
+        → IfOk result (λ told. IsComplete t config.now (targets_of config.now) told.items) }
 {
     match toml::table_from_slice(alloc, octets) {
         Ok(table) => warnings_of(alloc, &table, config),
@@ -52,7 +52,8 @@ fn warnings_of(alloc: Global, table: &Table, config: &Config) -> Result<Vec<Warn
         → IfOk result (λ told.
         All (Warrants (table_view table.now) config.now (targets_of config.now)) told.items) }
     ensures complete { configuration (table_view table.now) ≡ config.now
-        → IfOk result (λ told. IsComplete config.now (targets_of config.now) told.items) }
+        → IfOk result (λ told.
+        IsComplete (table_view table.now) config.now (targets_of config.now) told.items) }
 {
     let targets = targets_of(alloc, config, tables_in(table, Field::Route))?;
     let examined = Examined {
@@ -68,8 +69,8 @@ fn warnings_of(alloc: Global, table: &Table, config: &Config) -> Result<Vec<Warn
 fn all_told(examined: Examined<'_>) -> Result<Vec<Warning>, AllocError>
     requires { All (λ peer. peer < length examined.config.now.peers) examined.targets.now }
     ensures sound { IfOk result (λ told. AreWarranted examined.entry told.items) }
-    ensures complete { IfOk result (λ told.
-        IsComplete examined.entry.config.now examined.entry.targets.now told.items) }
+    ensures complete { IfOk result (λ told. IsComplete (table_view examined.entry.table.now)
+        examined.entry.config.now examined.entry.targets.now told.items) }
 {
     let mut told = Vec::new(examined.alloc);
     tell_fields(examined, &mut told, ConfigTable::Top, examined.table)?;
@@ -86,6 +87,8 @@ fn tell_assets(examined: Examined<'_>, told: &mut Vec<Warning>) -> Result<(), Al
     requires { AreWarranted examined told.old.items }
     ensures sound { OnOk result (AreWarranted examined.entry told.new.items) }
     ensures kept { OnOk result (KeepsAll told.old.items told.new.items) }
+    ensures fields { OnOk result (AreTablesTold (table_view examined.entry.table.now)
+        ConfigTable.Asset most_routes told.new.items) }
 {
     let values = tables_in(examined.table, Field::Asset);
     for asset in 0..count_of(values) {
@@ -104,6 +107,8 @@ fn tell_prices(examined: Examined<'_>, told: &mut Vec<Warning>) -> Result<(), Al
     requires { AreWarranted examined told.old.items }
     ensures sound { OnOk result (AreWarranted examined.entry told.new.items) }
     ensures kept { OnOk result (KeepsAll told.old.items told.new.items) }
+    ensures fields { OnOk result (AreTablesTold (table_view examined.entry.table.now)
+        ConfigTable.Price most_routes told.new.items) }
 {
     let values = tables_in(examined.table, Field::Price);
     for price in 0..count_of(values) {
@@ -122,6 +127,8 @@ fn tell_peers(examined: Examined<'_>, told: &mut Vec<Warning>) -> Result<(), All
     requires { AreWarranted examined told.old.items }
     ensures sound { OnOk result (AreWarranted examined.entry told.new.items) }
     ensures kept { OnOk result (KeepsAll told.old.items told.new.items) }
+    ensures fields { OnOk result (AreTablesTold (table_view examined.entry.table.now)
+        ConfigTable.Peer (length examined.entry.config.now.peers) told.new.items) }
     ensures peers { OnOk result (ArePeersTold examined.entry.config.now examined.entry.targets.now
         (length examined.entry.config.now.peers) told.new.items) }
 {
@@ -144,6 +151,8 @@ fn tell_routes(examined: Examined<'_>, told: &mut Vec<Warning>) -> Result<(), Al
     requires sound { AreWarranted examined told.old.items }
     ensures sound { OnOk result (AreWarranted examined.entry told.new.items) }
     ensures kept { OnOk result (KeepsAll told.old.items told.new.items) }
+    ensures fields { OnOk result ((n : ℕ) → n < length examined.entry.targets.now → n < most_routes
+        → IsTableTold (table_view examined.entry.table.now) (ConfigTable.Route n) told.new.items) }
     ensures routes { OnOk result (AreRoutesTold examined.entry.config.now examined.entry.targets.now
         most_routes told.new.items) }
 {
@@ -161,7 +170,9 @@ fn tell_routes(examined: Examined<'_>, told: &mut Vec<Warning>) -> Result<(), Al
 }
 
 // How many tables an array has.
-fn count_of(values: &[Value]) -> u32 {
+fn count_of(values: &[Value]) -> u32
+    ensures all { length values.now ≤ result ⊎ (result ≡ most_routes) }
+{
     values.len().min(MAX_TABLES) as u32
 }
 
@@ -176,6 +187,8 @@ fn tell_table(
     requires sound { AreWarranted examined told.old.items }
     ensures sound { OnOk result (AreWarranted examined.entry told.new.items) }
     ensures kept { OnOk result (KeepsAll told.old.items told.new.items) }
+    ensures fields { OnOk result
+        (IsTableTold (table_view examined.entry.table.now) within told.new.items) }
 {
     let Some(value) = value else {
         return Ok(());

@@ -37,7 +37,7 @@ pub enum Warning {
     },
     /// Others than this machine's programs may reach the side of engines.
     OpenEngines,
-    /// Both sides are to listen at one address.
+    /// Both sides are to listen at one address, or at one that stands for the other too.
     SharedListen,
     /// There is one worker alone.
     OneWorker,
@@ -68,6 +68,11 @@ pub enum Warning {
     OnePacket {
         peer: u32,
         sender: u32,
+    },
+    /// The greatest packet of the peer doesn't fit on its way to another.
+    TooLargeOut {
+        peer: u32,
+        other: u32,
     },
     /// No route leads to the peer.
     Unreached {

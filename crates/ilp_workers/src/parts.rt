@@ -102,7 +102,8 @@ impl<J: Naming, C: Clock + Drop, U: Uplink + Drop, E: EngineLink + Drop, A: Allo
         self.outgoing.reserve(len)
     }
 
-    // Hands the Prepare on, waits for what comes back, and has the link learn what that is.
+    // Hands the Prepare on, waits for what comes back, and has the link learn of which hold it is, and
+    // what comes.
     pub(crate) fn send_on(&mut self, packet: &Prepare<'_>, held: &Held) -> ReplyEffect
         requires packet { IsPrepare (onward (plain_prepare packet.now) held.now) }
         requires cleared { self.old.outgoing.octets ≡ [] }
@@ -127,6 +128,8 @@ impl<J: Naming, C: Clock + Drop, U: Uplink + Drop, E: EngineLink + Drop, A: Allo
             unreachable!();
         };
         self.incoming.clear();
+        self.uplink
+            .note_hold(held.number, held.out, packet.condition);
         let came = self.uplink.send(
             held.to,
             self.outgoing.as_slice(),

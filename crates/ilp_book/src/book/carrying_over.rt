@@ -1,9 +1,12 @@
 //! A book that is carried over from one run of the connector to the next.
-ghost use Rattle.std.specs.Prelude.{◌≡◌, IfOk, IfErr, OnOk, OnErr, is_err, if◌then◌else◌};
+ghost use Rattle.std.specs.Prelude.{◌≡◌, ℤ, IfOk, IfErr, OnOk, OnErr, is_err, if◌then◌else◌};
 ghost use Rattle.std.specs.Io.KnownBytes.{Appends};
 ghost use Rattle.ilp_io.specs.Counts.{CountsUp};
 ghost use Rattle.ilp_io.specs.Writing.{AppendsProperPrefix};
 ghost use Rattle.ilp_journal_text.specs.Text.{journal_text};
+ghost use Rattle.ilp_rules.specs.declared.fault.CarryFault.{CarryFault};
+ghost use Rattle.ilp_rules.specs.declared.fault.CarryFault.TheVariants as carry_fault;
+ghost use Rattle.ilp_rules.specs.Carried.{carried};
 ghost use Rattle.ilp_rules.specs.Carry.{IsCarriedOver, IsWhyNotCarried};
 
 use crate::book::Book;
@@ -50,11 +53,17 @@ impl<A: Allocator + Clone> Book<A> {
 impl<A: Allocator> Book<A> {
     /// Writes the text of the journal, which `carry_over` reads, with the peers' names in the
     /// configuration, the book's own. No memory is taken. It is refused only where a write fails or
-    /// takes no octet. Then a front of the text was taken, and not all of it.
+    /// takes no octet. Then a front of the text was taken, and not all of it. What it wrote whole is
+    /// carried over by that configuration, and refused for nothing but want of memory.
     pub fn save<W: Sink>(&self, config: &Config, sink: &mut W) -> Result<(), WriteFault>
         requires own { config.now ≡ self.now.config }
         ensures ok { OnOk result (Appends (W.contents sink.old) (W.contents sink.new)
             (journal_text config.now self.now.entries)) }
+        ensures carried { OnOk result ((now : ℤ) → IsCarriedOver config.now
+            (journal_text config.now self.now.entries) now
+            (carried config.now self.now.entries now)) }
+        ensures refused { OnOk result ((fault : CarryFault) → IsWhyNotCarried config.now
+            (journal_text config.now self.now.entries) fault → fault ≡ carry_fault.Memory) }
         ensures err { OnErr result (AppendsProperPrefix (W.contents sink.old) (W.contents sink.new)
             (journal_text config.now self.now.entries)) }
         ensures failed { CountsUp (W.failures sink.old) (W.failures sink.new)

@@ -1,14 +1,16 @@
 //! Whether an entry may come next in a journal.
-ghost use Rattle.std.specs.Prelude.{◌≡◌, pos, ◌+ℤ◌, ◌≤ℤ◌, ◌↔◌, IsTrue, IsSome, IsOkAnd, OnOk, OnErr};
+ghost use Rattle.std.specs.Prelude.{◌≡◌, ℤ, pos, ◌+ℤ◌, ◌≤ℤ◌, ◌↔◌, None, IsTrue, IsSome, IsOkAnd, IfErr, OnOk, OnErr};
 ghost use Rattle.ilp_terms.specs.Expiry.{last_of_all};
 ghost use Rattle.ilp_assets.specs.declared.quote.Quote.{Quote};
 ghost use Rattle.ilp_journal.specs.declared.entry.What.TheVariants as what;
 ghost use Rattle.ilp_journal.specs.declared.entry.Cause.TheVariants.{Late};
 ghost use Rattle.ilp_accounts.specs.Configuration.{peer_at};
 ghost use Rattle.ilp_accounts.specs.Valid.{IsValid};
-ghost use Rattle.ilp_journal.specs.Journal.{open_ask_at};
+ghost use Rattle.ilp_journal.specs.Journal.{Entries, open_ask_at};
 ghost use Rattle.ilp_journal.specs.Balance.{balance};
+ghost use Rattle.ilp_rules.specs.declared.rule.BrokenRule.TheVariants as BrokenRule;
 ghost use Rattle.ilp_rules.specs.Book.{pushed};
+ghost use Rattle.ilp_rules.specs.Broken.{Breaks, BreaksRule};
 ghost use Rattle.ilp_rules.specs.Configured.{IsKnown, quote_between};
 ghost use Rattle.ilp_rules.specs.Judging.{behind_all, HasRoom, KeepsLimits};
 ghost use Rattle.ilp_rules.specs.Lawful.{IsLawful, KeepsRule, KeepsRuleOf, HasTerms, IsFreshCredit, IsDueAsk, IsInTime};
@@ -29,6 +31,7 @@ impl<A: Allocator> Carrying<A> {
     pub(crate) fn judge(&self, entry: &Entry) -> Result<(), BrokenRule>
         ensures ok { OnOk result (IsLawful (pushed self.now entry.now)) }
         ensures err { OnErr result (IsLawful (pushed self.now entry.now) → ⊥) }
+        ensures broken { IfErr result (Breaks self.now.config self.now.entries entry.now) }
     {
         self.judge_moment(entry)?;
         self.judge_rule(entry)?;
@@ -39,6 +42,7 @@ impl<A: Allocator> Carrying<A> {
     fn judge_moment(&self, entry: &Entry) -> Result<(), BrokenRule>
         ensures ok { OnOk result (IsInTime self.now.entries entry.now) }
         ensures err { OnErr result (IsInTime self.now.entries entry.now → ⊥) }
+        ensures broken { IfErr result (Breaks self.now.config self.now.entries entry.now) }
         ensures valid { IsValid self.now.config }
         ensures lawful { IsLawful self.now }
         ensures behind { self.now.base ≡ behind_all }
@@ -55,6 +59,8 @@ impl<A: Allocator> Carrying<A> {
         requires last { entry.now.moment ≤ℤ last_of_all }
         ensures ok { OnOk result (KeepsRuleOf self.now self.now.entries entry.now) }
         ensures err { OnErr result (KeepsRuleOf self.now self.now.entries entry.now → ⊥) }
+        ensures broken { IfErr result (BreaksRule self.now.config self.now.entries
+            entry.now.moment entry.now.what) }
     {
         let moment = entry.moment;
         match &entry.what {
@@ -78,6 +84,8 @@ impl<A: Allocator> Carrying<A> {
             (what.Fulfilled number preimage.now)) }
         ensures err { OnErr result (KeepsRule self.now.config self.now.base self.now.entries moment
             (what.Fulfilled number preimage.now) → ⊥) }
+        ensures broken { IfErr result (BreaksRule self.now.config self.now.entries moment
+            (what.Fulfilled number preimage.now)) }
     {
         let Some(hold) = open_hold_at(&self.journal, number) else {
             return Err(BrokenRule::NoOpenHold);
@@ -97,6 +105,8 @@ impl<A: Allocator> Carrying<A> {
             (what.Released number cause)) }
         ensures err { OnErr result (KeepsRule self.now.config self.now.base self.now.entries moment
             (what.Released number cause) → ⊥) }
+        ensures broken { IfErr result (BreaksRule self.now.config self.now.entries moment
+            (what.Released number cause)) }
     {
         let Some(hold) = open_hold_at(&self.journal, number) else {
             return Err(BrokenRule::NoOpenHold);
@@ -111,6 +121,8 @@ impl<A: Allocator> Carrying<A> {
     fn judge_credited(&self, credit: &Credited) -> Result<(), BrokenRule>
         ensures ok { OnOk result (IsFreshCredit self.now.config self.now.entries credit.now) }
         ensures err { OnErr result (IsFreshCredit self.now.config self.now.entries credit.now → ⊥) }
+        ensures broken { (moment : ℤ) → IfErr result (BreaksRule self.now.config self.now.entries moment
+            (what.Credited credit.now)) }
     {
         if self.config.peers() <= credit.peer {
             return Err(BrokenRule::Peer);
@@ -137,6 +149,8 @@ impl<A: Allocator> Carrying<A> {
     fn judge_asked(&self, ask: &Ask) -> Result<(), BrokenRule>
         ensures ok { OnOk result (IsDueAsk self.now.config self.now.entries ask.now) }
         ensures err { OnErr result (IsDueAsk self.now.config self.now.entries ask.now → ⊥) }
+        ensures broken { (moment : ℤ) → IfErr result (BreaksRule self.now.config self.now.entries moment
+            (what.Asked ask.now)) }
     {
         if self.config.peers() <= ask.peer {
             return Err(BrokenRule::Peer);
@@ -158,7 +172,8 @@ impl<A: Allocator> Carrying<A> {
     // Whether the settlement of this number is open.
     fn judge_closing(&self, number: u32) -> Result<(), BrokenRule>
         ensures ok { OnOk result (IsSome (open_ask_at self.now.entries number)) }
-        ensures err { OnErr result (IsSome (open_ask_at self.now.entries number) → ⊥) }
+        ensures err { OnErr result (open_ask_at self.now.entries number ≡ None) }
+        ensures broken { IfErr result (λ rule. rule ≡ BrokenRule.NoOpenAsk) }
     {
         match open_ask_at(&self.journal, number) {
             Some(_ask) => Ok(()),
@@ -171,6 +186,8 @@ impl<A: Allocator> Carrying<A> {
         requires rule { KeepsRuleOf self.now self.now.entries entry.now }
         ensures ok { OnOk result (KeepsLimits self.now entry.now.what) }
         ensures err { OnErr result (KeepsLimits self.now entry.now.what → ⊥) }
+        ensures broken { IfErr result (BreaksRule self.now.config self.now.entries
+            entry.now.moment entry.now.what) }
     {
         match &entry.what {
             What::Hold(hold) => {
@@ -187,6 +204,7 @@ impl<A: Allocator> Carrying<A> {
     fn judge_room(&self, more: u32) -> Result<(), BrokenRule>
         ensures ok { OnOk result (HasRoom self.now more) }
         ensures err { OnErr result (HasRoom self.now more → ⊥) }
+        ensures broken { IfErr result (λ rule. rule ≡ BrokenRule.Room) }
     {
         let open_count = self.tables.tallies.open_count();
         let needed = u64::from(self.journal.len()) + u64::from(open_count) + u64::from(more);
@@ -203,6 +221,7 @@ impl<A: Allocator> Carrying<A> {
             ≤ℤ balance self.now.entries hold.now.from) }
         ensures err { OnErr result ((((peer_at self.now.config hold.now.from).least +ℤ pos hold.now.amount)
             ≤ℤ balance self.now.entries hold.now.from) → ⊥) }
+        ensures broken { IfErr result (λ rule. rule ≡ BrokenRule.Least) }
     {
         let balance = self.tables.tallies.balance(hold.from);
         if is_short(balance, hold.amount, self.config.least(hold.from)) {
@@ -227,6 +246,8 @@ fn judge_terms(config: &Config, moment: i64, hold: &Hold) -> Result<(), BrokenRu
     requires last { moment ≤ℤ last_of_all }
     ensures ok { OnOk result (HasTerms config.now moment hold.now) }
     ensures err { OnErr result (HasTerms config.now moment hold.now → ⊥) }
+    ensures broken { (before : Entries) → IfErr result (BreaksRule config.now before moment
+        (what.Hold hold.now)) }
 {
     let peers = config.peers();
     if peers <= hold.from || peers <= hold.to || hold.from == hold.to {

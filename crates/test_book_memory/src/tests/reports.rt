@@ -1,7 +1,8 @@
 //! Reports of books.
 
 use super::books::{START, hold};
-use super::{GROWTHS, lending};
+use super::{GROWTHS, LENDING, lending};
+use ilp_accounts::Config;
 use ilp_book::{Book, Outcome, PeerReply};
 use ilp_io::Recording;
 use ilp_report::{Snapshot, print};
@@ -33,7 +34,7 @@ const RELEASED: &str = "balance   alice                                         
     bought    USD/2                                            0\n\
     sold      USD/2                                            0\n\
     settled   USD/2                                            0\n\
-    entries                                                10000\n\
+    entries                                                70000\n\
     fulfilled                                                  0\n";
 
 #[test]
@@ -45,11 +46,13 @@ fn a_payment_and_a_hold(rt: HostRuntime) -> Result<(), Fail> {
     Ok(())
 }
 
+// In a book of the longest journal that may be configured.
 #[test]
-fn ten_thousand_entries(rt: HostRuntime) -> Result<(), Fail> {
-    let config = lending(rt.alloc())?;
+fn seventy_thousand_entries(rt: HostRuntime) -> Result<(), Fail> {
+    let text = format!(in rt.alloc(); "journal = 16777216\n{LENDING}")?;
+    let config = Config::read(rt.alloc(), text.as_bytes())?;
     let mut book = Book::new(rt.alloc(), &config)?;
-    for _ in 0..5_000 {
+    for _ in 0..35_000 {
         hold_and_release(&rt, &mut book);
     }
     let snapshot = Snapshot::of(rt.alloc(), &book)?;

@@ -186,10 +186,14 @@ const EACH_LAST: [Last; 7] = [
 enum Ending {
     Answer,
     Sweep,
-    Close,
+    Close(EngineVerdict),
 }
 
-const EACH_ENDING: [Ending; 3] = [Ending::Answer, Ending::Sweep, Ending::Close];
+const EACH_ENDING: [Ending; 3] = [
+    Ending::Answer,
+    Ending::Sweep,
+    Ending::Close(EngineVerdict::Accepted),
+];
 
 #[test]
 fn ending_takes_no_memory_after_any_entry(rt: HostRuntime) -> Result<(), Fail> {
@@ -198,6 +202,15 @@ fn ending_takes_no_memory_after_any_entry(rt: HostRuntime) -> Result<(), Fail> {
         for ending in EACH_ENDING {
             end_over_each(&rt, &config, last, ending)?;
         }
+    }
+    Ok(())
+}
+
+#[test]
+fn undoing_takes_no_memory_after_any_entry(rt: HostRuntime) -> Result<(), Fail> {
+    let config = lending(rt.alloc())?;
+    for last in EACH_LAST {
+        end_over_each(&rt, &config, last, Ending::Close(EngineVerdict::Refused))?;
     }
     Ok(())
 }
@@ -266,7 +279,7 @@ fn end_by<A: Allocator>(rt: &impl Abort, book: &mut Book<A>, ending: Ending) {
             assert_eq!(rt; outcome, Ok(Outcome::Fulfilled { entry }));
         }
         Ending::Sweep => assert!(rt; book.expire_one(0, DEADLINE).is_some()),
-        Ending::Close => close(rt, book, FILLED + 6, EngineVerdict::Accepted),
+        Ending::Close(verdict) => close(rt, book, FILLED + 6, verdict),
     }
 }
 

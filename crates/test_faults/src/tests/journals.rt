@@ -149,6 +149,21 @@ fn reserving_more_than_there_can_be(rt: HostRuntime) -> Result<(), Fail> {
     Ok(())
 }
 
+// A journal of the greatest limit that a configuration allows has room for more than 4,096 pages, and
+// takes entries behind the number 65,535.
+#[test]
+fn the_longest(rt: HostRuntime) -> Result<(), Fail> {
+    let mut journal = Journal::new(rt.alloc(), 16_777_216)?;
+    journal.reserve(1_048_577)?;
+    assert_eq!(rt; journal.spare(), 1_048_832);
+    for _number in 0..65_537 {
+        book(&rt, &mut journal, What::Hold(HOLD));
+    }
+    assert_eq!(rt; (journal.len(), journal.spare()), (65_537, 983_295));
+    assert_eq!(rt; journal.hold(65_536), Some(HOLD));
+    Ok(())
+}
+
 #[test]
 fn a_key(rt: HostRuntime) {
     let heap = DenyingAllocator::after(rt.alloc(), 0);

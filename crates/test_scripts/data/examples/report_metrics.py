@@ -3,15 +3,17 @@
 hands on to Prometheus.
 
     curl -fsS -d '' http://127.0.0.1:7769/report | report_metrics.py --output FOLDER/ilp.prom
-    report_metrics.py [REPORT]
+    report_metrics.py [REPORT] [--lines LOG]
     report_metrics.py --test
 
 The report comes from a file or from standard input, and the metrics go to standard output, or to the
-file behind --output, which is either replaced as a whole or left as it is. What is no whole report
-by docs/PROTOCOL.md is refused: the exit status is 1, one line on standard error says why, and
-nothing is written. It is 1 as well where a file can't be read or written, and 2 where the arguments
-are not understood. Numbers are whole ones, and are handed on as they came. It needs Python 3.11 and
-nothing else.
+file behind --output, which is either replaced as a whole or left as it is. With --lines they say too
+how many requests of peers got 401, by the connector's standard error, which is in LOG.
+
+What is no whole report by docs/PROTOCOL.md is refused: the exit status is 1, one line on standard
+error says why, and nothing is written. It is 1 as well where a file can't be read or written, and 2
+where the arguments are not understood. Numbers are whole ones, and are handed on as they came. It
+needs Python 3.11 and nothing else.
 """
 import argparse
 import contextlib
@@ -19,7 +21,7 @@ import os
 import re
 import sys
 import tempfile
-from collections.abc import Callable, Iterator
+from collections.abc import Callable, Iterable, Iterator
 from dataclasses import dataclass
 from pathlib import Path
 
@@ -68,6 +70,13 @@ METRICS = {
     "entries": ("ilp_entries", "How many entries the journal has."),
     "fulfilled": ("ilp_fulfilled", "How many holds are fulfilled."),
 }
+UNAUTHORIZED = {
+    "unauthorized": ("ilp_unauthorized", "How many requests got 401, by the lines of standard error.")
+}
+
+
+# A line on requests that got 401. Their numbers add up.
+WRONG_TOKENS = re.compile(rb"\S+ warn wrong tokens: ([1-9][0-9]*) requests? got 401\b.*")
 
 
 class NoReport(Exception):
@@ -226,7 +235,7 @@ def check_books(peers: dict[str, dict[str, int]], assets: dict[str, dict[str, in
 
 def family(label: str, samples: list[tuple[str, int]]) -> Iterator[str]:
     """The lines of a metric. Names of peers and assets have nothing that is to be escaped."""
-    metric, says = METRICS[label]
+    metric, says = (METRICS | UNAUTHORIZED)[label]
     yield f"# HELP {metric} {says}"
     yield f"# TYPE {metric} gauge"
     for labels, number in samples:
@@ -243,8 +252,21 @@ def of_asset(name: str) -> str:
     return f'{{asset="{code}",scale="{scale}"}}'
 
 
-def metrics_of(report: Report) -> str:
-    """The metrics of a report, in the text format of Prometheus."""
+def unauthorized_in(lines: Iterable[bytes]) -> int:
+    """How many requests got 401, by the lines on standard error.
+
+    >>> unauthorized_in([b"TIME warn wrong tokens: 12 requests got 401, 9 from 192.0.2.7\\n",
+    ...                  b"TIME info credit 2 of bob: 1, key \\"1 requests got 401\\"\\n",
+    ...                  b"TIME warn wrong tokens: 1 request got 401\\n"])
+    13
+    """
+    found = (WRONG_TOKENS.match(line) for line in lines)
+    return sum(int(line[1]) for line in found if line is not None)
+
+
+def metrics_of(report: Report, unauthorized: int | None = None) -> str:
+    """The metrics of a report, and how many requests got 401 where that is known, in the text format
+    of Prometheus."""
     lines: list[str] = []
     for label in OF_PEERS:
         of = [(f'{{peer="{name}"}}', numbers[label]) for name, numbers in report.peers.items()]
@@ -254,6 +276,8 @@ def metrics_of(report: Report) -> str:
         lines += family(label, of)
     for label in OF_ALL:
         lines += family(label, [("", report.totals[label])])
+    if unauthorized is not None:
+        lines += family("unauthorized", [('{side="peers"}', unauthorized)])
     return "\n".join(lines) + "\n"
 
 
@@ -287,9 +311,17 @@ def read_octets(path: Path | None) -> bytes:
         return file.read(MOST_OCTETS + 1)
 
 
-def run(source: Path | None, output: Path | None) -> None:
+def read_unauthorized(log: Path | None) -> int | None:
+    """How many requests got 401, by the lines in this file."""
+    if log is None:
+        return None
+    with log.open("rb") as lines:
+        return unauthorized_in(lines)
+
+
+def run(source: Path | None, output: Path | None, log: Path | None = None) -> None:
     """Reads the report and writes its metrics."""
-    text = metrics_of(read_report(read_octets(source)))
+    text = metrics_of(read_report(read_octets(source)), read_unauthorized(log))
     if output is None:
         sys.stdout.write(text)
         sys.stdout.flush()
@@ -401,6 +433,8 @@ def differs_in() -> list[str]:
     lines = metrics_of(read_report(sample())).splitlines()
     if tuple(line for line in lines if not line.startswith("#")) != SAMPLE_LINES:
         differs.append("the metrics of the sample")
+    if 'ilp_unauthorized{side="peers"} 13\n' not in metrics_of(read_report(sample()), 13):
+        differs.append("requests that got 401")
     most = 2**88 - 1
     great = metrics_of(read_report(sample(settled=most, held=most)))
     if f'ilp_held{{asset="USD",scale="2"}} {most}\n' not in great:
@@ -425,6 +459,7 @@ def main() -> int:
     parser = argparse.ArgumentParser(description="Turns the connector's report into metrics.")
     parser.add_argument("report", nargs="?", type=Path, help="the report; standard input if left out")
     parser.add_argument("--output", type=Path, help="the file to replace; standard output if left out")
+    parser.add_argument("--lines", type=Path, metavar="LOG", help="the connector's standard error")
     parser.add_argument("--test", action="store_true", help="test this script, and do nothing else")
     given = parser.parse_args()
     if given.test:
@@ -432,7 +467,7 @@ def main() -> int:
         print("\n".join(f"{it} differs" for it in differs) or "ok")
         return 1 if differs else 0
     try:
-        run(given.report, given.output)
+        run(given.report, given.output, given.lines)
     except (NoReport, OSError) as why:
         print(f"report_metrics: {why}", file=sys.stderr)
         return 1

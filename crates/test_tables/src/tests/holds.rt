@@ -76,6 +76,24 @@ fn reserve<A: Allocator>(
     outcome
 }
 
+// Each of so many is the next one due in its turn.
+#[test]
+fn five_thousand(rt: HostRuntime) -> Result<(), Fail> {
+    let mut table = HoldTable::new(rt.alloc())?;
+    table.reserve(5_000)?;
+    for number in 0..5_000 {
+        insert(&rt, &mut table, number, i64::from(number));
+    }
+    assert_eq!(rt; table.len(), 5_000);
+    for number in 0..5_000 {
+        let deadline = i64::from(number);
+        assert_eq!(rt; table.earliest(), Some((deadline, number)));
+        assert_eq!(rt; table.take(number), Some(deadline));
+    }
+    assert!(rt; table.is_empty());
+    Ok(())
+}
+
 // Numbers come again, and many have the same deadline.
 #[test]
 fn a_long_run(rt: HostRuntime) -> Result<(), Fail> {

@@ -37,6 +37,15 @@ fn rows(rt: HostRuntime) -> Result<(), Fail> {
     Ok(())
 }
 
+#[test]
+fn a_new_one_takes_no_memory(rt: HostRuntime) -> Result<(), Fail> {
+    let heap = DenyingAllocator::after(rt.alloc(), 0);
+    let table = KeyTable::new(&heap)?;
+    assert_eq!(rt; table.find(7, b"k"), None);
+    assert!(rt; !heap.has_denied());
+    Ok(())
+}
+
 // The peer and the key of a row: 30 peers with one key, and 30 further keys of one peer.
 fn peer_and_key(number: u8) -> (u32, [u8; 2]) {
     if number % 2 == 0 {

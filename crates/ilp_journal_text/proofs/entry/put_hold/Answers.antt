@@ -21,3 +21,13 @@ returns-clause-octets c =
     let line_7 = c.moment.new.self in
     more line_0 line_1 _ _ _ c.word.ensures.octets (more line_1 line_2 _ _ _ from (more line_2 line_3 _ _ _ to (more line_3 line_4 _ _ _ c.number.ensures.octets
     (more line_4 line_5 _ _ _ c.number-2.ensures.octets (more line_5 line_6 _ _ _ c.number-3.ensures.octets (more line_6 line_7 _ _ _ deadline (ended line_7 _ _ c.hexadecimal.ensures.octets)))))))
+
+-- the numbers are of their types
+pub returns-clause-typed : goal.returns-clause-typed
+returns-clause-typed c = record {
+  amount = search rules;
+  fee = search rules;
+  out = search rules;
+  deadline = search rules;
+  condition = (search rules, c.hexadecimal.ensures.bytes);
+}

@@ -36,7 +36,7 @@ returns-in_err-entry-clause-err c =
 
 pub returns-in-Some-clause-ok : goal.returns-in-Some-clause-ok
 returns-in-Some-clause-ok c =
-    let line = c.as_slice-2.ensures ∙ c.entry_line.ensures in
+    let line = c.as_slice-2.ensures ∙ c.entry_line.ensures.octets in
     let found = strip_prefix_is Decides-eqb c.args.text.now c.as_slice-2.result.now (Some c.in-Some.rest) c.in-Some.ensures.cases in
     (found ∙ ap (λ octets. octets ++ c.in-Some.rest.now) line, c.in_ok-entry.ensures.stands)
 
@@ -46,5 +46,5 @@ returns-clause-err c = λ _ e after stands whole.
     let same = c.in_ok-line.ensures (entry_body C e) after (entry_clean C c.peers.ensures.valid e stands) (entry_parts C e after _ whole) in
     let fields = ap octets_of c.as_slice.ensures.value ∙ c.in_ok-fields.ensures.ok ∙ ap (slice_split is_space) same ∙ entry_cut C c.peers.ensures.valid e stands in
     let entry = given c.in_ok-entry.entry e (c.in_ok-entry.ensures.read e stands fields) in
-    let line = c.as_slice-2.ensures ∙ c.entry_line.ensures ∙ ap (entry_line C) entry in
+    let line = c.as_slice-2.ensures ∙ c.entry_line.ensures.octets ∙ ap (entry_line C) entry in
     strip_prefix_is Decides-eqb c.args.text.now c.as_slice-2.result.now None c.in-None.ensures.cases after (whole ∙ ap (λ octets. octets ++ after) (sym line))

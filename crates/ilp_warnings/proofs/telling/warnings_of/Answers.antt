@@ -18,5 +18,5 @@ returns c =
     let seen : configuration t ≡ C → c.deref.result.now ≡ targets_of C = λ same. c.deref.ensures.value ∙ c.in_ok-targets.ensures.are ∙ ap (λ vs. map give (tables vs)) c.tables_in.ensures ∙ targets_seen t C same in
     record {
       sound = λ same. subst (λ targets. IfOk c.all_told.result (λ told. All (Warrants t C targets) told.items)) (seen same) c.all_told.ensures.sound;
-      complete = λ same. subst (λ targets. IfOk c.all_told.result (λ told. IsComplete C targets told.items)) (seen same) c.all_told.ensures.complete;
+      complete = λ same. subst (λ targets. IfOk c.all_told.result (λ told. IsComplete t C targets told.items)) (seen same) c.all_told.ensures.complete;
     }

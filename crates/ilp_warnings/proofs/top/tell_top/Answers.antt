@@ -1,5 +1,5 @@
-use Rattle.std.proofs.Common.{subst, rules}
-use Rattle.ilp_warnings.specs.Meaning.{IsSocketAddress, IsClosed}
+use Rattle.std.proofs.Common.{sym, subst, rules}
+use Rattle.ilp_warnings.specs.Meaning.{IsSocketAddress, IsClosed, IsShared}
 use Rattle.ilp_warnings.specs.Complete.{KeepsAll}
 use Rattle.ilp_warnings.proofs.Keeping.{on_ok, on_ok_both, must}
 use Rattle.ilp_warnings.proofs.top.tell_top.Goals as goal
@@ -20,10 +20,15 @@ returns-clause-top c =
     let after_open : KeepsAll c.tell.new.told.items c.tell-5.new.told.items = λ w has. after_shared w (c.in_ok-tell-2.ensures.kept w has) in
     let after_sides : KeepsAll c.tell_address-2.new.told.items c.tell-5.new.told.items = λ w has. after_open w (c.in_ok-tell.ensures.kept w has) in
     let after_listen : KeepsAll c.tell_address.new.told.items c.tell-5.new.told.items = λ w has. after_sides w (c.in_ok-tell_address-2.ensures.kept w has) in
+    let settings = c.args.examined.config.now.settings in
+    let shared = λ (h : IsShared settings.listen settings.engine_listen).
+    subst (λ text. IsShared text c.engine_listen-engine_listen.result.now) (sym c.listen-listen.ensures)
+    (subst (λ other. IsShared settings.listen other) (sym c.engine_listen-engine_listen.ensures) h) in
     record {
       listen = λ h. after_listen _ (c.in_ok-tell_address.ensures.told (λ is. h (subst IsSocketAddress c.listen-listen.ensures is)));
       engine_listen = λ h. after_sides _ (c.in_ok-tell_address-2.ensures.told (λ is. h (subst IsSocketAddress c.engine_listen-engine_listen.ensures is)));
       engines = λ h. after_open _ (c.in_ok-tell.ensures.told (must c.is_open.result (λ e. subst IsClosed c.engine_listen-engine_listen.ensures (c.is_open.ensures.closed e)) h));
+      shared = λ h. after_shared _ (c.in_ok-tell-2.ensures.told (c.is_shared.ensures.1 (shared h)));
       worker = λ h. after_worker _ (c.in_ok-tell-3.ensures.told (search (rules, h)));
       holds = λ h. after_holds _ (c.in_ok-tell-4.ensures.told (search (rules, h)));
       no_routes = λ h. told (search (rules, h));

@@ -3,11 +3,11 @@
 use super::hearing::{At, Hearing};
 use super::stand_in::config_at;
 use ilp_accounts::Config;
-use ilp_notices::Notices;
+use ilp_notices::{Notices, SentHold, ShownKey, ToldQuantity};
 use std::alloc::Global;
 use std::io;
 use std::io::Eprint;
-use std::net::{Ipv4Addr, SocketAddr};
+use std::net::{IpAddr, Ipv4Addr, SocketAddr};
 use std::process::Abort;
 use std::sync::Wait;
 use std::time::{Clock, Duration};
@@ -20,9 +20,12 @@ pub(super) enum Event {
     Fails(u32),
     Answers(u32),
     Unreadable(u32),
+    UnreadableOfHold(u32),
     EngineFails(u32),
     EngineAnswers(u32),
     Rejected(u32, [u8; 3]),
+    // From 192.0.2 and this.
+    WrongToken(u8),
     Waits(u32),
     IsOver(u32),
     WaitsForEngine(u32),
@@ -37,6 +40,7 @@ pub(super) enum Event {
     Refused(u32),
     KeptOpen(u32),
     Credited(u32),
+    KeyTaken(u32),
 }
 
 /// At so many milliseconds this happens, and this is written.
@@ -48,7 +52,11 @@ fn happen_to_peers<R: Clock + Eprint>(rt: &R, notices: &Notices, config: &Config
     match event {
         Event::Fails(peer) => notices.peer_failed(rt, config, peer, "no answer"),
         Event::Answers(peer) => notices.peer_answered(peer),
-        Event::Unreadable(peer) => notices.peer_unreadable(rt, config, peer),
+        Event::Unreadable(peer) => notices.peer_unreadable(rt, config, peer, None),
+        Event::UnreadableOfHold(peer) => {
+            let hold = SentHold::new(3, 250, &[0xab; 32]);
+            notices.peer_unreadable(rt, config, peer, Some(hold));
+        }
         Event::EngineFails(peer) => notices.engine_failed(rt, config, peer, "no answer"),
         Event::EngineAnswers(peer) => notices.engine_answered(peer),
         Event::Waits(peer) => notices.waits_for_peer(peer),
@@ -72,9 +80,19 @@ fn happen_to_settlements<R: Clock + Eprint>(
             notices.settlement_refused(rt, config, peer, 7, 250, 400, Duration::from_secs(4));
         }
         Event::KeptOpen(peer) => notices.settlement_kept_open(rt, config, peer, 7),
-        Event::Credited(peer) => notices.credited(rt, config, peer, 7, 250),
+        Event::Credited(peer) => {
+            notices.credited(rt, config, peer, 7, 250, ShownKey::new(b"k-1"));
+        }
+        Event::KeyTaken(peer) => {
+            let (kept, told) = (quantity(250, 2), quantity(25, 1));
+            notices.key_taken(rt, config, peer, 7, ShownKey::new(b"a \xff"), kept, told);
+        }
         _ => {}
     }
+}
+
+fn quantity(amount: u128, scale: u8) -> ToldQuantity {
+    ToldQuantity { amount, scale }
 }
 
 // What happens to the connector.
@@ -82,6 +100,9 @@ fn happen<R: Clock + Eprint + Wait>(rt: &R, notices: &Notices, config: &Config, 
     match event {
         Event::Looks => notices.look(rt, config),
         Event::LooksLast => notices.last_look(rt, config),
+        Event::WrongToken(last) => {
+            notices.wrong_token(rt, Some(IpAddr::V4(Ipv4Addr::new(192, 0, 2, last))));
+        }
         Event::Rejected(peer, code) => notices.rejected(rt, peer, code),
         Event::WorkWaits(seconds) => notices.work_waits(rt, config, seconds),
         Event::WorkGoesOn => notices.work_goes_on(),

@@ -124,6 +124,38 @@ fn rejects_are_told_each_minute(rt: HostRuntime) -> Result<(), Fail> {
 }
 
 #[test]
+fn wrong_tokens_are_counted(rt: HostRuntime) -> Result<(), Fail> {
+    use Event::*;
+    let rows = [
+        Row(0, Looks, ""),
+        Row(1, WrongToken(7), ""),
+        Row(2, WrongToken(8), ""),
+        Row(3, WrongToken(8), ""),
+        Row(
+            4,
+            Looks,
+            "1970-01-01T00:00:00.004Z warn wrong tokens: 3 requests got 401, 2 from 192.0.2.8\n",
+        ),
+        Row(500, WrongToken(7), ""),
+        Row(1_003, Looks, ""),
+        Row(
+            1_004,
+            Looks,
+            "1970-01-01T00:00:01.004Z warn wrong tokens: 1 request got 401, 1 from 192.0.2.7\n",
+        ),
+        Row(1_005, WrongToken(9), ""),
+        Row(
+            1_006,
+            LooksLast,
+            "1970-01-01T00:00:01.006Z warn wrong tokens: 1 request got 401, 1 from 192.0.2.9\n",
+        ),
+        Row(1_007, LooksLast, ""),
+    ];
+    play(&rt, rt.alloc(), &rows)?;
+    Ok(())
+}
+
+#[test]
 fn who_waits_for_whom(rt: HostRuntime) -> Result<(), Fail> {
     use Event::*;
     let rows = [
@@ -209,15 +241,26 @@ fn settlements_and_engines(rt: HostRuntime) -> Result<(), Fail> {
         Row(
             0,
             Credited(1),
-            "1970-01-01T00:00:00.000Z info credit 7 of bob: 250\n",
+            "1970-01-01T00:00:00.000Z info credit 7 of bob: 250, key \"k-1\"\n",
         ),
         Row(0, Credited(3), ""),
+        Row(
+            0,
+            KeyTaken(1),
+            "1970-01-01T00:00:00.000Z error settlement of bob refused, and not credited: 25 at scale 1 under the key 0x6120ff, which credit 7 has with 250 at scale 2: see which one its engine means\n",
+        ),
         Row(
             0,
             EngineFails(1),
             "1970-01-01T00:00:00.000Z warn engine of bob at 127.0.0.1:7000: no answer\n",
         ),
         Row(0, EngineAnswers(1), ""),
+        Row(999, KeyTaken(1), ""),
+        Row(
+            999,
+            KeyTaken(0),
+            "1970-01-01T00:00:00.999Z error settlement of alice refused, and not credited: 25 at scale 1 under the key 0x6120ff, which credit 7 has with 250 at scale 2: see which one its engine means\n",
+        ),
         Row(
             1_000,
             Looks,
@@ -247,6 +290,11 @@ fn a_clock_that_is_behind(rt: HostRuntime) -> Result<(), Fail> {
             1_000,
             Unreadable(0),
             "1970-01-01T00:00:01.000Z error peer alice at 127.0.0.1:7000: a 200 without a Fulfill or a Reject that can be read: it may have fulfilled the packet, at the connector's cost\n",
+        ),
+        Row(
+            1_000,
+            UnreadableOfHold(1),
+            "1970-01-01T00:00:01.000Z error peer bob at 127.0.0.1:0: a 200 without a Fulfill or a Reject that can be read: it may have fulfilled the packet, at the connector's cost (hold 3 of 250, condition abababab)\n",
         ),
     ];
     play(&rt, rt.alloc(), &rows)?;

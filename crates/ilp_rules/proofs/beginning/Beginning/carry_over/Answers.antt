@@ -17,13 +17,8 @@ returns-in_err-take_up_text-clause-err g c =
     let config = ap (λ (b : PlainBook). b.config) c.in_ok-carrying.ensures in
     rw (p.1, p.2) (subst (λ C. IsWhyNotCarried C c.args.text.now c.in_err-take_up_text.field-0.0) config c.in_err-take_up_text.ensures.err)
 
-pub returns-in_err-end_holds-clause-err : goal.returns-in_err-end_holds-clause-err
-returns-in_err-end_holds-clause-err g c =
-    let p = err_from_is_err_and c.from_residual-in_err-end_holds.result c.from_residual-in_err-end_holds.ensures.1 in
-    rw (p.1, p.2) tt
-
 pub begun_with-requires : goal.begun_with-requires
-begun_with-requires g c = record { ended = c.in_ok-end_holds.ensures.ended }
+begun_with-requires g c = record { ended = c.end_holds.ensures.ended }
 
 pub returns-clause-ok : goal.returns-clause-ok
 returns-clause-ok g c =
@@ -36,7 +31,7 @@ returns-clause-ok g c =
     let config : old.config ≡ C = ap (λ (b : PlainBook). b.config) c.in_ok-carrying.ensures in
     let kept : book.config ≡ C = ap (λ (b : PlainBook). b.config) c.in_ok-take_up_text.ensures.taken ∙ config in
     let begun : IsLawful (with_base book (length j)) = lawful_behind book (length j) (omega arith) c.end_holds.ensures.lawful in
-    let ends = c.in_ok-end_holds.ensures.ends in
+    let ends = c.end_holds.ensures.ends in
     record {
       entries = j;
       written = subst (λ X. IsTextOf X j c.args.text.now) config c.in_ok-take_up_text.ensures.written;

@@ -1,4 +1,4 @@
-use Rattle.std.proofs.Common.{◌≡◌, true, false, Some, sym, ap, ◌∙◌, subst, rules}
+use Rattle.std.proofs.Common.{◌≡◌, true, false, Some, refl, sym, ap, ◌∙◌, subst, rules}
 use Rattle.std.specs.Prelude.{FitsSigned}
 use Rattle.std.specs.Int.{w64}
 use Rattle.std.proofs.lemmas.Int.{to_z-of_z}
@@ -10,8 +10,8 @@ use Rattle.ilp_rules.proofs.Ending.{end_keeps, end_keeps_at}
 use Rattle.ilp_rules.proofs.carrying.Carrying.end_hold.Goals as goal
 use Rattle.ilp_rules.proofs.carrying.Carrying.end_hold.Goals.{then-hold-moment, else-hold-moment}
 
-pub push-requires : goal.push-requires
-push-requires g c =
+pub close-requires : goal.close-requires
+close-requires g c =
     let book = c.args.self.now in
     let h = c.in-Some.hold in
     let deadline_fits : FitsSigned w64 h.deadline = search rules in
@@ -24,6 +24,7 @@ push-requires g c =
     sym (ap (λ (b : PlainBook). open_hold_at b.entries c.args.number) c.self.view_is) ∙ (sym c.open_hold_at.ensures ∙ c.in-Some.is) in
     let ends = end_keeps book c.args.moment c.args.number h valid lawful (ap (λ (b : PlainBook). b.base) (sym c.self.view_is)) stands c.requires.later c.requires.first c.requires.last in
     record {
+      ends = refl;
       lawful = elim c.if-hold-moment.branch [
         | then-hold-moment w ↦ end_keeps_at book c.args.moment _ _ c.args.number h c.if-hold-moment.cause true moment deadline w.if-hold-moment.true w.cause-is ends
         | else-hold-moment w ↦ end_keeps_at book c.args.moment _ _ c.args.number h c.if-hold-moment.cause false moment deadline w.if-hold-moment.false w.cause-is ends

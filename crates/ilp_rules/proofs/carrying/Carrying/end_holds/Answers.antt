@@ -45,7 +45,7 @@ loop-number-preserved g c =
     let lawful : IsLawful book = subst IsLawful c.self.view_is c.self.invariant.lawful in
     let count : c.len-count.result ≡ length book.entries = c.len-count.ensures.count ∙ ap (λ (b : PlainBook). length b.entries) c.self.view_is in
     ends_go_on book (to_z w64 (of_z w64 c.moment_at-moment.result)) c.loop-number.number c.loop-number.self c.end_hold.new.self lawful
-    (omega (arith, c.loop-number-test.true, count)) c.loop-number.invariant c.in_ok-end_hold.ensures
+    (omega (arith, c.loop-number-test.true, count)) c.loop-number.invariant c.end_hold.ensures
 
 pub returns-clause-ends : goal.returns-clause-ends
 returns-clause-ends g c =

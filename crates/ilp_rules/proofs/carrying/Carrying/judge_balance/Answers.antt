@@ -16,7 +16,7 @@ returns-then-is_short-clause-err g c =
     let owed_fits : FitsSigned w128 c.balance-balance.result = search rules in
     let least_fits : FitsSigned w64 c.least.result = search rules in
     let owed = to_z-of_z w128 c.balance-balance.result owed_fits
-    ∙ (c.balance-balance.ensures.value (peer_assets c.self.inside.config) behind_all c.self.inside.journal.entries c.self.invariant.tabled.tallied
+    ∙ (c.balance-balance.ensures.value (peer_assets c.self.inside.config) behind_all c.self.inside.journal.entries c.self.invariant.tallied
     ∙ ap (λ (b : PlainBook). balance b.entries from) c.self.view_is) in
     let least = to_z-of_z w64 c.least.result least_fits ∙ (c.least.ensures ∙ ap (λ (b : PlainBook). (peer_at b.config from).least) c.self.view_is) in
     not_covered _ _ _ _ c.args.hold.now.amount owed least (sym c.is_short.ensures ∙ c.if-is_short.true)
@@ -27,7 +27,7 @@ returns-clause-ok g c =
     let owed_fits : FitsSigned w128 c.balance-balance.result = search rules in
     let least_fits : FitsSigned w64 c.least.result = search rules in
     let owed = to_z-of_z w128 c.balance-balance.result owed_fits
-    ∙ (c.balance-balance.ensures.value (peer_assets c.self.inside.config) behind_all c.self.inside.journal.entries c.self.invariant.tabled.tallied
+    ∙ (c.balance-balance.ensures.value (peer_assets c.self.inside.config) behind_all c.self.inside.journal.entries c.self.invariant.tallied
     ∙ ap (λ (b : PlainBook). balance b.entries from) c.self.view_is) in
     let least = to_z-of_z w64 c.least.result least_fits ∙ (c.least.ensures ∙ ap (λ (b : PlainBook). (peer_at b.config from).least) c.self.view_is) in
     is_covered _ _ _ _ c.args.hold.now.amount owed least (sym c.is_short.ensures ∙ c.if-is_short.false)

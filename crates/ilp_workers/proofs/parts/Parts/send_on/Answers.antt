@@ -20,9 +20,11 @@ returns-clause-asked g c =
     let Onward : ℤ → PlainPrepare = λ d. record { amount = held.out; expires = d; condition = packet.condition; destination = packet.destination; payload = packet.payload } in
     let spelled : Spells out (prepare (Onward held.deadline)) =
     subst (λ d. Spells out (prepare (Onward d))) same (written_alone c.args.self.now.outgoing.octets out _ c.requires.cleared c.in-Ok.ensures.ok) in
-    let handed : Tells (g.U.Uplink.told c.args.self.now.uplink) (sending held.to out held.deadline came) (g.U.Uplink.told c.send-came.new.self) =
-    subst (λ d. Tells (g.U.Uplink.told c.args.self.now.uplink) (sending held.to out d came) (g.U.Uplink.told c.send-came.new.self)) same
-    (subst (λ o. Tells (g.U.Uplink.told c.args.self.now.uplink) (sending held.to o (to_z w64 (of_z w64 held.deadline)) came) (g.U.Uplink.told c.send-came.new.self)) c.as_slice.ensures c.send-came.ensures) in
+    let handed : Tells (g.U.Uplink.told c.note_hold.new.self) (sending held.to out held.deadline came) (g.U.Uplink.told c.send-came.new.self) =
+    subst (λ d. Tells (g.U.Uplink.told c.note_hold.new.self) (sending held.to out d came) (g.U.Uplink.told c.send-came.new.self)) same
+    (subst (λ o. Tells (g.U.Uplink.told c.note_hold.new.self) (sending held.to o (to_z w64 (of_z w64 held.deadline)) came) (g.U.Uplink.told c.send-came.new.self)) c.as_slice.ensures c.send-came.ensures) in
+    let alone : Tells (g.U.Uplink.told c.args.self.now.uplink) (sending held.to out held.deadline came) (g.U.Uplink.told c.send-came.new.self) =
+    subst (λ t. Tells t (sending held.to out held.deadline came) (g.U.Uplink.told c.send-came.new.self)) c.note_hold.ensures handed in
     let learned : Tells (g.U.Uplink.told c.args.self.now.uplink) (sending held.to out held.deadline came) (g.U.Uplink.told c.note_reply.new.uplink) =
-    subst (λ t. Tells (g.U.Uplink.told c.args.self.now.uplink) (sending held.to out held.deadline came) t) (sym c.note_reply.ensures) handed in
+    subst (λ t. Tells (g.U.Uplink.told c.args.self.now.uplink) (sending held.to out held.deadline came) t) (sym c.note_reply.ensures) alone in
     (c.send-came.result, record { octets = out; spelled = spelled; handed = learned }, c.effect_by-effect.ensures ∙ ap (λ r. effect_of packet.condition (came_of c.send-came.result r)) c.as_slice-2.ensures)

@@ -1,0 +1,19 @@
+//! What is kept beside a journal of the configuration by which it was run: the name of the run, and the
+//! asset of each peer. The journal's text has neither, and both have to stay as long as something hangs on
+//! them.
+//!
+//! # What is proved
+//!
+//! - `remembered_text` is the text of a configuration (`specs/Remembered.antt`, `remembered_text`).
+//! - `change_of` finds, of a text that is whole, another run where a settlement is open, or a peer with
+//!   another asset where something is counted in it; and it finds nothing only where there is neither
+//!   (`FindsChange`).
+#![tactic(auto)]
+
+mod change;
+mod hanging;
+mod lines;
+mod text;
+
+pub use change::{Change, change_of};
+pub use text::remembered_text;

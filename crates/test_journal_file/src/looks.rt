@@ -1,0 +1,17 @@
+//! Looks at what a disk has.
+
+use crate::disk::{Disk, When};
+use std::io;
+
+/// Whether a file is there with just this text.
+pub(crate) fn has(disk: &Disk, name: &str, when: When, text: &[u8]) -> io::Result<bool> {
+    Ok(match disk.text(name, when)? {
+        Some(found) => found.as_slice() == text,
+        None => false,
+    })
+}
+
+/// Whether a file is there.
+pub(crate) fn is_there(disk: &Disk, name: &str, when: When) -> io::Result<bool> {
+    Ok(disk.text(name, when)?.is_some())
+}

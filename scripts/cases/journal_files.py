@@ -1,0 +1,241 @@
+"""What stands at the path of a journal and beside it, that is no plain file or can't be written; and standard
+streams that are closed."""
+import fcntl
+import os
+import shlex
+import stat
+import subprocess
+import threading
+from pathlib import Path
+
+from cases.case import case, expect, expect_that
+from cases.journals import START, Kept
+from cases.laboratory import (END, Laboratory, close, credit, expect_end, expect_served, post_close)
+from cases.lines import FOLLOWS
+from cases.messages import created
+from cases.program import Program, numbers_in
+from connections import quantity
+
+UNREAD = "73 JournalUnread"
+IN_USE = r"error journal .+: another connector has it: close that one, or .+"
+
+
+def expect_unfit(kept: Kept, name: str, why: str) -> None:
+    """A start and a check are refused, since this file is no plain one, by a line with this reason."""
+    kept.expect_refused(UNREAD, rf'error can\'t use ".+/{name}": {why}.*', made=())
+
+
+# ---- links
+
+@case
+def journal_that_is_a_link(laboratory: Laboratory) -> None:
+    """A symbolic link, dangling or not, and a file with two names are refused, so that no two connectors have
+    one journal under two locks."""
+    kept = Kept(laboratory)
+    link = "it is a symbolic link: .+"
+    kept.path.symlink_to(kept.folder / "absent")
+    expect_unfit(kept, "journal", link)
+    kept.path.unlink()
+    other = kept.folder / "other"
+    other.write_text("ilp-journal 1\nend 0\n")
+    kept.path.symlink_to(other)
+    expect_unfit(kept, "journal", link)
+    kept.path.unlink()
+    kept.path.hardlink_to(other)
+    expect_unfit(kept, "journal", "the file has another name too: .+")
+    other.unlink()
+    close(kept.serve())
+
+
+@case
+def links_beside_a_journal(laboratory: Laboratory) -> None:
+    """A link in place of the lock, of the mark or of the next journal is refused, and what it leads to stays."""
+    for kind in ("lock", "running", "new"):
+        kept = Kept(laboratory)
+        aside = kept.folder / "aside"
+        aside.write_text("mine")
+        kept.beside(kind).symlink_to(aside)
+        expect_unfit(kept, f"journal.{kind}", "it is a symbolic link: .+")
+        expect("what it leads to", aside.read_text(), "mine")
+
+
+@case
+def next_journal_is_none_but_its_own(laboratory: Laboratory) -> None:
+    """What comes to the name of the next journal while a connector runs is not written through: a link and a
+    pipe are replaced, and a folder is waited for."""
+    kept = Kept(laboratory)
+    aside, new = kept.folder / "aside", kept.beside("new")
+    aside.write_text("mine")
+    for make in (lambda: new.symlink_to(aside), lambda: os.mkfifo(new)):
+        program = kept.serve()
+        make()
+        close(program)
+        expect("the files", kept.files(), ["aside", "journal", "journal.lock"])
+        expect("what it led to", aside.read_text(), "mine")
+    program = kept.serve()
+    new.mkdir()
+    post_close(program)
+    program.await_told(r"warn journal .+: can't be saved: .+")
+    new.rmdir()
+    expect_end(program, alice=0, bob=0, within=2 * END)
+
+
+# ---- what would be waited for
+
+@case
+def pipes_in_place_of_files(laboratory: Laboratory) -> None:
+    """A named pipe in place of the journal or of a file beside it is refused, and not waited for."""
+    for kind in ("", ".lock", ".running", ".new"):
+        kept = Kept(laboratory)
+        os.mkfifo(kept.folder / f"journal{kind}")
+        expect_unfit(kept, f"journal{kind}", "it is a named pipe: .+")
+    kept = Kept(laboratory)
+    kept.path = Path("/dev/null")
+    program = kept.start()
+    expect("the exit status", program.end(START), 1)
+    expect("standard output", program.output(), f"refused {UNREAD}\n")
+    expect("how many lines", len(program.told(r'error can\'t use "/dev/null": it is a device or a socket: .+')), 1)
+
+
+# ---- mounts
+
+@case
+def journal_that_is_mounted(laboratory: Laboratory) -> None:
+    """A single file that is mounted can't be replaced, so it is refused at the start, also where its path has
+    a blank. This is left out where the system lets nobody mount."""
+    if subprocess.run(["unshare", "-rm", "true"], capture_output=True).returncode != 0:
+        return
+    kept = Kept(laboratory)
+    kept.folder = kept.folder / "a folder"
+    kept.folder.mkdir()
+    kept.path = kept.folder / "journal"
+    close(kept.serve())
+    aside = laboratory.folder() / "journal"
+    aside.write_text(kept.text())
+    script = laboratory.folder() / "mounting"
+    words = shlex.join(["mount", "--bind", str(aside), str(kept.path)])
+    script.write_text(f'#!/bin/sh\n{words} && exec {shlex.quote(str(laboratory.binary))} "$@"\n')
+    script.chmod(0o755)
+    mounting = laboratory.folder() / "program"
+    mounting.write_text(f'#!/bin/sh\nexec unshare -rm {shlex.quote(str(script))} "$@"\n')
+    mounting.chmod(0o755)
+    program = laboratory.run(Program(mounting, laboratory.folder(), kept.setup, journal=kept.path))
+    expect("the exit status", program.end(START), 1)
+    expect("standard output", program.output(), f"refused {UNREAD}\n")
+    expect("how many lines say so", len(program.told(r"error can't use .+: it is a mount point, .+")), 1)
+    done = kept.check(program)
+    expect("what check says", (done.returncode, done.stdout.split()[:2]), (1, UNREAD.join(["refused ", ""]).split()[:2]))
+    close(kept.serve())
+
+
+# ---- a limit of sizes
+
+@case
+def journal_beyond_the_size_of_files(laboratory: Laboratory) -> None:
+    """A limit of file sizes is an error that is told and tried again, and no signal that ends the connector."""
+    kept = Kept(laboratory)
+    close(kept.serve())
+    program = kept.serve()
+    for _ in range(80):
+        expect_served(program, amount=1)
+    program.limit_files(4096)
+    post_close(program)
+    program.await_told(r"warn journal .+: can't be saved: .+: make room for it, .+")
+    expect_that("it has ended", not program.has_ended())
+    program.limit_files(1_000_000)
+    expect_end(program, alice=-80, bob=80, within=2 * END)
+    expect("the entries", kept.entries(), 160)
+
+
+# ---- what was saved, and what was not
+
+@case
+def mark_that_can_not_be_removed(laboratory: Laboratory) -> None:
+    """A journal that is saved is told so where its mark stays, and is whole."""
+    kept = Kept(laboratory)
+    program = kept.serve()
+    expect("a credit", credit(program, 7), created(quantity(7, 2)))
+    mark = kept.beside("running")
+    mark.unlink()
+    mark.mkdir()
+    post_close(program)
+    expect("the exit status", program.end(END), 1)
+    printed = program.output().removesuffix("refused 64 WriteFault\n")
+    expect("the balances", numbers_in(printed)[:2], [0, 7])
+    expect("the last lines", [line.said.split(":")[0].split()[0] for line in program.lines()][-2:], ["info", "error"])
+    told = r"error journal .+: saved and whole, but can't remove .+: .+: remove it before the next start"
+    expect("how many lines say so", len(program.told(told)), 1)
+    expect("the entries", kept.entries(), 1)
+    mark.rmdir()
+    close(kept.serve(), bob=7)
+
+
+@case
+def rights_of_a_journal(laboratory: Laboratory) -> None:
+    """A journal keeps its rights from save to save."""
+    kept = Kept(laboratory)
+    close(kept.serve())
+    for mode in (0o600, 0o640):
+        kept.path.chmod(mode)
+        program = kept.serve()
+        expect_served(program, amount=1)
+        post_close(program)
+        expect("the exit status", program.end(END), 0)
+        expect("the rights", oct(stat.S_IMODE(kept.path.stat().st_mode)), oct(mode))
+
+
+# ---- who has it
+
+@case
+def journal_that_is_looked_at(laboratory: Laboratory) -> None:
+    """A check says that a connector has the journal also where there is no mark; and who looks at the lock for
+    a moment is in no start's way."""
+    kept = Kept(laboratory)
+    close(kept.serve())
+    with open(kept.beside("lock"), "r+b") as lock:
+        fcntl.flock(lock, fcntl.LOCK_EX)
+        kept.expect_refused(UNREAD, IN_USE)
+        fcntl.flock(lock, fcntl.LOCK_UN)
+        fcntl.flock(lock, fcntl.LOCK_SH)
+        timer = threading.Timer(0.2, lambda: fcntl.flock(lock, fcntl.LOCK_UN))
+        timer.start()
+        program = kept.serve()
+        timer.join()
+    close(program)
+
+
+# ---- standard streams
+
+@case
+def closed_streams(laboratory: Laboratory) -> None:
+    """Where a standard stream is closed from the beginning no socket and no file gets what is printed: without
+    standard output the status is 3, and the journal is saved all the same."""
+    for closed in ((0, 1), (1,), (1, 2), (0, 1, 2)):
+        kept = Kept(laboratory)
+        program = laboratory.run(Program(laboratory.binary, laboratory.folder(), kept.setup, journal=kept.path,
+                                         closed=closed))
+        program.await_served()
+        expect("a credit", credit(program, 7), created(quantity(7, 2)))
+        post_close(program)
+        expect("the exit status", program.end(END), 3)
+        expect("the files after the close", kept.files(), ["journal", "journal.lock"])
+        expect("the entries", kept.entries(), 1)
+        expect("standard output", program.output(), "")
+        expect_that("the report is in the lock", "balance" not in kept.beside("lock").read_text())
+        if 2 in closed:
+            expect("standard error", program.errors(), "")
+        else:
+            expect("the report on standard error", FOLLOWS in program.errors(), True)
+        close(kept.serve(), bob=7)
+
+
+@case
+def closed_streams_of_a_command(laboratory: Laboratory) -> None:
+    """A command without standard output has the status 3, and one whose script can't be read is refused."""
+    for words, closed, status, printed in ((["help"], 1, 3, ""), (["packet", "0c"], 1, 3, ""),
+                                           (["replay", "-"], 0, 1, "refused 61 ReadFault\n")):
+        done = subprocess.run([str(laboratory.binary), *words], stdin=subprocess.DEVNULL, stdout=subprocess.PIPE,
+                              stderr=subprocess.PIPE, text=True, timeout=10.0,
+                              preexec_fn=lambda number=closed: os.close(number))
+        expect(f"the status of {words}", done.returncode, status)
+        expect(f"what {words} prints", done.stdout, printed)
