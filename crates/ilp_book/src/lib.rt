@@ -32,8 +32,8 @@
 //!   asset balance. It stays lawful from every lawful book on.
 //! - `first_answer_stands`: of all answers of a hold, and sweeps that take it, the first that finds
 //!   it open appends. Each later answer is told that entry and appends nothing.
-//! - `sweeps_take_the_earliest`: a sweep takes the hold that the rules name (docs/PROTOCOL.md, "a
-//!   hold its answer and a sweep"). Where it takes none, each open hold still has time.
+//! - `sweeps_take_the_earliest`: a sweep takes the hold that the rules name (docs/PROTOCOL.md, "A
+//!   hold, its answer and a sweep"). Where it takes none, each open hold still has time.
 //! - `settlements_stand`: the first closing of an open settlement stands; each later one is told
 //!   that entry and appends nothing. A credit is kept under its key, and answers whatever its
 //!   peer's engine says under it later, unless that is too large.

@@ -9,8 +9,9 @@
 //! - `serve`, over any links and any sink (`specs/Serving.antt`), from a book at its base: on Ok it
 //!   gives back a book of the desk that has the configuration, as many actors as its workers and
 //!   two, and at its opening the journal that it was given (`closed`: lawful, that journal in
-//!   front, its length as base, and there are ends of these actors that add up to what was booked
-//!   since), and wrote the whole report of that book (`printed`).
+//!   front, its length as base), and wrote the whole report of that book (`printed`). That ends of
+//!   these actors add up to what was booked since is there as a fact of the book: there are such
+//!   ends, and the clause does not say that they are those of the threads that ran.
 //! - After a failed write a proper front of such a report was written; after any other refusal
 //!   nothing (`refused`). `NotGathered` comes only where ends are not gathered with a book of the
 //!   desk, for that reason. `ServeFault::refusal` is the table of what each fault is printed as.

@@ -41,7 +41,8 @@ pub(crate) fn noticed<R: Runtime + AllocGlobal>(rt: &R, path: &str) -> Result<Co
 }
 
 /// The configuration of these octets. It is refused by its first fault, with where that is and what was
-/// expected there as its line.
+/// expected there as its line: `NotToml` where TOML does not read them. `Memory` may come in place of any
+/// answer, where a growth was denied.
 pub fn config_of(alloc: Global, octets: &[u8]) -> Result<Config, Refused>
     ensures toml { (t : Members) → IsToml octets.now t → IsConfigured t result }
     ensures other { ((t : Members) → ¬ IsToml octets.now t) → IsNoConfiguration result }

@@ -39,8 +39,8 @@ pub fn rows()
 {}
 
 /// Whoever sends a Prepare to another address than `peer.settle` is answered a Fulfill exactly where
-/// the worker keeps one packet more, and else a Reject, which the receipt names. The premise is that the answer consists of
-/// octets, as all that lies in memory does.
+/// the worker keeps one packet more, and else a Reject, which the receipt names. The premise is that
+/// the answer consists of octets, as all that lies in memory does.
 pub fn fulfills_are_kept()
     ensures { (a : Arrival) (before after : PlainWorker) (receipt : Receipt)
         → AreOctets after.reply → IsForPeers a → Forwards a before after (Ok receipt)
