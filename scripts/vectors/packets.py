@@ -2,7 +2,7 @@
 """Vectors for the tests of packets and octet strings, made from the standards alone.
 
 Writes ILPv4 packets (RFC 0027) over the octet strings of RFC 0030, and mistakes in them. With the
-argument `rows` it prints the rows of crates/test_scripts/data/packets/vectors.txt, with `cuts` those of
+argument `rows` it prints the rows of crates/test_packets/data/packets/vectors.txt, with `cuts` those of
 crates/test_rows/data/packets/cuts.txt, and with `lines` what those programs are to print of each: the
 packet in words (docs/PROTOCOL.md), or the fault that a reader meets first; of a row of cuts.txt, how
 many fronts of the packet end too soon. So many `x` in a long field are written `<N 78>` in rows and lines, but for

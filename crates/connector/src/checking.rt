@@ -3,7 +3,7 @@
 use crate::{Exit, print_line};
 use ilp_accounts::Config;
 use ilp_book::Book;
-use ilp_offline::{check, check_book};
+use ilp_described::{check, check_book};
 use ilp_starting::{
     JournalWarnings, Refused, Telling, book_at, config_octets, config_of, tell_warnings,
 };

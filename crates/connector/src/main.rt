@@ -1,8 +1,8 @@
 //! The connector's command line. It describes a packet, checks a configuration and a journal, replays a
 //! script from standard input over a configuration, or runs a connector of one.
 //!
-//! All of it is proved safe, and no more: what its commands do is promised by `ilp_offline` and
-//! `ilp_starting`.
+//! All of it is proved safe, and no more: what its commands do is promised by `ilp_described`,
+//! `ilp_offline` and `ilp_starting`.
 #![tactic(auto)]
 
 mod asking;
@@ -14,7 +14,7 @@ mod streams;
 use asking::{Asked, Words};
 use checking::{run_check, run_check_journal};
 use helping::{USAGE, run_help, run_version};
-use ilp_offline::{describe_packet, reject_words};
+use ilp_described::{describe_packet, reject_words};
 use ilp_refusals::Refusal;
 use ilp_starting::{Host, Refused, RunFault, serve};
 use replaying::run_replay;

@@ -1,7 +1,5 @@
 pub mod BadLines
 pub mod Calls
-pub mod CheckText
-pub mod PacketText
 pub mod Replay
 pub mod Script
 pub mod Seen
@@ -10,3 +8,4 @@ pub use Rattle.ilp_io.specs.Counts
 pub use Rattle.ilp_io.specs.Reading
 pub use Rattle.ilp_io.specs.Writing
 pub use Rattle.ilp_refusals.specs.Refusals
+pub use Rattle.ilp_described.specs.Printable

@@ -5,6 +5,7 @@ use Rattle.std.specs.List.{list_all, slice_split, join_with_byte, onto_first}
 use Rattle.std.specs.Str.{bytes_eq}
 use Rattle.std.specs.Str.Parse.{digits_value}
 use Rattle.ilp_accounts.specs.Configuration.{place_named}
+use Rattle.ilp_described.specs.Printable.{is_printable}
 use Rattle.ilp_settlement.specs.declared.verdict.EngineVerdict.{EngineVerdict}
 use Rattle.ilp_settlement.specs.declared.verdict.EngineVerdict.TheVariants as verdicts
 
@@ -36,10 +37,6 @@ pub data Form : Type 0 where
   report : Form
   silent : Form
   bad : Form
-
--- an octet that a line may have
-abbrev pub is_printable : ℕ → Bool
-is_printable octet = nat_le 32 octet && nat_le octet 126
 
 -- the number that a text of at most so many decimal digits writes
 abbrev pub number_in : ℕ → List ℕ → Option ℕ
@@ -129,7 +126,7 @@ with_rest fields = fields
 abbrev pub fields_of : List ℕ → List (List ℕ)
 fields_of line = with_rest (slice_split is_space line)
 
--- an empty line asks for nothing, nor does one that begins with `#`; fields are separated by one space
+-- an empty line asks for nothing, nor does one that begins with `#`; each octet is printable, and fields are separated by one space
 abbrev pub form_of : List (List ℕ) → List ℕ → Form
 form_of names [] = silent
 form_of names (octet ∷ octets) =

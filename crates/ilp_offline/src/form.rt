@@ -5,11 +5,12 @@ ghost use Rattle.std.specs.List.{list_all, slice_split};
 ghost use Rattle.ilp_accounts.specs.Configuration.{peer_names, place_named};
 ghost use Rattle.ilp_offline.specs.Script as script;
 ghost use Rattle.ilp_journal.specs.Keys.{IsKey};
-ghost use Rattle.ilp_offline.specs.Script.{moment_digits, form_of, form_of_fields, fields_of, is_space, is_printable, number_in};
+ghost use Rattle.ilp_offline.specs.Script.{moment_digits, form_of, form_of_fields, fields_of, is_space, number_in};
 ghost use Rattle.ilp_offline.specs.Seen.{form_seen, IsOfPeers, fields_after, field_list};
 
 use crate::lines::first_place;
 use ilp_accounts::Config;
+use ilp_described::is_printable;
 use ilp_journal::Key;
 use ilp_settlement::EngineVerdict;
 use std::alloc::AllocError;
@@ -315,13 +316,6 @@ fn cut(text: &[u8]) -> (&[u8], Option<&[u8]>)
         Some(end) => (&text[..end], Some(&text[end + 1..])),
         None => (text, None),
     }
-}
-
-/// Whether each octet is a space or visible ASCII.
-pub(crate) fn is_printable(text: &[u8]) -> bool
-    ensures { result ≡ list_all is_printable text.now }
-{
-    text.iter().all(|octet| 32 <= *octet && *octet <= 126)
 }
 
 /// The number that a text of at most so many decimal digits writes.

@@ -1,5 +1,5 @@
 //! Running one line of a script.
-ghost use Rattle.std.specs.Prelude.{◌≡◌, IfOk, OnErr, MatchOption, IsErr, Ok, Err};
+ghost use Rattle.std.specs.Prelude.{◌≡◌, IfOk, OnErr, Err};
 ghost use Rattle.hex.specs.Hex.{decode_of};
 ghost use Rattle.ilp_packet.specs.Reading.{reading};
 ghost use Rattle.ilp_settlement.specs.Quantity.{quantity_in};
@@ -15,10 +15,10 @@ ghost use Rattle.ilp_offline.specs.Replay.{line_step};
 
 use crate::form::{Form, parse};
 use crate::reply::LineReply;
-use hex::FromHexError;
 use ilp_book::{
     AskFault, Asked, Book, CreditFault, Held, HoldFault, Kept, NotOpen, Outcome, PeerReply,
 };
+use ilp_described::decode;
 use ilp_journal::{Cause, Key};
 use ilp_packet::Packet;
 use ilp_refusals::Refusal;
@@ -242,17 +242,5 @@ fn came_back(octets: &[u8]) -> PeerReply
         Ok(Packet::Reject(reject)) => PeerReply::Reject(*reject.code),
         Ok(Packet::Prepare(_)) => PeerReply::NoReply,
         Err(_) => PeerReply::NoReply,
-    }
-}
-
-/// The octets of a hexadecimal text, if it is one.
-pub(crate) fn decode<A: Allocator>(alloc: A, text: &[u8]) -> Result<Option<Vec<u8, A>>, AllocError>
-    ensures { IfOk result (λ decoded. MatchOption decoded (IsErr (decode_of text.now))
-        (λ octets. decode_of text.now ≡ Ok octets.items)) }
-{
-    match hex::decode(alloc, text) {
-        Ok(octets) => Ok(Some(octets)),
-        Err(FromHexError::OutOfMemory) => Err(AllocError),
-        Err(_) => Ok(None),
     }
 }

@@ -4,12 +4,10 @@ ghost use Rattle.ilp_accounts.specs.Configuration.{peer_names};
 ghost use Rattle.ilp_offline.specs.BadLines.{is_bad, bad_numbers, numbers};
 ghost use Rattle.ilp_offline.specs.Script.{lines_of};
 
-use crate::form::{
-    ENTRY_DIGITS, Fields, Form, MOMENT_DIGITS, is_printable, number_in, parse, split_fields,
-};
-use crate::line::decode;
+use crate::form::{ENTRY_DIGITS, Fields, Form, MOMENT_DIGITS, number_in, parse, split_fields};
 use crate::lines::split_line;
 use ilp_accounts::Config;
+use ilp_described::{decode, is_printable};
 use std::alloc::{AllocError, Allocator};
 use std::fmt;
 

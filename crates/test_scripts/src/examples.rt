@@ -4,7 +4,7 @@
 use crate::configurations::configured;
 use crate::scripts::print_replayed;
 use ilp_accounts::{Config, ConfigFault, explain};
-use ilp_offline::check;
+use ilp_described::check;
 use std::alloc::{AllocError, Global};
 use std::rt::Runtime;
 use std::{fs, io};

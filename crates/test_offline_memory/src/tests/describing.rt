@@ -2,7 +2,8 @@
 
 use super::{GROWTHS, PREPARE, built_in};
 use ilp_accounts::Config;
-use ilp_offline::{bad_lines, describe_packet, reject_words};
+use ilp_described::{describe_packet, reject_words};
+use ilp_offline::bad_lines;
 use ilp_refusals::Refusal;
 use std::alloc::Global;
 use std::process::Abort;

@@ -1,7 +1,7 @@
 //! Packets in hexadecimal, told in words, and written again.
 
+use ilp_described::{describe_packet, reject_words};
 use ilp_oer::Octets;
-use ilp_offline::{describe_packet, reject_words};
 use ilp_packet::{Packet, write_fulfill, write_prepare, write_reject};
 use std::alloc::{AllocError, Global};
 use std::rt::Runtime;

@@ -10,7 +10,7 @@ use Rattle.ilp_packet.specs.Reading.{reading}
 use Rattle.ilp_refusals.specs.declared.refusal.Refusal.{Refusal}
 use Rattle.ilp_refusals.specs.declared.refusal.Refusal.TheVariants as refusals
 use Rattle.ilp_refusals.specs.Refusals.{packet_refusal}
-use Rattle.ilp_offline.specs.Script.{is_printable}
+use Rattle.ilp_described.specs.Printable.{is_printable}
 
 -- octets in hexadecimal, `-` where there are none
 abbrev pub hex_text : List ℕ → List ℕ

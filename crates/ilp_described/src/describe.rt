@@ -3,10 +3,9 @@ ghost use Rattle.std.specs.Prelude.{◌≡◌, ◌⊎◌, Ok, Err, IfOk, IfErr, 
 ghost use Rattle.ilp_packet.specs.Packet.{plain, plain_prepare, plain_fulfill, plain_reject, prepare, fulfill, reject, IsPrepare, IsWithin};
 ghost use Rattle.ilp_packet.specs.Address.{IsAddress};
 ghost use Rattle.ilp_packet.specs.Reading.{reading};
-ghost use Rattle.ilp_offline.specs.PacketText.{hex_text, packet_text, read_text, description, spoken, words_of, reject_words};
+ghost use Rattle.ilp_described.specs.PacketText.{hex_text, packet_text, read_text, description, spoken, words_of, reject_words};
 
-use crate::form::is_printable;
-use crate::line::decode;
+use crate::text::{decode, is_printable};
 use ilp_packet::{Fulfill, Packet, Prepare, Reject};
 use ilp_refusals::Refusal;
 use std::alloc::{AllocError, Allocator};

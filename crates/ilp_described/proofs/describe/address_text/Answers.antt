@@ -1,6 +1,6 @@
 use Rattle.std.proofs.lemmas.Str.{IsUtf8-from_ascii}
 use Rattle.ilp_packet.proofs.AddressText.{address_is_ascii}
-use Rattle.ilp_offline.proofs.describe.address_text.Goals as goal
+use Rattle.ilp_described.proofs.describe.address_text.Goals as goal
 
 pub unreachable-requires : goal.unreachable-requires
 unreachable-requires c =

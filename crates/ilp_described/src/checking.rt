@@ -4,7 +4,7 @@ ghost use Rattle.toml.specs.Data.{Members};
 ghost use Rattle.ilp_accounts.specs.Checks.{Reads};
 ghost use Rattle.ilp_accounts.specs.Configuration.{configuration};
 ghost use Rattle.ilp_accounts.specs.Faults.{IsToml, first_fault};
-ghost use Rattle.ilp_offline.specs.CheckText.{check_line, book_line};
+ghost use Rattle.ilp_described.specs.CheckText.{check_line, book_line};
 
 use ilp_accounts::{Config, ConfigFault};
 use ilp_book::Book;

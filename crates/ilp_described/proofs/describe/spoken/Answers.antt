@@ -1,6 +1,6 @@
 use Rattle.std.proofs.Common.{◌∙◌, sym}
-use Rattle.ilp_offline.proofs.Fields.{IsUtf8-printable}
-use Rattle.ilp_offline.proofs.describe.spoken.Goals as goal
+use Rattle.ilp_described.proofs.PrintableText.{IsUtf8-printable}
+use Rattle.ilp_described.proofs.describe.spoken.Goals as goal
 
 pub unreachable-requires : goal.unreachable-requires
 unreachable-requires g c =

@@ -1,0 +1,13 @@
+//! Rows of packets in words. What goes in lies in `data/`, and what is to be printed of it in `stdout`.
+//! Both were written from the rules, by hand or by a Python script that shares nothing with the crates,
+//! and the stored run compares them. `README.md` says how rows are written.
+#![tactic(auto)]
+
+mod packets;
+
+use packets::print_packets;
+use std::io;
+
+fn main(rt: HostRuntime) -> io::Result<()> {
+    print_packets(&rt)
+}
