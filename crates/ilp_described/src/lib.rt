@@ -1,4 +1,4 @@
-//! What a configuration, a journal and a packet have, as lines for a person.
+//! What a configuration, a journal and a packet have, in a line.
 //!
 //! # What is proved
 //!

@@ -1,5 +1,5 @@
-//! Scripts, replayed over a new book from any reader to any writer: what their lines print, and why lines
-//! are bad.
+//! Scripts, replayed over a new book: what their lines print, from any reader to any writer, and which are
+//! bad, and why.
 //!
 //! # What is proved
 //!
