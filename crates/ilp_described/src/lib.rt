@@ -1,4 +1,4 @@
-//! What a configuration, a journal and a packet have, in a line.
+//! Configurations, journals and packets, each told in a line.
 //!
 //! # What is proved
 //!

@@ -15,7 +15,7 @@ use std::alloc::{AllocError, Allocator};
 use std::str;
 
 /// What a line replies.
-#[derive(Clone, Copy, Debug, PartialEq, Eq)]
+#[derive(Clone, Copy)]
 pub(crate) enum LineReply {
     /// A line that asks for nothing.
     Silent,
