@@ -8,7 +8,7 @@ use Rattle.ilp_line_file.proofs.Whole.{lines_nul, line_snoc, through, recovered-
 abbrev pub HasPassed : List ℕ → ℕ → ℕ → Type 0
 HasPassed octets end at = (done : List (List ℕ)) × (part : List ℕ) × (take end octets ≡ text_of done) × (take at octets ≡ text_of done ++ part) × AreLines done × IsLine part
 
-lines_snoc : (done : List (List ℕ)) (part : List ℕ) → AreLines done → IsLine part → AreLines (done ++ part ∷ [])
+pub lines_snoc : (done : List (List ℕ)) (part : List ℕ) → AreLines done → IsLine part → AreLines (done ++ part ∷ [])
 lines_snoc [] part are line = (line, tt)
 lines_snoc (l ∷ done) part are line = (are.0, lines_snoc done part are.1 line)
 

@@ -53,6 +53,10 @@ pub text_of-append : (xs ys : List (List ℕ)) → text_of (xs ++ ys) ≡ text_o
 text_of-append [] ys = refl
 text_of-append (line ∷ xs) ys = ap (λ (t : List ℕ). line ++ 10 ∷ t) (text_of-append xs ys) ∙ sym (append_assoc line (10 ∷ text_of xs) (text_of ys))
 
+-- a text of lines, read back
+pub text_lines : (lines : List (List ℕ)) → AreLines lines → recovered (text_of lines) ≡ lines
+text_lines lines are = ap recovered (sym (append-nil (text_of lines))) ∙ recovered-text_of lines [] are ∙ append-nil lines
+
 -- ---- what stands behind the lines
 
 -- a file is the text of its lines, and an end that stands for nothing

@@ -1,8 +1,8 @@
 use Rattle.std.proofs.Common.{◌≡◌, ◌≤◌, ℕ, List, length, take, ◌∙◌, sym, ap, subst, arith}
-use Rattle.ilp_line_file.specs.Device.{Only, Cut}
+use Rattle.ilp_line_file.specs.Device.{Only}
 use Rattle.ilp_line_file.specs.Text.{recovered, text_of}
-use Rattle.ilp_line_file.proofs.Moments.{started, goes_on}
-use Rattle.ilp_line_file.proofs.Mending.{cut_keeps, mended}
+use Rattle.ilp_line_file.proofs.Mending.{mended}
+use Rattle.ilp_line_file.proofs.Runs.{none_yet, no_more, cuts}
 use Rattle.ilp_line_file.proofs.line_file.recover.Goals as goal
 
 pub returns-in_err-cut-clause-any_moment : goal.returns-in_err-cut-clause-any_moment
@@ -12,15 +12,10 @@ returns-in_err-cut-clause-any_moment g c =
     let octets_are = c.deref.ensures.value ∙ c.in_ok-text.ensures.octets in
     let within : c.end_of-end.result ≤ length f = omega (arith, ap length octets_are, c.end_of-end.ensures.within) in
     let text = subst (λ b. take c.end_of-end.result b ≡ text_of (recovered b)) octets_are c.end_of-end.ensures.text in
-    let P : List ℕ → Type 0 = λ x. recovered x ≡ recovered f in
-    let here : (x : List ℕ) → g.D.Device.may_leave old x → P x = λ x now. ap recovered (c.requires x now) in
-    let at_start = started g.D.Device.moment g.D.Device.left_since old P (λ x left. here x (g.met.D.Device.only_now old x left)) in
-    let read = goes_on g.D.Device.moment g.D.Device.left_since old old c.read.new.self P _ at_start c.read.ensures.time (λ x now. here x (c.read.ensures.crash x now)) in
-    let after_cut : (x : List ℕ) → g.D.Device.may_leave c.cut.new.self x → P x = λ x now.
-    let from = c.cut.ensures.crash x now in
-    let was = c.requires from.0 (c.read.ensures.crash from.0 from.1) in
-    cut_keeps f c.end_of-end.result x within text (subst (λ d. Cut c.end_of-end.result d x) was from.2) in
-    goes_on g.D.Device.moment g.D.Device.left_since old c.read.new.self c.cut.new.self P _ read c.cut.ensures.time after_cut
+    let first = none_yet g.D.Device.seen g.D.Device.may_leave g.D.Device.moment g.D.Device.left_since old (λ x. recovered x ≡ recovered f) (g.met.D.Device.only_now old) (λ x now. ap recovered (c.requires x now)) in
+    let read = no_more g.D.Device.seen g.D.Device.may_leave g.D.Device.moment g.D.Device.left_since old old c.read.new.self _ first c.read.ensures.time c.read.ensures.crash in
+    let cut = cuts g.D.Device.seen g.D.Device.may_leave g.D.Device.moment g.D.Device.left_since old c.read.new.self c.cut.new.self c.end_of-end.result c.requires read c.read.ensures.crash within text c.cut.ensures.time c.cut.ensures.crash in
+    cut.so_far
 
 pub returns-in_err-sync-clause-any_moment : goal.returns-in_err-sync-clause-any_moment
 returns-in_err-sync-clause-any_moment g c =
@@ -29,16 +24,10 @@ returns-in_err-sync-clause-any_moment g c =
     let octets_are = c.deref.ensures.value ∙ c.in_ok-text.ensures.octets in
     let within : c.end_of-end.result ≤ length f = omega (arith, ap length octets_are, c.end_of-end.ensures.within) in
     let text = subst (λ b. take c.end_of-end.result b ≡ text_of (recovered b)) octets_are c.end_of-end.ensures.text in
-    let P : List ℕ → Type 0 = λ x. recovered x ≡ recovered f in
-    let here : (x : List ℕ) → g.D.Device.may_leave old x → P x = λ x now. ap recovered (c.requires x now) in
-    let at_start = started g.D.Device.moment g.D.Device.left_since old P (λ x left. here x (g.met.D.Device.only_now old x left)) in
-    let read = goes_on g.D.Device.moment g.D.Device.left_since old old c.read.new.self P _ at_start c.read.ensures.time (λ x now. here x (c.read.ensures.crash x now)) in
-    let after_cut : (x : List ℕ) → g.D.Device.may_leave c.cut.new.self x → P x = λ x now.
-    let from = c.cut.ensures.crash x now in
-    let was = c.requires from.0 (c.read.ensures.crash from.0 from.1) in
-    cut_keeps f c.end_of-end.result x within text (subst (λ d. Cut c.end_of-end.result d x) was from.2) in
-    let cut = goes_on g.D.Device.moment g.D.Device.left_since old c.read.new.self c.cut.new.self P _ read c.cut.ensures.time after_cut in
-    goes_on g.D.Device.moment g.D.Device.left_since old c.cut.new.self c.sync.new.self P _ cut c.sync.ensures.time (λ x now. after_cut x (c.sync.ensures.crash x now))
+    let first = none_yet g.D.Device.seen g.D.Device.may_leave g.D.Device.moment g.D.Device.left_since old (λ x. recovered x ≡ recovered f) (g.met.D.Device.only_now old) (λ x now. ap recovered (c.requires x now)) in
+    let read = no_more g.D.Device.seen g.D.Device.may_leave g.D.Device.moment g.D.Device.left_since old old c.read.new.self _ first c.read.ensures.time c.read.ensures.crash in
+    let cut = cuts g.D.Device.seen g.D.Device.may_leave g.D.Device.moment g.D.Device.left_since old c.read.new.self c.cut.new.self c.end_of-end.result c.requires read c.read.ensures.crash within text c.cut.ensures.time c.cut.ensures.crash in
+    (no_more g.D.Device.seen g.D.Device.may_leave g.D.Device.moment g.D.Device.left_since old c.cut.new.self c.sync.new.self _ cut c.sync.ensures.time c.sync.ensures.crash).so_far
 
 pub returns-clause-any_moment : goal.returns-clause-any_moment
 returns-clause-any_moment g c =
@@ -47,16 +36,10 @@ returns-clause-any_moment g c =
     let octets_are = c.deref.ensures.value ∙ c.in_ok-text.ensures.octets in
     let within : c.end_of-end.result ≤ length f = omega (arith, ap length octets_are, c.end_of-end.ensures.within) in
     let text = subst (λ b. take c.end_of-end.result b ≡ text_of (recovered b)) octets_are c.end_of-end.ensures.text in
-    let P : List ℕ → Type 0 = λ x. recovered x ≡ recovered f in
-    let here : (x : List ℕ) → g.D.Device.may_leave old x → P x = λ x now. ap recovered (c.requires x now) in
-    let at_start = started g.D.Device.moment g.D.Device.left_since old P (λ x left. here x (g.met.D.Device.only_now old x left)) in
-    let read = goes_on g.D.Device.moment g.D.Device.left_since old old c.read.new.self P _ at_start c.read.ensures.time (λ x now. here x (c.read.ensures.crash x now)) in
-    let after_cut : (x : List ℕ) → g.D.Device.may_leave c.cut.new.self x → P x = λ x now.
-    let from = c.cut.ensures.crash x now in
-    let was = c.requires from.0 (c.read.ensures.crash from.0 from.1) in
-    cut_keeps f c.end_of-end.result x within text (subst (λ d. Cut c.end_of-end.result d x) was from.2) in
-    let cut = goes_on g.D.Device.moment g.D.Device.left_since old c.read.new.self c.cut.new.self P _ read c.cut.ensures.time after_cut in
-    goes_on g.D.Device.moment g.D.Device.left_since old c.cut.new.self c.sync.new.self P _ cut c.sync.ensures.time (λ x now. after_cut x (c.sync.ensures.crash x now))
+    let first = none_yet g.D.Device.seen g.D.Device.may_leave g.D.Device.moment g.D.Device.left_since old (λ x. recovered x ≡ recovered f) (g.met.D.Device.only_now old) (λ x now. ap recovered (c.requires x now)) in
+    let read = no_more g.D.Device.seen g.D.Device.may_leave g.D.Device.moment g.D.Device.left_since old old c.read.new.self _ first c.read.ensures.time c.read.ensures.crash in
+    let cut = cuts g.D.Device.seen g.D.Device.may_leave g.D.Device.moment g.D.Device.left_since old c.read.new.self c.cut.new.self c.end_of-end.result c.requires read c.read.ensures.crash within text c.cut.ensures.time c.cut.ensures.crash in
+    (no_more g.D.Device.seen g.D.Device.may_leave g.D.Device.moment g.D.Device.left_since old c.cut.new.self c.sync.new.self _ cut c.sync.ensures.time c.sync.ensures.crash).so_far
 
 pub returns-clause-same : goal.returns-clause-same
 returns-clause-same g c =

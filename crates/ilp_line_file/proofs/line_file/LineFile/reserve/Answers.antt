@@ -1,36 +1,18 @@
-use Rattle.std.proofs.Common.{◌≡◌, List, ℕ, Result, Ok, Err, OnOk, ◌∙◌, sym, ap, subst}
-use Rattle.ilp_line_file.specs.Device.{Only, Torn}
+use Rattle.std.proofs.Common.{Result, Ok, Err, OnOk, ◌∙◌, sym, ap, subst}
+use Rattle.ilp_line_file.specs.Device.{Only}
 use Rattle.ilp_line_file.specs.Text.{recovered}
-use Rattle.ilp_line_file.proofs.Moments.{started, goes_on}
-use Rattle.ilp_line_file.proofs.Growing.{Settled, zeros_torn, reserved}
+use Rattle.ilp_line_file.proofs.Growing.{Settled, reserved}
+use Rattle.ilp_line_file.proofs.Runs.{blanks, no_more}
 use Rattle.ilp_line_file.proofs.line_file.LineFile.reserve.Goals as goal
 
 pub returns-in_err-write_at-clause-any_moment : goal.returns-in_err-write_at-clause-any_moment
 returns-in_err-write_at-clause-any_moment g c =
-    let s = c.requires.settled in
-    let old = c.args.self.now.device in
-    let f = g.D.Device.seen old in
-    let settled : Settled f c.args.self.now.end = record { within = s.within; begins = s.text; blank = s.blank } in
-    let P : List ℕ → Type 0 = λ x. recovered x ≡ recovered f in
-    let at_start = started g.D.Device.moment g.D.Device.left_since old P (λ x left. ap recovered (s.durable x (g.met.D.Device.only_now old x left))) in
-    let here : (x : List ℕ) → g.D.Device.may_leave c.write_at.new.self x → P x = λ x now.
-    let from = c.write_at.ensures.crash x now in
-    zeros_torn f c.args.self.now.end c.args.zeros.now x settled c.requires.blank (subst (λ d. Torn c.args.self.now.end c.args.zeros.now d x) (s.durable from.0 from.1) from.2) in
-    goes_on g.D.Device.moment g.D.Device.left_since old old c.write_at.new.self P _ at_start c.write_at.ensures.time here
+    (blanks g.D.Device.seen g.D.Device.may_leave g.D.Device.moment g.D.Device.left_since c.args.self.now c.write_at.new.self c.args.zeros.now c.requires.settled c.requires.blank (g.met.D.Device.only_now c.args.self.now.device) c.write_at.ensures.time c.write_at.ensures.crash).so_far
 
 pub returns-clause-any_moment : goal.returns-clause-any_moment
 returns-clause-any_moment g c =
-    let s = c.requires.settled in
-    let old = c.args.self.now.device in
-    let f = g.D.Device.seen old in
-    let settled : Settled f c.args.self.now.end = record { within = s.within; begins = s.text; blank = s.blank } in
-    let P : List ℕ → Type 0 = λ x. recovered x ≡ recovered f in
-    let at_start = started g.D.Device.moment g.D.Device.left_since old P (λ x left. ap recovered (s.durable x (g.met.D.Device.only_now old x left))) in
-    let here : (x : List ℕ) → g.D.Device.may_leave c.write_at.new.self x → P x = λ x now.
-    let from = c.write_at.ensures.crash x now in
-    zeros_torn f c.args.self.now.end c.args.zeros.now x settled c.requires.blank (subst (λ d. Torn c.args.self.now.end c.args.zeros.now d x) (s.durable from.0 from.1) from.2) in
-    let written = goes_on g.D.Device.moment g.D.Device.left_since old old c.write_at.new.self P _ at_start c.write_at.ensures.time here in
-    goes_on g.D.Device.moment g.D.Device.left_since old c.write_at.new.self c.sync.new.self P _ written c.sync.ensures.time (λ x now. here x (c.sync.ensures.crash x now))
+    let wrote = blanks g.D.Device.seen g.D.Device.may_leave g.D.Device.moment g.D.Device.left_since c.args.self.now c.write_at.new.self c.args.zeros.now c.requires.settled c.requires.blank (g.met.D.Device.only_now c.args.self.now.device) c.write_at.ensures.time c.write_at.ensures.crash in
+    (no_more g.D.Device.seen g.D.Device.may_leave g.D.Device.moment g.D.Device.left_since c.args.self.now.device c.write_at.new.self c.sync.new.self _ wrote c.sync.ensures.time c.sync.ensures.crash).so_far
 
 -- what follows at Ok
 on_ok : {T E : Type 0} (P Q : Type 0) (r : Result T E) → (P → Q) → OnOk r P → OnOk r Q
