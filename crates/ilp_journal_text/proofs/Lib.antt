@@ -1,6 +1,6 @@
 mod LineLemmas
 mod RowProofs
-mod Ink
+pub mod Ink
 mod Cuts
 mod Numbers
 mod Hexadecimal

@@ -9,7 +9,7 @@
 //! - `put_journal` writes exactly the text of a journal by a configuration (`specs/Text.antt`,
 //!   `journal_text`). Where a write fails or takes no octet it wrote a front of the text, and not
 //!   all of it. It has no allocator. Where it wrote all, the numbers of the entries are of the types
-//!   that a text allows (`IsTyped`).
+//!   that a text allows (`IsTyped`). `put_entry` writes exactly the line of one entry.
 //! - `JournalText::begin` and `next` read a text, an entry at a time (`specs/Reading.antt`): what
 //!   is answered is the entry of the next line, which can stand in a text of the configuration; at
 //!   the end line, none; and else the number of a line that no text has there. `next` takes memory
@@ -28,4 +28,4 @@ mod reading;
 mod writing;
 
 pub use reading::{JournalText, TextFault};
-pub use writing::put_journal;
+pub use writing::{put_entry, put_journal};
