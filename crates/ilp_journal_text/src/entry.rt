@@ -11,8 +11,9 @@ use ilp_journal::{Cause, Credited, Entry, Hold, What};
 // The most octets that stand before what an entry's line tells.
 const LONGEST_FRONT: usize = 81;
 
-/// The line of an entry.
-pub(crate) fn entry_line(config: &Config, entry: &Entry) -> Line
+/// The line of an entry, as it stands in the text of a journal, with the peers' names in the
+/// configuration. A peer that isn't there has no name. No memory is taken.
+pub fn entry_line(config: &Config, entry: &Entry) -> Line
     ensures octets { result ≡ entry_line config.now entry.now }
     ensures typed { IsTyped entry.now }
 {

@@ -27,5 +27,7 @@ mod parsing;
 mod reading;
 mod writing;
 
-pub use reading::{JournalText, TextFault};
+pub use entry::entry_line;
+pub use line::Line;
+pub use reading::{JournalLines, JournalText, TextFault};
 pub use writing::put_journal;
