@@ -1,5 +1,6 @@
 -- The text of a journal, read: what it stands for, and where it is first bad. Lines count from 1.
-use Rattle.std.specs.Prelude.{◌≡◌, ◌≢◌, ◌⊎◌, ℕ, ◌+◌, ◌<◌, ◌^◌, ℤ, pos, ◌≤ℤ◌, ◌<ℤ◌, List, [], ◌∷◌, ◌++◌, false, length, All, ⊤}
+use Rattle.std.specs.Prelude.{◌≡◌, ◌≢◌, ◌⊎◌, ℕ, ◌+◌, ◌<◌, ◌^◌, ℤ, pos, ◌≤ℤ◌, ◌<ℤ◌, List, [], ◌∷◌, ◌++◌, false, length, All, FitsSigned, ⊤}
+use Rattle.std.specs.Int.{w64}
 use Rattle.std.specs.List.{flat_map}
 use Rattle.hex.specs.Hex.{IsBytes}
 use Rattle.ilp_accounts.specs.Configuration.{Configuration}
@@ -72,7 +73,7 @@ pub record HoldIsTyped (h : Hold) : Type 0 where
   pub amount : h.amount < 2 ^ 64
   pub fee : h.fee < 2 ^ 64
   pub out : h.out < 2 ^ 64
-  pub deadline : h.deadline <ℤ pos (2 ^ 63)
+  pub deadline : FitsSigned w64 h.deadline
   pub condition : AreOctets 32 h.condition
 
 pub record CreditIsTyped (c : Credited) : Type 0 where
@@ -91,7 +92,7 @@ WhatIsTyped (what.Confirmed ask) = ask < 2 ^ 32
 WhatIsTyped (what.Undone ask) = ask < 2 ^ 32
 
 pub record IsTyped (e : Entry) : Type 0 where
-  pub moment : e.moment <ℤ pos (2 ^ 63)
+  pub moment : FitsSigned w64 e.moment
   pub actor : e.actor < 2 ^ 32
   pub what : WhatIsTyped e.what
 
@@ -135,6 +136,10 @@ pub record IsLine (octets : List ℕ) : Type 0 where
   pub body : List ℕ
   pub whole : octets ≡ body ++ 10 ∷ []
   pub clean : All (λ octet. is_line_end octet ≡ false) body
+
+-- no octet is NUL
+abbrev pub HasNoNul : List ℕ → Type 0
+HasNoNul octets = All (λ octet. octet ≢ 0) octets
 
 -- lines, one behind the other
 abbrev pub joined : List (List ℕ) → List ℕ

@@ -1,12 +1,11 @@
 //! What holds of the definitions. These functions do nothing: their contracts are the laws. A law
 //! tells whoever reads the definitions what follows from them; no code needs to call it.
-ghost use Rattle.std.specs.Prelude.{◌≡◌, ◌≢◌, ℕ, List, All};
+ghost use Rattle.std.specs.Prelude.{◌≡◌, ℕ, List, ◌++◌, All, length, take};
 ghost use Rattle.ilp_accounts.specs.Configuration.{Configuration};
 ghost use Rattle.ilp_accounts.specs.Valid.{IsValid};
 ghost use Rattle.ilp_journal.specs.Journal.{Entries};
-ghost use Rattle.ilp_journal.specs.declared.entry.Entry.{Entry};
-ghost use Rattle.ilp_journal_text.specs.Text.{entry_line};
-ghost use Rattle.ilp_journal_text.specs.Reading.{IsTextOf, IsFirstBadLine, IsLine, CanStand, AreLinesOf, IsFirstBadEntryLine};
+ghost use Rattle.ilp_journal_text.specs.Text.{entry_lines};
+ghost use Rattle.ilp_journal_text.specs.Reading.{IsTextOf, IsTyped, IsFirstBadLine, IsLine, joined, AreLinesOf, IsFirstBadEntryLine};
 ghost use Rattle.ilp_journal_text.specs.Rows.{PaidRow, ReleasedRow, EmptyRow, LinesRow};
 
 /// Worked texts.
@@ -45,11 +44,10 @@ pub fn one_first_bad_entry_line()
         → IsFirstBadEntryLine C text line → IsFirstBadEntryLine C text other → line ≡ other }
 {}
 
-/// By a valid configuration an entry that can stand in a text has one line: its only line feed is its
-/// end. No octet of it is NUL.
-pub fn one_line()
-    ensures line { (C : Configuration) (e : Entry) → IsValid C → CanStand C e
-        → IsLine (entry_line C e) }
-    ensures ink { (C : Configuration) (e : Entry) → IsValid C → CanStand C e
-        → All (λ octet. octet ≢ 0) (entry_line C e) }
+/// Whole lines that begin the lines of entries are those of the first entries.
+pub fn beginnings_of_lines()
+    ensures { (C : Configuration) (entries : Entries) (lines : List (List ℕ)) (after : List ℕ)
+        → IsValid C → All IsTyped entries → All IsLine lines
+        → entry_lines C entries ≡ joined lines ++ after
+        → joined lines ≡ entry_lines C (take (length lines) entries) }
 {}
