@@ -65,7 +65,10 @@ impl<A: Allocator + Clone> Beginning<A> {
             Err(RecoverFault::BadJournalText { line }) => Err(CarryFault::BadJournalText { line }),
             // Where there are no lines there is no bad one.
             Err(RecoverFault::BadLogLine { .. }) => unreachable!(),
-            Err(RecoverFault::Unlawful { entry, rule }) => Err(CarryFault::Unlawful { entry, rule }),
+            Err(RecoverFault::Unlawful { entry, rule }) => Err(CarryFault::Unlawful {
+                entry,
+                rule,
+            }),
             Err(RecoverFault::Memory) => Err(CarryFault::Memory),
         }
     }

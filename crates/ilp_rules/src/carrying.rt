@@ -9,11 +9,10 @@ ghost use Rattle.ilp_rules.specs.Book.{pushed};
 ghost use Rattle.ilp_rules.specs.Lawful.{IsLawful};
 ghost use Rattle.ilp_rules.specs.Judging.{carrying};
 
-pub(crate) use reading::TakingUp;
-
 use crate::tables::Tables;
 use ilp_accounts::Config;
 use ilp_journal::{Entry, Journal};
+pub(crate) use reading::TakingUp;
 use std::alloc::{AllocError, Allocator};
 use std::marker::Model;
 
