@@ -1,15 +1,13 @@
 -- Texts of saved journals, with the lines that were logged behind them.
-use Rattle.std.proofs.Common.{◌≡◌, ℕ, ◌+◌, ℤ, pos, List, [], ◌∷◌, ◌++◌, length, take, drop, Option, Some, None, true, false, refl, sym, ap, ◌∙◌, subst, arith, inl, inr, cases_bool}
-use Rattle.std.specs.Prelude.{All, ◌⊎◌, option_map, option_to_list, int_le, Bool, if◌then◌else◌}
+use Rattle.std.proofs.Common.{◌≡◌, ℕ, ◌+◌, ℤ, pos, List, [], ◌∷◌, ◌++◌, length, take, Option, Some, None, true, false, refl, sym, ap, ◌∙◌, subst, arith, inl, inr}
+use Rattle.std.specs.Prelude.{All, Result, Ok, Err, OnOk, ◌⊎◌, option_map, option_to_list, int_le, Bool, if◌then◌else◌}
 use Rattle.std.specs.List.{flat_map, range_with_len}
 use Rattle.std.proofs.Math.Seq.{take-append_seam, take-append-add, drop-append_seam}
 use Rattle.std.proofs.lemmas.List.{append-nil}
 use Rattle.std.proofs.lemmas.List.Elements.{All-nil, All-cons, All-append, All-take, All-drop}
 use Rattle.ilp_accounts.specs.Configuration.{Configuration}
 use Rattle.ilp_accounts.specs.Valid.{IsValid}
-use Rattle.ilp_journal.specs.declared.entry.Entry.{Entry}
 use Rattle.ilp_journal.specs.declared.entry.Hold.{Hold}
-use Rattle.ilp_journal.specs.declared.entry.Cause.{Cause}
 use Rattle.ilp_journal.specs.declared.entry.Cause.TheVariants.{Late, Restart}
 use Rattle.ilp_journal.specs.Journal.{Entries, open_hold_at}
 use Rattle.ilp_journal_text.specs.declared.reading.TextFault.{TextFault}
@@ -25,12 +23,13 @@ use Rattle.ilp_rules.specs.declared.fault.CarryFault.TheVariants as carry_fault
 use Rattle.ilp_rules.specs.declared.fault.Stop.{Stop}
 use Rattle.ilp_rules.specs.declared.fault.Stop.TheVariants as stop
 use Rattle.ilp_rules.specs.declared.rule.BrokenRule.{BrokenRule}
-use Rattle.ilp_rules.specs.Book.{PlainBook, with_entries, moment_at}
+use Rattle.ilp_rules.specs.Book.{PlainBook, with_entries, extended, moment_at}
+use Rattle.ilp_rules.specs.Judging.{carrying}
 use Rattle.ilp_rules.specs.Carried.{begun_with, carried, end_of, ended_by_start, ends_of_open}
 use Rattle.ilp_rules.specs.Carry.{IsCarriedOver, IsFirstUnlawful, IsWhyNotCarried}
 use Rattle.ilp_rules.specs.Recover.{IsRecovered, IsWhyNotRecovered, IsEndByStart, BeginsWith, of_saved, of_logged, of_stop}
 use Rattle.ilp_rules.specs.Lawful.{IsLawful}
-use Rattle.ilp_rules.specs.TakenUp.{HasStopped, NamesLine}
+use Rattle.ilp_rules.specs.TakenUp.{HasStopped, AreTakenUp, NamesLine}
 use Rattle.ilp_rules.proofs.CarriedBooks.{lawful_front}
 use Rattle.ilp_rules.proofs.Rebasing.{lawful_behind}
 use Rattle.ilp_rules.proofs.Saved.{all_stand}
@@ -53,6 +52,51 @@ module _ (C : Configuration) (saved logged : List ℕ) where
   pub not_lawful : (why : Stop) (j l : Entries) → IsTextOf C j saved → AreLinesOf C l logged → HasStopped C (j ++ l) why → IsWhyNotRecovered C saved logged (of_stop why)
   not_lawful (stop.Unlawful n rule) j l written are stopped = (j, l, written, are, first_unlawful C (j ++ l) n rule stopped)
   not_lawful stop.Memory j l written are stopped = tt
+
+-- ---- what came of a text and of lines
+
+-- what a call answers that doesn't refuse
+pub unless_err : {E : Type 0} (r : Result Unit E) (P : Type 0) → ((e : E) → r ≡ Err e → ⊥) → OnOk r P → P
+unless_err (Ok u) P never ok = ok
+unless_err (Err e) P never ok = absurd (never e refl)
+
+-- the entries of both, and the book of them
+pub record CameOf (C : Configuration) (saved logged : List ℕ) (book : PlainBook) (taken : Result Unit Stop) : Type 0 where
+  pub entries : Entries
+  pub later : Entries
+  pub written : IsTextOf C entries saved
+  pub lines : AreLinesOf C later logged
+  pub state : AreTakenUp C (entries ++ later) book taken
+
+module _ (C : Configuration) (saved logged : List ℕ) where
+  pub came_of : (book new : PlainBook) (taken done : Result Unit Stop) → (j : Entries) × IsTextOf C j saved × AreTakenUp C j book taken
+      → ((before : Entries) → AreTakenUp C before book taken → (l : Entries) × AreLinesOf C l logged × AreTakenUp C (before ++ l) new done) → CameOf C saved logged new done
+  came_of book new taken done of_text of_rest =
+      let of_lines = of_rest of_text.0 of_text.2 in
+      record { entries = of_text.0; later = of_lines.0; written = of_text.1; lines = of_lines.1; state = of_lines.2 }
+
+  -- not all were taken up
+  pub why_stopped : (book : PlainBook) (taken : Result Unit Stop) (why : Stop) → CameOf C saved logged book taken → taken ≡ Err why → IsWhyNotRecovered C saved logged (of_stop why)
+  why_stopped book taken why came is =
+      not_lawful C saved logged why came.entries came.later came.written came.lines (subst (λ (t : Result Unit Stop). AreTakenUp C (came.entries ++ came.later) book t) is came.state).1
+
+  -- all were, and the open holds ended
+  pub all_recovered : (now moment : ℤ) (book ended result : PlainBook) (taken : Result Unit Stop) (u : Unit) → CameOf C saved logged book taken → taken ≡ Ok u → moment ≡ now → IsLawful book
+      → ended ≡ extended book (ends_of_open (moment_at book.entries moment) book.entries) → result ≡ begun_with ended.config ended.entries → IsRecovered C saved logged now result
+  all_recovered now moment book ended result taken u came is same lawful ends begins =
+      let j : Entries = came.entries ++ came.later in
+      let taken_up : book ≡ with_entries (carrying C) j = subst (λ (t : Result Unit Stop). AreTakenUp C j book t) is came.state in
+      record {
+        entries = came.entries;
+        later = came.later;
+        written = came.written;
+        lines = came.lines;
+        lawful = lawful_behind (with_entries (carrying C) j) (length j) (omega arith) (subst IsLawful taken_up lawful);
+        begins =
+            begins
+            ∙ ap (λ (b : PlainBook). begun_with b.config b.entries) (ends ∙ ap (λ (b : PlainBook). extended b (ends_of_open (moment_at b.entries moment) b.entries)) taken_up)
+            ∙ ap (λ t. begun_with C (j ++ ends_of_open (moment_at j t) j)) same;
+      }
 
 -- ---- in one way
 
@@ -132,23 +176,19 @@ ends_alone m j = all_of_flat_map IsEndByStart (end_of m j) (range_with_len 0 (le
 -- ---- what was logged of a lawful book
 
 module _ (book : PlainBook) (j l : Entries) (n : ℕ) (lawful : IsLawful book) (typed : All IsTyped book.entries) (whole : book.entries ≡ j ++ l) where
-  C : Configuration
-  C = book.config
-
   front : take (length j + n) book.entries ≡ j ++ take n l
   front = ap (take (length j + n)) whole ∙ take-append-add j l n
 
-  stand : All (CanStand C) (j ++ take n l)
-  stand = subst (All (CanStand C)) front (All-take (CanStand C) (length j + n) book.entries (all_stand book [] book.entries lawful.rules lawful.moments typed))
+  stand : All (CanStand book.config) (j ++ take n l)
+  stand = subst (All (CanStand book.config)) front (All-take (CanStand book.config) (length j + n) book.entries (all_stand book [] book.entries lawful.rules lawful.moments typed))
 
   -- whatever has reached the log is recovered
   pub logged_recovered : (now : ℤ) → IsRecovered book.config (journal_text book.config j) (entry_lines book.config (take n l)) now (carried book.config (j ++ take n l) now)
-  unfolding C
   logged_recovered now = record {
     entries = j;
     later = take n l;
-    written = record { whole = refl; entries = subst (All (CanStand C)) (take-append_seam j (take n l)) (All-take (CanStand C) (length j) (j ++ take n l) stand) };
-    lines = record { whole = refl; stand = subst (All (CanStand C)) (drop-append_seam j (take n l)) (All-drop (CanStand C) (length j) (j ++ take n l) stand) };
+    written = record { whole = refl; entries = subst (All (CanStand book.config)) (take-append_seam j (take n l)) (All-take (CanStand book.config) (length j) (j ++ take n l) stand) };
+    lines = record { whole = refl; stand = subst (All (CanStand book.config)) (drop-append_seam j (take n l)) (All-drop (CanStand book.config) (length j) (j ++ take n l) stand) };
     lawful =
         let some : IsLawful (with_entries book (j ++ take n l)) = subst (λ (es : Entries). IsLawful (with_entries book es)) front (lawful_front book (length j + n) lawful) in
         lawful_behind (with_entries book (j ++ take n l)) (length (j ++ take n l)) (omega arith) some;

@@ -34,14 +34,14 @@ abbrev pub IsWhyNotRecovered : Configuration → List ℕ → List ℕ → Recov
 IsWhyNotRecovered C saved logged (BadJournalText line) = IsFirstBadLine C saved line
 IsWhyNotRecovered C saved logged (BadLogLine line) = (entries : Entries) × IsTextOf C entries saved × IsFirstBadEntryLine C logged line
 IsWhyNotRecovered C saved logged (Unlawful entry rule) =
-    (entries later : Entries) × IsTextOf C entries saved × AreLinesOf C later logged × IsFirstUnlawful C (entries ++ later) entry rule
+    (entries : Entries) × (later : Entries) × IsTextOf C entries saved × AreLinesOf C later logged × IsFirstUnlawful C (entries ++ later) entry rule
 IsWhyNotRecovered C saved logged Memory = ⊤
 
 -- ---- what a recovered book begins with
 
 -- the end of a hold as the connector starts again
 abbrev pub IsEndByStart : Entry → Type 0
-IsEndByStart e = (hold : ℕ) (cause : Cause) × (e.what ≡ what.Released hold cause) × ((cause ≡ Late) ⊎ (cause ≡ Restart))
+IsEndByStart e = (hold : ℕ) × (cause : Cause) × (e.what ≡ what.Released hold cause) × ((cause ≡ Late) ⊎ (cause ≡ Restart))
 
 -- a book begins with these entries, and behind them it has nothing but ends of holds
 pub record BeginsWith (entries : Entries) (book : PlainBook) : Type 0 where
