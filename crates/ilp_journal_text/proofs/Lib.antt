@@ -11,3 +11,4 @@ mod Inverse
 pub mod OneText
 pub mod FirstBad
 pub mod Read
+pub mod EntryLines
