@@ -52,11 +52,12 @@ def journal_changed_by_hand(laboratory: Laboratory) -> None:
 # rule it says that the entry breaks.
 KEEPS = "ok 2 peers 1 assets 2 routes 5 entries"
 LEVELS = ".+threshold, settle_to and settle_max.+"
+FULL = "it has 5 of 5 entries, and a start carries them over: give `journal` more"
 CHANGES = (
     ("workers = 4", "workers = 9", KEEPS, ""),
     ("max_hold_ms = 30000", "max_hold_ms = 60000", KEEPS, ""),
     ("window_ms = 1000", "window_ms = 5", KEEPS, ""),
-    ("journal = 100", "journal = 5", KEEPS, ""),
+    ("journal = 100", "journal = 5", KEEPS, FULL),
     ("least = -1000000", "least = -30", KEEPS, ""),
     ('prefix = "test.bob"', 'prefix = "test.shop"', KEEPS, ""),
     ('run = "r1"', 'run = "r2"', KEEPS, ""),
@@ -99,7 +100,7 @@ def journal_under_another_configuration(laboratory: Laboratory) -> None:
         done = kept.check(program)
         expect(f"what check says with {after!r}", done.stdout, f"{told}\n")
         expect_that(f"{done.stderr!r} does not say why with {after!r}",
-                    re.fullmatch(why and rf"\".+/journal\" line \d+: {why}\n", done.stderr) is not None)
+                    re.fullmatch(why and rf"(\".+\" line \d+|journal \".+\"): {why}\n", done.stderr) is not None)
 
 
 # ---- no path

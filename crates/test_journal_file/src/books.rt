@@ -1,4 +1,5 @@
 //! Books that are kept on a disk.
+ghost use Rattle.std.specs.Prelude.{◌≡◌};
 
 use crate::disk::{Disk, Faults, Handle, JOURNAL, LOCK, Machine, NEVER, RUNNING, When};
 use crate::looks::{has, is_there};

@@ -23,6 +23,8 @@ const MOST_CALLS: u32 = 400;
 struct Text;
 
 impl Content for Text {
+    ghost use Rattle.test_journal_file.specs.declared.tests.TheConstants.{NEW_TEXT};
+
     ghost text = { λ _. NEW_TEXT.now };
 
     fn entries(&self) -> u32 {
