@@ -27,4 +27,5 @@ pub use Rattle.ilp_rules.specs.Judging
 pub use Rattle.ilp_rules.specs.Broken
 pub use Rattle.ilp_rules.specs.Carried
 pub use Rattle.ilp_rules.specs.Carry
+pub use Rattle.ilp_rules.specs.Recover
 pub use Rattle.ilp_rules.specs.TakenUp

@@ -24,8 +24,8 @@ ghost use Rattle.ilp_book.specs.Run.{Step, AreAllowed, book_after};
 ghost use Rattle.ilp_book.specs.Rows.{PaidRow, LateRow, ReleasedRow, ExpiredRow, LeastRow, TermsRow, TotalRow, FullRow, OlderRow, CreditedRow, SettledRow, PartsRow, CarriedRow};
 
 pub use ilp_rules::laws::{
-    bases_can_rise, carried_books, lawful_books, saved_texts_are_carried,
-    texts_are_carried_in_one_way,
+    bases_can_rise, carried_books, lawful_books, recovered_begins, saved_texts_are_carried,
+    texts_are_carried_in_one_way, texts_are_recovered_in_one_way,
 };
 
 /// Whatever calls come, of whatever actors, at whatever times and however short memory is, the

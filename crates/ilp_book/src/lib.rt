@@ -25,7 +25,8 @@
 //!   of it that is not all. It has no allocator. Its condition: the configuration is the book's
 //!   own. What it wrote is carried over by that configuration, and refused for nothing but want of
 //!   memory.
-//! - `carry_over` answers the book that `ilp_rules` makes of a text, or why there is none.
+//! - `carry_over` answers the book that `ilp_rules` makes of a text, or why there is none. `recover`
+//!   does so of a text and the lines of entries that were logged behind it.
 //! - `runs_are_lawful`: over a valid configuration, for every list of the six calls within their
 //!   conditions (known peers, the destination's own route, a key of 1 to 128 octets), of any
 //!   actors, at any times, however short memory is, the journal is lawful, and the books of each
@@ -51,5 +52,5 @@ mod terms;
 pub use book::Book;
 pub use calls::{Asked, Held, Kept, Outcome, PeerReply, Sums};
 pub use fault::{AskFault, CreditFault, HoldFault, NotOpen};
-pub use ilp_rules::{BrokenRule, CarryFault};
+pub use ilp_rules::{BrokenRule, CarryFault, RecoverFault};
 pub use ilp_settlement::EngineVerdict;

@@ -5,6 +5,8 @@ pub mod Portion
 pub mod Gathering
 pub mod Session
 pub mod Opening
+pub use Rattle.ilp_grown_list.specs.Seated
+pub use Rattle.ilp_grown_list.specs.Grown
 pub use Rattle.ilp_packet.specs.Packet
 pub use Rattle.ilp_accounts.specs.Configuration
 pub use Rattle.ilp_accounts.specs.Limits

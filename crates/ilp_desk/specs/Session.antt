@@ -1,5 +1,7 @@
 -- What is under a desk's lock, and what a session does there.
 use Rattle.std.specs.Prelude.{◌≡◌, ℕ, ◌+◌, ◌≤◌, length, Option}
+use mathlib.Core.List.{IsPrefix}
+use Rattle.ilp_journal.specs.Journal.{Entries}
 use Rattle.ilp_book.specs.declared.calls.Asked.{Asked}
 use Rattle.ilp_book.specs.Book.{PlainBook, Made, Does}
 use Rattle.ilp_book.specs.SettleStep.{open_settlement}
@@ -30,6 +32,12 @@ abbrev pub IsReplyAt : {R : Type 0} → PlainDesk → (PlainBook → Made R) →
 IsReplyAt desk step before after reply =
     (old new : PlainBook) × IsSession desk old new before after × Does old new reply (step old)
 
+-- What is known of a session that a receipt is shown, besides: what the receipt had seen begins what was found there, and from then
+-- on it has seen what was left, the session's entry too.
+abbrev pub IsShownAt : {R : Type 0} → PlainDesk → (PlainBook → Made R) → Entries → Entries → Portion → Portion → R → Type 0
+IsShownAt desk step seen shown before after reply =
+    (old new : PlainBook) × IsSession desk old new before after × Does old new reply (step old) × IsPrefix seen old.entries × (shown ≡ new.entries)
+
 -- What is known of a look at a peer's open settlements once the lock is let go: in some book of the desk this is the one that comes
 -- next, behind the one that was tried last.
 abbrev pub IsLookAt : PlainDesk → ℕ → Option ℕ → Option Asked → Type 0
@@ -38,3 +46,11 @@ IsLookAt desk peer tried found = (book : PlainBook) × IsBookOf desk book × fou
 -- What is known of a copy once the lock is let go: it tells all that some book of the desk came to.
 abbrev pub IsCopyOf : PlainDesk → PlainSnapshot → Type 0
 IsCopyOf desk snapshot = (book : PlainBook) × IsBookOf desk book × snapshot ≡ snapshot_of book
+
+-- What is known of a receipt once the lock is let go: it has seen all entries that some book of the desk had.
+abbrev pub IsSeenAt : PlainDesk → Entries → Type 0
+IsSeenAt desk seen = (book : PlainBook) × IsBookOf desk book × seen ≡ book.entries
+
+-- And of one that was shown them: what it had seen begins them.
+abbrev pub IsSeenSince : PlainDesk → Entries → Entries → Type 0
+IsSeenSince desk before after = (book : PlainBook) × IsBookOf desk book × IsPrefix before book.entries × after ≡ book.entries

@@ -8,10 +8,11 @@ ghost use Rattle.ilp_book.specs.AnswerStep.{answer_step, expire_step};
 ghost use Rattle.ilp_book.specs.SettleStep.{payment, credit_growth, credit_step, ask_growth, ask_step, close_step};
 ghost use Rattle.ilp_desk.specs.Desk.{actors_of, base_of};
 ghost use Rattle.ilp_desk.specs.Opening.{IsWhyNot, IsWorkerCount, first_shares};
-ghost use Rattle.ilp_desk.specs.Session.{IsReplyAt, IsLookAt, IsCopyOf};
+ghost use Rattle.ilp_desk.specs.Session.{IsReplyAt, IsLookAt, IsCopyOf, IsSeenAt, IsSeenSince};
 
 use crate::locked::LockedBook;
 use crate::naming::Naming;
+use crate::receipt::{EntryList, JournalReceipt};
 use crate::share::Share;
 use crate::unlocked::UnlockedDesk;
 use ilp_accounts::Config;
@@ -63,20 +64,22 @@ impl<J: Naming> Desk<J> {
     /// Opens a desk of 1 to 64 workers over a book that is at its base, with a copy of the
     /// configuration. The shares are those of the workers from 0 on, of the sweeper and of the
     /// settler, in this order; nothing is booked with them yet. A refusal hands the book back as it
-    /// was, and spends the blanks. `alloc` is for the shares; the copy lies on the heap of the
-    /// configuration.
+    /// was, and spends the blanks and the list. `alloc` is for the shares; the copy lies on the heap
+    /// of the configuration.
     pub fn open<A: Allocator>(
         alloc: A,
         config: &Config,
         book: Book,
         workers: u32,
         blanks: Blank,
+        list: EntryList,
     ) -> Result<(Desk<J>, Vec<Share<J>, A>), NoDesk>
         requires config { (config.now ≡ J.desk.config) × (book.config ≡ J.desk.config) }
         requires workers { workers ≡ J.desk.workers }
         requires opening { (book.entries ≡ J.desk.opening) × (book.base ≡ base_of J.desk) }
         requires ledger { (blanks.name ≡ J.name) × (blanks.parts ≡ J.parts) }
         requires parts { J.parts ≡ actors_of J.desk }
+        requires list { list ≡ J.list }
         ensures workers { OnOk result (IsWorkerCount workers) }
         ensures shares { IfOk result (λ r. r.1.items ≡ first_shares J.desk) }
         ensures book { IfErr result (λ e. e.book ≡ book) }
@@ -93,7 +96,7 @@ impl<J: Naming> Desk<J> {
         };
         let (total, parts) = blanks.open::<J>();
         let shares = cut(room, parts, actors);
-        let locked = LockedBook::new(book, total, workers);
+        let locked = LockedBook::new(book, total, workers, list);
         Ok((Desk::new(config, locked), shares))
     }
 
@@ -229,6 +232,21 @@ impl<J: Naming> Desk<J> {
         ensures { IsLookAt J.desk peer tried result }
     {
         self.lock(rt).open_settlement(peer, tried)
+    }
+
+    /// A receipt for all entries so far. Nothing is booked, and no share is raised.
+    pub fn receipt(&self, rt: &impl Wait) -> JournalReceipt<J>
+        ensures { IsSeenAt J.desk result }
+    {
+        self.lock(rt).receipt()
+    }
+
+    /// Shows the journal to a receipt that was taken earlier. Nothing is booked, and no share is
+    /// raised.
+    pub fn show(&self, rt: &impl Wait, receipt: &mut JournalReceipt<J>)
+        ensures { IsSeenSince J.desk receipt.old receipt.new }
+    {
+        self.lock(rt).show(receipt);
     }
 
     /// What the report of the book tells, in units of each asset. The copy is made with the lock

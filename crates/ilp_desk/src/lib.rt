@@ -18,11 +18,18 @@
 //! - `Desk::hold` and the five others take the lock for one session. When it is let go, it is known
 //!   that some book of the desk was found, and what the step makes of it is what was replied and
 //!   booked (`IsReplyAt`).
+//! - The entries are told to a list that only grows. `LockedBook::receipt` gives a receipt for the
+//!   journal as it is; `show` tells that what a receipt had seen begins the journal now, and renews
+//!   it. So the journal that a session finds begins with what each earlier one left.
+//! - `Desk::hold_shown` and the five others are sessions with a receipt: what it had seen begins the
+//!   journal that was found, and then it has seen the one that was left, with the session's entry
+//!   (`IsShownAt`).
 //! - `LockedBook::snapshot` copies what the report tells of its book, and `open_settlement` tells the
 //!   open settlement that comes next; those of `Desk` tell it of some book of the desk. Nothing
 //!   changes.
-//! - `gather` answers the book only where each actor has one end (its share and records) with the
-//!   records that the journal has of that actor since the opening. It takes no memory.
+//! - `gather` answers the book, as it was under the lock, only where each actor has one end (its
+//!   share and records) with the records that the journal has of that actor since the opening. It
+//!   takes no memory.
 //! - Then the shares add up to the entries since the opening, and the records to what was fulfilled
 //!   since: how many packets, and each asset's amounts in and out (`specs/Gathering.antt`).
 //! - Else `gather` hands desk and ends back, with `Double`, `Missing` or `Disagrees`, in this
@@ -39,9 +46,11 @@ mod gathering;
 pub mod laws;
 mod locked;
 mod naming;
+mod receipt;
 mod record;
 mod records;
 mod share;
+mod shown;
 mod unlocked;
 
 pub use desk::{Desk, NoDesk, WhyNoDesk};
@@ -49,6 +58,7 @@ pub use end::End;
 pub use gathering::{Closed, NotGathered, WhyNotGathered, gather};
 pub use locked::LockedBook;
 pub use naming::Naming;
+pub use receipt::{EntryList, JournalReceipt};
 pub use record::{AnsweredHold, HoldEnd, Record, Recorded};
 pub use share::Share;
 pub use unlocked::UnlockedDesk;

@@ -1,5 +1,6 @@
 //! What the lock of a desk lends: the book, and its calls as sessions of the desk's actors.
 ghost use Rattle.std.specs.Prelude.{◌≡◌, ◌+◌, ◌≤◌, IfOk, IfErr, OnErr, length, sum_by};
+ghost use mathlib.Core.List.{IsPrefix};
 ghost use Rattle.ilp_packet.specs.Packet.{plain_prepare};
 ghost use Rattle.ilp_accounts.specs.Limits.{most_workers};
 ghost use Rattle.ilp_book.specs.Book.{by, Does};
@@ -15,6 +16,7 @@ ghost use Rattle.ilp_desk.specs.Gathering.{IsWhole};
 
 use crate::end::End;
 use crate::naming::Naming;
+use crate::receipt::{Booked, Entries, EntryList, JournalReceipt, OfDesk};
 use crate::share::Share;
 use ilp_book::{
     AskFault, Asked, Book, CreditFault, EngineVerdict, Held, HoldFault, Kept, NotOpen, Outcome,
@@ -30,15 +32,18 @@ use std::sync::ledger;
 
 /// The book of a desk, and the ledger of what was booked since the desk was opened. Whoever takes
 /// the lock finds a lawful book of the desk's configuration, whose journal begins with the opening
-/// one and goes on with entries of the desk's actors, as many as the ledger counts.
+/// one and goes on with entries of the desk's actors, as many as the ledger counts. The entries are
+/// told to a list that only grows, so that a receipt of it holds later.
 #[derive(Drop)]
 pub struct LockedBook<J: Naming> {
     book: Book,
     total: ledger::Book<J>,
     workers: u32,
+    entries: Entries<J>,
 }
 
 impl<J: Naming> Model for LockedBook<J> {
+    ghost use Rattle.std.specs.Prelude.{◌≡◌};
     ghost use Rattle.ilp_book.specs.Book.{PlainBook};
     ghost use Rattle.ilp_desk.specs.Session.{IsLocked};
 
@@ -46,26 +51,37 @@ impl<J: Naming> Model for LockedBook<J> {
 
     ghost view = { λ l. l.book };
 
-    ghost invariant = { λ l. IsLocked J.desk J.parts l.workers l.total.total l.book };
+    ghost invariant = { λ l. IsLocked J.desk J.parts l.workers l.total.total l.book
+        × (l.entries ≡ l.book.entries) };
 }
 
 impl<J: Naming> LockedBook<J> {
-    // The book that a desk is opened with, of which nothing is counted yet.
-    pub(crate) fn new(book: Book, total: ledger::Book<J>, workers: u32) -> LockedBook<J>
+    // The book that a desk is opened with, of which nothing is counted yet; its entries are the first
+    // that are told to the list.
+    pub(crate) fn new(
+        book: Book,
+        total: ledger::Book<J>,
+        workers: u32,
+        list: EntryList,
+    ) -> LockedBook<J>
         requires config { book.config ≡ J.desk.config }
         requires opening { book.entries ≡ J.desk.opening }
         requires base { book.base ≡ base_of J.desk }
         requires total { total.total ≡ 0 }
         requires cut { J.parts ≡ actors_of J.desk }
         requires workers { (workers ≡ J.desk.workers) × (workers ≤ most_workers) }
+        requires list { list ≡ J.list }
         ensures { result ≡ book }
     {
         // Called for what its contract tells: the journal is lawful.
         let _ = book.entry(0);
+        let mut entries = list.named::<OfDesk<J>>();
+        entries.grow::<Booked>(&book);
         LockedBook {
             book,
             total,
             workers,
+            entries,
         }
     }
 
@@ -104,6 +120,7 @@ impl<J: Naming> LockedBook<J> {
         let before = self.book.len();
         let result = self.book.hold(share.actor(), from, prepare, now);
         share.count(&mut self.total, self.book.len() - before);
+        self.entries.grow::<Booked>(&self.book);
         result
     }
 
@@ -124,6 +141,7 @@ impl<J: Naming> LockedBook<J> {
         let before = self.book.len();
         let result = self.book.answer(share.actor(), number, reply, now);
         share.count(&mut self.total, self.book.len() - before);
+        self.entries.grow::<Booked>(&self.book);
         result
     }
 
@@ -137,6 +155,7 @@ impl<J: Naming> LockedBook<J> {
         let before = self.book.len();
         let result = self.book.expire_one(share.actor(), now);
         share.count(&mut self.total, self.book.len() - before);
+        self.entries.grow::<Booked>(&self.book);
         result
     }
 
@@ -160,6 +179,7 @@ impl<J: Naming> LockedBook<J> {
         let before = self.book.len();
         let result = self.book.credit(share.actor(), peer, key, quantity, now);
         share.count(&mut self.total, self.book.len() - before);
+        self.entries.grow::<Booked>(&self.book);
         result
     }
 
@@ -175,6 +195,7 @@ impl<J: Naming> LockedBook<J> {
         let before = self.book.len();
         let result = self.book.ask(share.actor(), peer, now);
         share.count(&mut self.total, self.book.len() - before);
+        self.entries.grow::<Booked>(&self.book);
         result
     }
 
@@ -195,6 +216,7 @@ impl<J: Naming> LockedBook<J> {
         let before = self.book.len();
         let result = self.book.settle_close(share.actor(), number, verdict, now);
         share.count(&mut self.total, self.book.len() - before);
+        self.entries.grow::<Booked>(&self.book);
         result
     }
 
@@ -215,8 +237,44 @@ impl<J: Naming> LockedBook<J> {
         Snapshot::of(alloc, self.book())
     }
 
-    // The book, once the shares of all ends are put together.
-    pub(crate) fn close(self, ends: Vec<End<J>>) -> Book
+    /// A receipt for all entries so far, those of the last session too.
+    pub fn receipt(&mut self) -> JournalReceipt<J>
+        ensures all { result ≡ self.old.entries }
+        ensures of_desk { IsBookOf J.desk self.old }
+        ensures same { self.new ≡ self.old }
+    {
+        let len = self.book.len();
+        let seen = self.entries.seen();
+        JournalReceipt::new(seen, len)
+    }
+
+    /// Shows the journal to a receipt that was taken earlier: what it had seen begins the journal, and
+    /// from now on it has seen all of it.
+    pub fn show(&mut self, receipt: &mut JournalReceipt<J>)
+        ensures begins { IsPrefix receipt.old self.old.entries }
+        ensures seen { receipt.new ≡ self.old.entries }
+        ensures of_desk { IsBookOf J.desk self.old }
+        ensures same { self.new ≡ self.old }
+    {
+        let len = self.book.len();
+        receipt.show(&mut self.entries, len);
+    }
+
+    /// The book alone, which nobody books in under this lock any more.
+    pub fn into_book(self) -> Book
+        ensures { result ≡ self }
+    {
+        let LockedBook {
+            book,
+            total: _,
+            workers: _,
+            entries: _,
+        } = self;
+        book
+    }
+
+    // What was under the lock, once the shares of all ends are put together.
+    pub(crate) fn close(self, ends: Vec<End<J>>) -> LockedBook<J>
         requires { IsWhole J.desk self ends.items }
         ensures book { result ≡ self }
         ensures of_desk { IsBookOf J.desk self }
@@ -226,7 +284,8 @@ impl<J: Naming> LockedBook<J> {
         let LockedBook {
             book,
             mut total,
-            workers: _,
+            workers,
+            entries,
         } = self;
         let mut left = ends;
         let Some(first) = left.pop() else {
@@ -237,6 +296,11 @@ impl<J: Naming> LockedBook<J> {
             all.merge(end.into_part());
         }
         total.audit(&mut all);
-        book
+        LockedBook {
+            book,
+            total,
+            workers,
+            entries,
+        }
     }
 }

@@ -1,7 +1,8 @@
 -- What a text begins with where the line of an entry comes next.
-use Rattle.std.proofs.Common.{◌≡◌, ℕ, ◌≤◌, false, List, ◌∷◌, ◌++◌, length, Result, Ok, Err, ◌∙◌, arith, inl, inr, All}
+use Rattle.std.proofs.Common.{◌≡◌, ℕ, ◌≤◌, false, List, [], ◌∷◌, ◌++◌, length, Result, Ok, Err, sym, ◌∙◌, arith, inl, inr, All}
 use Rattle.std.specs.List.{slice_split}
 use Rattle.std.specs.Result.{IfErr}
+use Rattle.std.proofs.lemmas.List.{append-nil}
 use Rattle.std.specs.Fmt.{decimal, signed_decimal}
 use Rattle.ilp_accounts.specs.Configuration.{Configuration}
 use Rattle.ilp_accounts.specs.Valid.{IsValid}
@@ -13,10 +14,10 @@ use Rattle.ilp_journal.specs.declared.entry.Cause.TheVariants.{Late, WrongPreima
 use Rattle.ilp_journal_text.specs.declared.fields.LineFault.{LineFault}
 use Rattle.ilp_journal_text.specs.declared.fields.LineFault.TheVariants.{Bad}
 use Rattle.ilp_journal_text.specs.Text.{cause_fields, what_fields, entry_line}
-use Rattle.ilp_journal_text.specs.Reading.{CanStand}
+use Rattle.ilp_journal_text.specs.Reading.{CanStand, IsTyped, IsLine, HasNoNul}
 use Rattle.ilp_journal_text.specs.Fields.{is_space, is_line_end, entry_fields, Gives}
-use Rattle.ilp_journal_text.proofs.Ink.{moment_ink, further_ink}
-use Rattle.ilp_journal_text.proofs.Cuts.{body, cut_fields, body_ink, line_parts}
+use Rattle.ilp_journal_text.proofs.Ink.{moment_ink, further_ink, typed_of}
+use Rattle.ilp_journal_text.proofs.Cuts.{body, cut_fields, body_ink, line_ink, line_parts}
 
 -- the line of an entry without its end
 abbrev pub entry_body : Configuration → Entry → List ℕ
@@ -46,12 +47,26 @@ module _ (C : Configuration) where
   pub entry_parts : (e : Entry) (after text : List ℕ) → text ≡ entry_line C e ++ after → text ≡ entry_body C e ++ 10 ∷ after
   entry_parts e after text whole = whole ∙ line_parts (signed_decimal e.moment) (decimal e.actor ∷ what_fields C e.what) after
 
+  module _ (valid : IsValid C) (e : Entry) (typed : IsTyped e) where
+    typed_clean : All (λ octet. is_line_end octet ≡ false) (entry_body C e)
+    typed_clean = body_ink (signed_decimal e.moment) (decimal e.actor ∷ what_fields C e.what) (moment_ink e.moment typed.moment) (further_ink C valid e typed)
+
+    -- it is one line
+    pub typed_line : IsLine (entry_line C e)
+    typed_line = record { body = entry_body C e; whole = entry_parts e [] (entry_line C e) (sym (append-nil (entry_line C e))); clean = typed_clean }
+
+    -- without NUL
+    pub typed_no_nul : HasNoNul (entry_line C e)
+    typed_no_nul = line_ink (signed_decimal e.moment) (decimal e.actor ∷ what_fields C e.what) (moment_ink e.moment typed.moment) (further_ink C valid e typed)
+
   module _ (valid : IsValid C) (e : Entry) (stands : CanStand C e) where
     pub entry_clean : All (λ octet. is_line_end octet ≡ false) (entry_body C e)
-    entry_clean = body_ink (signed_decimal e.moment) (decimal e.actor ∷ what_fields C e.what) (moment_ink e.moment stands.moment) (further_ink C valid e stands)
+    entry_clean = typed_clean valid e (typed_of C e stands)
 
     pub entry_cut : slice_split is_space (entry_body C e) ≡ entry_fields C e
-    entry_cut = cut_fields (signed_decimal e.moment) (decimal e.actor ∷ what_fields C e.what) (moment_ink e.moment stands.moment) (further_ink C valid e stands)
+    entry_cut =
+        let typed = typed_of C e stands in
+        cut_fields (signed_decimal e.moment) (decimal e.actor ∷ what_fields C e.what) (moment_ink e.moment typed.moment) (further_ink C valid e typed)
 
 -- what a reader of fields says
 pub on_err : {T E : Type 0} (r : Result T E) (Q : E → Type 0) → ((e : E) → Q e) → IfErr r Q

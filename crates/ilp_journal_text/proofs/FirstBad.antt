@@ -13,9 +13,9 @@ use Rattle.ilp_journal.specs.Journal.{Entries}
 use Rattle.ilp_journal_text.specs.Text.{first_line, entry_line, end_line, journal_text}
 use Rattle.ilp_journal_text.specs.Reading.{CanStand, IsTextOf, Unread, HasRead, LacksFirstLine, LacksEntry, LacksLine, GoesOn, IsBadAt, IsLine, joined, BeginsText, IsFirstBadLine}
 use Rattle.ilp_journal_text.specs.Fields.{is_line_end}
-use Rattle.ilp_journal_text.proofs.Ink.{IsInk, AreInk, decimal_ink, word_ink}
+use Rattle.ilp_journal_text.proofs.Ink.{IsInk, AreInk, decimal_ink, word_ink, typed_of}
 use Rattle.ilp_journal_text.proofs.Cuts.{body, body_ink, cut_line, line_parts}
-use Rattle.ilp_journal_text.proofs.Awaited.{entry_body, entry_parts, entry_clean}
+use Rattle.ilp_journal_text.proofs.Awaited.{entry_body, entry_parts, typed_line}
 use Rattle.ilp_journal_text.proofs.OneText.{end_lacks, end_alone, same_entries, never_bad_at}
 
 -- ---- lines
@@ -25,7 +25,7 @@ abbrev IsClean : List ℕ → Type 0
 IsClean octets = All (λ octet. is_line_end octet ≡ false) octets
 
 -- the first line of octets is one
-one_line : (x y a b : List ℕ) → IsLine x → IsLine y → x ++ a ≡ y ++ b → (x ≡ y) × (a ≡ b)
+pub one_line : (x y a b : List ℕ) → IsLine x → IsLine y → x ++ a ≡ y ++ b → (x ≡ y) × (a ≡ b)
 one_line x y a b is also same =
     let parted : (octets more : List ℕ) (line : IsLine octets) → octets ++ more ≡ line.body ++ 10 ∷ more = λ octets more line.
     ap (λ (o : List ℕ). o ++ more) line.whole ∙ append_assoc line.body (10 ∷ []) more in
@@ -37,7 +37,7 @@ one_line x y a b is also same =
     (lines, append_cancel_left y a b (ap (λ (o : List ℕ). o ++ a) (sym lines) ∙ same))
 
 -- a line isn't empty
-some_octet : (x more : List ℕ) → IsLine x → x ++ more ≡ [] → ⊥
+pub some_octet : (x more : List ℕ) → IsLine x → x ++ more ≡ [] → ⊥
 some_octet x more is none = omega (arith, ap length none, length-append x more, ap length is.whole, length-append is.body (10 ∷ []))
 
 -- the lines of a text of a journal are lines
@@ -130,16 +130,12 @@ module _ (C : Configuration) where
 
   module _ (valid : IsValid C) where
     entry_is_line : (e : Entry) → CanStand C e → IsLine (entry_line C e)
-    entry_is_line e stands = record {
-      body = entry_body C e;
-      whole = entry_parts C e [] (entry_line C e) (sym (append-nil (entry_line C e)));
-      clean = entry_clean C valid e stands;
-    }
+    entry_is_line e stands = typed_line C valid e (typed_of C e stands)
 
     -- the lines of entries
-    entry_lines : (j : Entries) → All (CanStand C) j → All IsLine (map (entry_line C) j)
-    entry_lines [] stand = All-nil IsLine
-    entry_lines (e ∷ j) stand = All-cons IsLine (entry_line C e) (map (entry_line C) j) (entry_is_line e (All-head (CanStand C) e j stand)) (entry_lines j (All-tail (CanStand C) e j stand))
+    are_lines : (j : Entries) → All (CanStand C) j → All IsLine (map (entry_line C) j)
+    are_lines [] stand = All-nil IsLine
+    are_lines (e ∷ j) stand = All-cons IsLine (entry_line C e) (map (entry_line C) j) (entry_is_line e (All-head (CanStand C) e j stand)) (are_lines j (All-tail (CanStand C) e j stand))
 
     joined_entries : (j : Entries) → joined (map (entry_line C) j) ≡ flat_map (entry_line C) j
     joined_entries [] = refl
@@ -161,7 +157,7 @@ module _ (C : Configuration) where
       few fits = omega (arith, fits, read.count, many j, ap length read.whole, length-append first_line (flat_map (entry_line C) j ++ u.rest), length-append (flat_map (entry_line C) j) u.rest)
 
       lines_read : All IsLine (first_line ∷ map (entry_line C) j)
-      lines_read = All-cons IsLine first_line (map (entry_line C) j) first_is_line (entry_lines j read.entries)
+      lines_read = All-cons IsLine first_line (map (entry_line C) j) first_is_line (are_lines j read.entries)
 
       -- the lines that were read, and what follows
       read_front : (more : List ℕ) → joined (first_line ∷ map (entry_line C) j) ++ more ≡ first_line ++ (flat_map (entry_line C) j ++ more)

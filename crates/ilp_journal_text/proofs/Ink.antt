@@ -1,5 +1,6 @@
--- No field of an entry that can stand has a space or a line end.
-use Rattle.std.proofs.Common.{◌≡◌, ℕ, suc, ◌+◌, ◌/◌, ◌%◌, ◌^◌, ◌<◌, ◌≤◌, ℤ, pos, negsuc, true, List, [], ◌∷◌, ◌++◌, length, get_or, Some, slice_index, nat_le, refl, sym, subst, arith, All, codes}
+-- No field of an entry whose numbers are of their types has a space or a line end.
+use Rattle.std.proofs.Common.{◌≡◌, ℕ, suc, ◌+◌, ◌/◌, ◌%◌, ◌^◌, ◌<◌, ◌≤◌, ℤ, pos, negsuc, true, List, [], ◌∷◌, ◌++◌, length, Some, slice_index, nat_le, Option, None, unwrap_or, refl, subst, arith, w64, FitsSigned, All, codes}
+use Rattle.std.specs.Prelude.{slice_get}
 use Rattle.std.specs.List.{AllByRecursion, list_all}
 use Rattle.std.specs.Fmt.{decimal, signed_decimal}
 use Rattle.std.proofs.lemmas.Fmt.{decimal_by_steps_wide}
@@ -8,7 +9,7 @@ use Rattle.std.proofs.lemmas.Bool.Decides.{nat_tests}
 use Rattle.std.proofs.lemmas.List.Elements.{All-nil, All-cons, All-push, All-weaker, All-get_or, All-from_recursion}
 use Rattle.std.proofs.lemmas.List.Sums.{AllPass-from_list_all}
 use Rattle.std.proofs.lemmas.Int.{ints}
-use Rattle.std.proofs.lemmas.Option.{unwrap_or-slice_get}
+use Rattle.std.proofs.lemmas.Option.{slice_get_within, get_or_from_slice_get}
 use Rattle.hex.specs.Hex.{IsBytes, encode_lower, encode_with, lower_digits, hex_digit_value}
 use Rattle.hex.proofs.HexLemmas.{IsDigits-lower_digits}
 use Rattle.ilp_fields.specs.declared.form.Form.TheVariants as form
@@ -21,7 +22,7 @@ use Rattle.ilp_journal.specs.declared.entry.What.TheVariants as what
 use Rattle.ilp_journal.specs.declared.entry.Cause.{Cause}
 use Rattle.ilp_journal.specs.declared.entry.Cause.TheVariants.{Late, WrongPreimage, NoReply, Peer, Restart}
 use Rattle.ilp_journal_text.specs.Text.{name_at, cause_fields, what_fields}
-use Rattle.ilp_journal_text.specs.Reading.{IsPeer, IsMoment, CauseStands, WhatStands, CanStand}
+use Rattle.ilp_journal_text.specs.Reading.{IsMoment, CauseStands, WhatStands, CanStand, WhatIsTyped, IsTyped}
 
 -- neither a space nor a line end
 abbrev pub IsInk : ℕ → Type 0
@@ -48,11 +49,9 @@ decimal_ink n fits = decimal_by_steps_wide (λ _ (digits : List ℕ). All IsInk 
     more : (k : ℕ) (digits : List ℕ) → 10 ≤ k → All IsInk digits → All IsInk (digits ++ ((48 + k % 10) ∷ []))
     more k digits many ink = All-push IsInk digits (48 + k % 10) ink (omega arith)
 
-pub moment_ink : (m : ℤ) → IsMoment m → All IsInk (signed_decimal m)
-moment_ink (pos n) within =
-    let below : n < 2 ^ 63 = omega (arith, ints, within.1) in
-    decimal_ink n (omega (arith, below))
-moment_ink (negsuc n) within = absurd (omega (arith, ints, within.0))
+pub moment_ink : (m : ℤ) → FitsSigned w64 m → All IsInk (signed_decimal m)
+moment_ink (pos n) fits = decimal_ink n (omega (arith, fits.sfits))
+moment_ink (negsuc n) fits = All-cons IsInk 45 (decimal (suc n)) (omega arith) (decimal_ink (suc n) (omega (arith, fits.sfits)))
 
 ink_digit : (c d : ℕ) → hex_digit_value c ≡ Some d → IsInk c
 ink_digit c d reads = grind (arith, nat_tests, reads)
@@ -76,10 +75,15 @@ name_ink name formed =
     All-weaker (λ octet. is_name_octet octet ≡ true) IsInk (λ octet is. grind (arith, nat_tests, is)) name (AllPass-from_list_all is_name_octet name octets)
 
 module _ (C : Configuration) (valid : IsValid C) where
-  pub peer_ink : (peer : ℕ) → IsPeer C peer → All IsInk (name_at C peer)
-  peer_ink peer known =
-      let kept = All-get_or (IsGivenPeer (length C.table.assets)) C.peers peer nobody known valid.peers in
-      subst (λ (p : PlainPeer). All IsInk p.name) (sym (unwrap_or-slice_get C.peers peer nobody)) (name_ink (get_or C.peers peer nobody).name kept.name)
+  -- a peer that isn't there has no name
+  pub peer_ink : (peer : ℕ) → All IsInk (name_at C peer)
+  peer_ink peer = of (slice_get C.peers peer) refl
+    where
+      of : (o : Option PlainPeer) → slice_get C.peers peer ≡ o → All IsInk (unwrap_or o nobody).name
+      of None is = All-nil IsInk
+      of (Some p) is =
+          let kept = All-get_or (IsGivenPeer (length C.table.assets)) C.peers peer nobody (slice_get_within C.peers peer p is) valid.peers in
+          name_ink p.name (subst (IsGivenPeer (length C.table.assets)) (get_or_from_slice_get C.peers peer p nobody is) kept).name
 
   cause_ink : (cause : Cause) → CauseStands cause → AreInk (cause_fields cause)
   cause_ink Late stands = are_ink (cause_fields Late) (word_ink (codes "Late") refl, tt)
@@ -94,48 +98,65 @@ module _ (C : Configuration) (valid : IsValid C) where
   amount_ink : (n : ℕ) → n < 2 ^ 64 → All IsInk (decimal n)
   amount_ink n fits = decimal_ink n (omega (arith, fits))
 
-  pub what_ink : (w : What) → WhatStands C w → AreInk (what_fields C w)
-  what_ink (what.Hold h) stands =
+  pub what_ink : (w : What) → WhatIsTyped w → AreInk (what_fields C w)
+  what_ink (what.Hold h) typed =
       are_ink (what_fields C (what.Hold h)) (
         word_ink (codes "hold") refl,
         (
-          peer_ink h.from stands.from,
+          peer_ink h.from,
           (
-            peer_ink h.to stands.to,
+            peer_ink h.to,
             (
-              amount_ink h.amount stands.amount,
+              amount_ink h.amount typed.amount,
               (
-                amount_ink h.fee stands.fee,
-                (amount_ink h.out stands.out, (moment_ink h.deadline stands.deadline, (hex_ink h.condition stands.condition.1, tt))),
+                amount_ink h.fee typed.fee,
+                (amount_ink h.out typed.out, (moment_ink h.deadline typed.deadline, (hex_ink h.condition typed.condition.1, tt))),
               ),
             ),
           ),
         ),
       )
-  what_ink (what.Fulfilled hold preimage) stands =
-      are_ink (what_fields C (what.Fulfilled hold preimage)) (word_ink (codes "fulfilled") refl, (number_ink hold stands.0, (hex_ink preimage stands.1.1, tt)))
-  what_ink (what.Released hold cause) stands =
+  what_ink (what.Fulfilled hold preimage) typed =
+      are_ink (what_fields C (what.Fulfilled hold preimage)) (word_ink (codes "fulfilled") refl, (number_ink hold typed.0, (hex_ink preimage typed.1.1, tt)))
+  what_ink (what.Released hold cause) typed =
       All-cons (All IsInk) (codes "released") (decimal hold ∷ cause_fields cause) (word_ink (codes "released") refl)
-      (All-cons (All IsInk) (decimal hold) (cause_fields cause) (number_ink hold stands.0) (cause_ink cause stands.1))
-  what_ink (what.Credited c) stands =
+      (All-cons (All IsInk) (decimal hold) (cause_fields cause) (number_ink hold typed.0) (cause_ink cause typed.1))
+  what_ink (what.Credited c) typed =
       are_ink (what_fields C (what.Credited c)) (
         word_ink (codes "credited") refl,
         (
-          peer_ink c.peer stands.peer,
+          peer_ink c.peer,
           (
-            hex_ink c.key stands.key.1,
+            hex_ink c.key typed.key.1,
             (
-              decimal_ink c.named (omega (arith, stands.named)),
-              (decimal_ink c.scale (omega (arith, stands.scale)), (amount_ink c.credited stands.credited, tt)),
+              decimal_ink c.named (omega (arith, typed.named)),
+              (decimal_ink c.scale (omega (arith, typed.scale)), (amount_ink c.credited typed.credited, tt)),
             ),
           ),
         ),
       )
-  what_ink (what.Asked a) stands =
-      are_ink (what_fields C (what.Asked a)) (word_ink (codes "asked") refl, (peer_ink a.peer stands.0, (amount_ink a.amount stands.1, tt)))
-  what_ink (what.Confirmed ask) stands = are_ink (what_fields C (what.Confirmed ask)) (word_ink (codes "confirmed") refl, (number_ink ask stands, tt))
-  what_ink (what.Undone ask) stands = are_ink (what_fields C (what.Undone ask)) (word_ink (codes "undone") refl, (number_ink ask stands, tt))
+  what_ink (what.Asked a) typed =
+      are_ink (what_fields C (what.Asked a)) (word_ink (codes "asked") refl, (peer_ink a.peer, (amount_ink a.amount typed, tt)))
+  what_ink (what.Confirmed ask) typed = are_ink (what_fields C (what.Confirmed ask)) (word_ink (codes "confirmed") refl, (number_ink ask typed, tt))
+  what_ink (what.Undone ask) typed = are_ink (what_fields C (what.Undone ask)) (word_ink (codes "undone") refl, (number_ink ask typed, tt))
 
   -- what follows the moment
-  pub further_ink : (e : Entry) → CanStand C e → AreInk (decimal e.actor ∷ what_fields C e.what)
-  further_ink e stands = All-cons (All IsInk) (decimal e.actor) (what_fields C e.what) (number_ink e.actor stands.actor) (what_ink e.what stands.what)
+  pub further_ink : (e : Entry) → IsTyped e → AreInk (decimal e.actor ∷ what_fields C e.what)
+  further_ink e typed = All-cons (All IsInk) (decimal e.actor) (what_fields C e.what) (number_ink e.actor typed.actor) (what_ink e.what typed.what)
+
+-- the numbers of an entry that can stand are of their types
+pub typed_of : (C : Configuration) (e : Entry) → CanStand C e → IsTyped e
+typed_of C e stands = record { moment = moment_fits e.moment stands.moment; actor = stands.actor; what = of e.what stands.what }
+  where
+    moment_fits : (m : ℤ) → IsMoment m → FitsSigned w64 m
+    moment_fits (pos n) within = record { sfits = omega (arith, ints, within.1) }
+    moment_fits (negsuc n) within = absurd (omega (arith, ints, within.0))
+
+    of : (w : What) → WhatStands C w → WhatIsTyped w
+    of (what.Hold h) stands = record { amount = stands.amount; fee = stands.fee; out = stands.out; deadline = moment_fits h.deadline stands.deadline; condition = stands.condition }
+    of (what.Fulfilled hold preimage) stands = stands
+    of (what.Released hold cause) stands = stands
+    of (what.Credited c) stands = record { key = stands.key; named = stands.named; scale = stands.scale; credited = stands.credited }
+    of (what.Asked a) stands = stands.1
+    of (what.Confirmed ask) stands = stands
+    of (what.Undone ask) stands = stands

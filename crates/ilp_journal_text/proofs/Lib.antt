@@ -1,6 +1,6 @@
 mod LineLemmas
 mod RowProofs
-mod Ink
+pub mod Ink
 mod Cuts
 mod Numbers
 mod Hexadecimal
@@ -11,3 +11,4 @@ mod Inverse
 pub mod OneText
 pub mod FirstBad
 pub mod Read
+pub mod EntryLines

@@ -1,5 +1,6 @@
 -- The text of a journal, read: what it stands for, and where it is first bad. Lines count from 1.
-use Rattle.std.specs.Prelude.{◌≡◌, ◌≢◌, ◌⊎◌, ℕ, ◌+◌, ◌<◌, ◌^◌, ℤ, pos, ◌≤ℤ◌, ◌<ℤ◌, List, [], ◌∷◌, ◌++◌, false, length, All, ⊤}
+use Rattle.std.specs.Prelude.{◌≡◌, ◌≢◌, ◌⊎◌, ℕ, ◌+◌, ◌<◌, ◌^◌, ℤ, pos, ◌≤ℤ◌, ◌<ℤ◌, List, [], ◌∷◌, ◌++◌, false, length, All, FitsSigned, ⊤}
+use Rattle.std.specs.Int.{w64}
 use Rattle.std.specs.List.{flat_map}
 use Rattle.hex.specs.Hex.{IsBytes}
 use Rattle.ilp_accounts.specs.Configuration.{Configuration}
@@ -14,7 +15,7 @@ use Rattle.ilp_journal.specs.Journal.{Entries}
 use Rattle.ilp_journal.specs.Keys.{IsKey}
 use Rattle.ilp_journal_text.specs.declared.reading.TextFault.{TextFault}
 use Rattle.ilp_journal_text.specs.declared.reading.TextFault.TheVariants.{BadLine, Memory}
-use Rattle.ilp_journal_text.specs.Text.{first_line, entry_line, end_line, journal_text}
+use Rattle.ilp_journal_text.specs.Text.{first_line, entry_line, entry_lines, end_line, journal_text}
 use Rattle.ilp_journal_text.specs.Fields.{is_line_end}
 
 -- ---- which entries a text of a configuration can have
@@ -72,7 +73,7 @@ pub record HoldIsTyped (h : Hold) : Type 0 where
   pub amount : h.amount < 2 ^ 64
   pub fee : h.fee < 2 ^ 64
   pub out : h.out < 2 ^ 64
-  pub deadline : h.deadline <ℤ pos (2 ^ 63)
+  pub deadline : FitsSigned w64 h.deadline
   pub condition : AreOctets 32 h.condition
 
 pub record CreditIsTyped (c : Credited) : Type 0 where
@@ -91,7 +92,7 @@ WhatIsTyped (what.Confirmed ask) = ask < 2 ^ 32
 WhatIsTyped (what.Undone ask) = ask < 2 ^ 32
 
 pub record IsTyped (e : Entry) : Type 0 where
-  pub moment : e.moment <ℤ pos (2 ^ 63)
+  pub moment : FitsSigned w64 e.moment
   pub actor : e.actor < 2 ^ 32
   pub what : WhatIsTyped e.what
 
@@ -124,17 +125,21 @@ IsAtEnd unread = unread.rest ≡ end_line unread.count
 
 -- the first line and those of the entries were read
 pub record HasRead (C : Configuration) (text : List ℕ) (j : Entries) (now : Unread) : Type 0 where
-  pub whole : text ≡ first_line ++ (flat_map (entry_line C) j ++ now.rest)
+  pub whole : text ≡ first_line ++ (entry_lines C j ++ now.rest)
   pub entries : All (CanStand C) j
   pub count : now.count ≡ length j
 
 -- ---- the first bad line
 
--- a line, with LF
+-- a line, with its only LF at its end
 pub record IsLine (octets : List ℕ) : Type 0 where
   pub body : List ℕ
   pub whole : octets ≡ body ++ 10 ∷ []
   pub clean : All (λ octet. is_line_end octet ≡ false) body
+
+-- no octet is NUL
+abbrev pub HasNoNul : List ℕ → Type 0
+HasNoNul octets = All (λ octet. octet ≢ 0) octets
 
 -- lines, one behind the other
 abbrev pub joined : List (List ℕ) → List ℕ
@@ -184,3 +189,45 @@ IsBadAt C u line = (LacksLine C u × (line ≡ u.count + 2)) ⊎ (GoesOn u × (l
 abbrev pub Explains : Configuration → Unread → TextFault → Type 0
 Explains C u (BadLine line) = IsBadAt C u line
 Explains C u Memory = ⊤
+
+-- ---- lines that stand behind others, as those of entries that were booked since a journal was saved
+
+-- the lines of these entries, each of which can stand in a text
+pub record AreLinesOf (C : Configuration) (entries : Entries) (text : List ℕ) : Type 0 where
+  pub whole : text ≡ entry_lines C entries
+  pub stand : All (CanStand C) entries
+
+-- The lines before this one are those of entries. It is there, and is no entry's line or has no end.
+pub record IsFirstBadEntryLine (C : Configuration) (text : List ℕ) (line : ℕ) : Type 0 where
+  pub before : Entries
+  pub rest : List ℕ
+  pub whole : text ≡ entry_lines C before ++ rest
+  pub stand : All (CanStand C) before
+  pub there : rest ≢ []
+  pub bad : LacksEntry C rest
+  pub number : line ≡ length before + 1
+
+-- lines of which none was read
+abbrev pub unread : List ℕ → Unread
+unread text = record { rest = text; count = 0 }
+
+-- the lines of these entries were read
+pub record HasReadLines (C : Configuration) (text : List ℕ) (entries : Entries) (now : Unread) : Type 0 where
+  pub whole : text ≡ entry_lines C entries ++ now.rest
+  pub stand : All (CanStand C) entries
+  pub count : now.count ≡ length entries
+
+-- all lines were read
+abbrev pub IsAllRead : Unread → Type 0
+IsAllRead u = u.rest ≡ []
+
+-- the line at which a reader of lines stops: the next one
+pub record IsBadNext (C : Configuration) (u : Unread) (line : ℕ) : Type 0 where
+  pub there : u.rest ≢ []
+  pub bad : LacksEntry C u.rest
+  pub number : line ≡ u.count + 1
+
+-- a fault names the line at which a reader of lines stops, or is want of memory
+abbrev pub ExplainsNext : Configuration → Unread → TextFault → Type 0
+ExplainsNext C u (BadLine line) = IsBadNext C u line
+ExplainsNext C u Memory = ⊤

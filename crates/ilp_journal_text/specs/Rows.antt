@@ -5,7 +5,7 @@ use Rattle.ilp_journal.specs.declared.entry.Entry.{Entry}
 use Rattle.ilp_journal.specs.declared.entry.What.{What}
 use Rattle.ilp_journal.specs.declared.entry.What.TheVariants as what
 use Rattle.ilp_journal.specs.declared.entry.Cause.TheVariants.{Late, WrongPreimage, NoReply, Peer, Restart}
-use Rattle.ilp_journal_text.specs.Text.{journal_text}
+use Rattle.ilp_journal_text.specs.Text.{entry_lines, journal_text}
 
 abbrev pub named : List ℕ → PlainPeer
 named name = record nobody { name = name }
@@ -76,3 +76,12 @@ ReleasedRow = journal_text config (
 -- no entry
 abbrev pub EmptyRow : Type 0
 EmptyRow = journal_text config [] ≡ codes "ilp-journal 1\nend 0\n"
+
+-- the lines of entries that stand behind others
+abbrev pub LinesRow : Type 0
+LinesRow = entry_lines config (
+    booked 600 (what.Asked (record { peer = 1; amount = 800 }))
+    ∷ booked 700 (what.Confirmed 3)
+    ∷ []) ≡
+    codes "600 0 asked bob 800\n"
+    ++ codes "700 0 confirmed 3\n"

@@ -55,6 +55,10 @@ what_fields C (what.Undone ask) = codes "undone" ∷ decimal ask ∷ []
 abbrev pub entry_line : Configuration → Entry → List ℕ
 entry_line C e = line (signed_decimal e.moment) (decimal e.actor ∷ what_fields C e.what)
 
+-- the lines of entries, one behind the other
+abbrev pub entry_lines : Configuration → Entries → List ℕ
+entry_lines C entries = flat_map (entry_line C) entries
+
 -- the last line, which counts the entries
 abbrev pub end_line : ℕ → List ℕ
 end_line count = line (codes "end") (decimal count ∷ [])
@@ -65,4 +69,4 @@ first_line = codes "ilp-journal 1\n"
 
 -- the text of a journal
 abbrev pub journal_text : Configuration → Entries → List ℕ
-journal_text C j = first_line ++ (flat_map (entry_line C) j ++ end_line (length j))
+journal_text C j = first_line ++ (entry_lines C j ++ end_line (length j))

@@ -1,7 +1,7 @@
 //! The line of an entry.
 ghost use Rattle.std.specs.Prelude.{◌≡◌, ◌≤◌, ◌++◌, length};
 ghost use Rattle.std.specs.List.{flat_map};
-ghost use Rattle.ilp_journal_text.specs.Reading.{CauseStands, CreditIsTyped, HoldIsTyped, IsTyped, WhatIsTyped};
+ghost use Rattle.ilp_journal_text.specs.Reading.{CauseStands, CreditIsTyped, HasNoNul, HoldIsTyped, IsLine, IsTyped, WhatIsTyped};
 ghost use Rattle.ilp_journal_text.specs.Text.{after_space, name_at, cause_fields, what_fields, entry_line};
 
 use crate::line::Line;
@@ -11,11 +11,19 @@ use ilp_journal::{Cause, Credited, Entry, Hold, What};
 // The most octets that stand before what an entry's line tells.
 const LONGEST_FRONT: usize = 81;
 
-/// The line of an entry.
-pub(crate) fn entry_line(config: &Config, entry: &Entry) -> Line
+/// The line of an entry, as it stands in the text of a journal, with the peers' names in the
+/// configuration. A peer that isn't there has no name. Its only line feed is its end, and no octet of it
+/// is NUL. No memory is taken.
+///
+/// It tells too that the numbers of the entry are of their types, as those that a text may have.
+pub fn entry_line(config: &Config, entry: &Entry) -> Line
     ensures octets { result ≡ entry_line config.now entry.now }
+    ensures line { IsLine result }
+    ensures no_nul { HasNoNul result }
     ensures typed { IsTyped entry.now }
 {
+    // Tells that the configuration is valid.
+    let _ = config.peers();
     let mut line = Line::at(entry.moment);
     line.number(u64::from(entry.actor));
     put_what(&mut line, config, &entry.what);

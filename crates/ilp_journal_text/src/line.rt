@@ -20,9 +20,9 @@ const LONGEST_KEY: usize = 128;
 /// The first line of a text.
 pub(crate) const FIRST_LINE: &[u8] = b"ilp-journal 1\n";
 
-/// A line, as far as its fields are written.
+/// A line, as far as its fields are written. It lies on the stack.
 #[derive(Drop)]
-pub(crate) struct Line {
+pub struct Line {
     octets: ArrayVec<u8, LONGEST>,
 }
 
@@ -61,7 +61,7 @@ impl Line {
     }
 
     /// The octets.
-    pub(crate) fn as_slice(&self) -> &[u8]
+    pub fn as_slice(&self) -> &[u8]
         ensures { result.now ≡ self.now }
     {
         self.octets.as_slice()

@@ -1,9 +1,9 @@
-//! Reading the text of a journal.
+//! Reading the text of a journal, and lines of entries that stand behind others.
 ghost use Rattle.std.specs.Prelude.{◌≡◌, ◌++◌, ℕ, List, IfOk, IfErr, OnErr, IfSome, OnSome, IsNone, All, IsOkAnd, false, ◌∷◌};
 ghost use Rattle.std.specs.Borrow.{Bor};
 ghost use Rattle.ilp_journal.specs.declared.entry.Entry.{Entry as PlainEntry};
 ghost use Rattle.ilp_journal_text.specs.Text.{entry_line};
-ghost use Rattle.ilp_journal_text.specs.Reading.{CanStand, Begins, LacksFirstLine, LacksEntry, Takes, IsAtEnd, Explains};
+ghost use Rattle.ilp_journal_text.specs.Reading.{CanStand, Begins, LacksFirstLine, LacksEntry, Takes, IsAtEnd, Explains, unread, IsAllRead, ExplainsNext};
 ghost use Rattle.ilp_journal_text.specs.Fields.{is_line_end, Gives};
 
 use crate::entry::entry_line;
@@ -18,7 +18,8 @@ use thiserror::Error;
 /// Why reading a text stopped before its end.
 #[derive(Clone, Copy, Debug, PartialEq, Eq, Error)]
 pub enum TextFault {
-    /// The first line, counted from 1, that a text of a journal does not have there.
+    /// The first line, counted from 1, that a text of a journal, or the lines of entries, do not have
+    /// there.
     #[error("the line {line} is no line of a journal")]
     BadLine { line: u64 },
     /// Memory for the key of a credit was denied.
@@ -89,6 +90,69 @@ impl<'a> JournalText<'a> {
             }
             Err(LineFault::Bad) => Err(TextFault::BadLine {
                 line: self.count + 2,
+            }),
+            Err(LineFault::Memory) => Err(TextFault::Memory),
+        }
+    }
+}
+
+/// Lines of entries that stand behind others, as those of entries that were booked since a journal
+/// was saved: as in the text of a journal, without first line and end line. They are read entry by
+/// entry, once.
+#[derive(Drop)]
+pub struct JournalLines<'a> {
+    rest: &'a [u8],
+    count: u64,
+}
+
+impl<'a> Model for JournalLines<'a> {
+    ghost use Rattle.std.specs.Prelude.{◌+◌, ◌<◌, ◌^◌, length};
+    ghost use Rattle.ilp_journal_text.specs.Reading.{Unread};
+
+    ghost Value = { Unread };
+
+    ghost view = { λ t. record { rest = t.rest.now; count = t.count } };
+
+    // An entry has more than one octet.
+    ghost invariant = { λ t. t.count + length t.rest.now < 2 ^ 63 };
+}
+
+impl<'a> JournalLines<'a> {
+    /// Begins to read lines, of which there may be none.
+    pub fn begin(text: &'a [u8]) -> JournalLines<'a>
+        ensures { result ≡ unread text.now }
+    {
+        JournalLines {
+            rest: text,
+            count: 0,
+        }
+    }
+
+    /// The next entry, by the names of peers in the configuration, and `None` behind the last line.
+    /// The key of a credit lies on the heap of the configuration.
+    ///
+    /// `BadLine` names the first bad line, counted from 1 within these lines: the next one. A last line
+    /// without its end is bad. `Memory` may come in place of any answer but `None`, where memory for a
+    /// key was denied. After `None` and after a refusal what is left is as before.
+    pub fn next(&mut self, config: &Config) -> Result<Option<Entry>, TextFault>
+        ensures entry { IfOk result (λ next.
+            IfSome next (λ entry. Takes config.now entry self.old self.new)) }
+        ensures end { IfOk result (λ next. IsNone next → IsAllRead self.old) }
+        ensures err { IfErr result (ExplainsNext config.now self.old) }
+        ensures ended { IfOk result (λ next. IsNone next → self.new ≡ self.old) }
+        ensures unchanged { OnErr result (self.new ≡ self.old) }
+    {
+        if self.rest.is_empty() {
+            return Ok(None);
+        }
+        match take_entry(config, self.rest) {
+            Ok((entry, rest)) => {
+                self.rest = rest;
+                self.count += 1;
+                Ok(Some(entry))
+            }
+            Err(LineFault::Bad) => Err(TextFault::BadLine {
+                line: self.count + 1,
             }),
             Err(LineFault::Memory) => Err(TextFault::Memory),
         }

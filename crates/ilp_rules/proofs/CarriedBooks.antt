@@ -73,7 +73,7 @@ each_front P before [] (suc n) each = tt
 each_front P before (x ∷ xs) (suc n) each = (each.0, each_front P (before ++ x ∷ []) xs n each.1)
 
 -- the front of a lawful journal is lawful
-lawful_front : (book : PlainBook) (n : ℕ) → IsLawful book → IsLawful (with_entries book (take n book.entries))
+pub lawful_front : (book : PlainBook) (n : ℕ) → IsLawful book → IsLawful (with_entries book (take n book.entries))
 lawful_front book n lawful = record {
   rules = each_front (KeepsRuleOf book) [] book.entries n lawful.rules;
   moments = each_front IsInTime [] book.entries n lawful.moments;

@@ -13,4 +13,5 @@ mod CarriedParts
 mod TakingUp
 mod CarriedBooks
 pub mod Saved
+mod Recovered
 mod KeptOnce

@@ -1,6 +1,7 @@
 -- The text of a lawful book is carried over.
-use Rattle.std.proofs.Common.{◌≡◌, ℕ, suc, ◌+◌, ◌<◌, ℤ, pos, [], ◌∷◌, ◌++◌, length, refl, arith}
-use Rattle.std.specs.Prelude.{◌≤ℤ◌, ◌<ℤ◌, All}
+use Rattle.std.proofs.Common.{◌≡◌, ℕ, suc, ◌+◌, ◌^◌, ◌<◌, ℤ, pos, negsuc, [], ◌∷◌, ◌++◌, length, refl, arith}
+use Rattle.std.specs.Prelude.{◌≤ℤ◌, ◌<ℤ◌, All, FitsSigned}
+use Rattle.std.specs.Int.{w64}
 use Rattle.std.proofs.lemmas.Int.{ints}
 use Rattle.std.proofs.lemmas.List.Elements.{All-nil, All-cons}
 use Rattle.ilp_accounts.specs.Configuration.{Configuration}
@@ -24,11 +25,15 @@ use Rattle.ilp_rules.proofs.Rebasing.{lawful_behind}
 -- an entry that keeps its rule can stand in a text
 can_stand : (C : Configuration) (base : ℕ) (before : Entries) (e : Entry) → KeepsRule C base before e.moment e.what → IsInTime before e → IsTyped e → CanStand C e
 can_stand C base before e keeps timely typed = record {
-  moment = (timely.first, typed.moment);
+  moment = (timely.first, below e.moment typed.moment);
   actor = typed.actor;
   what = of e.what keeps typed.what;
 }
   where
+    below : (z : ℤ) → FitsSigned w64 z → z <ℤ pos (2 ^ 63)
+    below (pos n) fits = omega (arith, ints, fits.sfits)
+    below (negsuc n) fits = omega (arith, ints)
+
     behind : (m d : ℤ) → pos 0 ≤ℤ m → m <ℤ d → pos 0 ≤ℤ d
     behind m d first later = omega (arith, ints)
 
@@ -39,7 +44,7 @@ can_stand C base before e keeps timely typed = record {
       amount = typed.amount;
       fee = typed.fee;
       out = typed.out;
-      deadline = (behind e.moment h.deadline timely.first rule.begins, typed.deadline);
+      deadline = (behind e.moment h.deadline timely.first rule.begins, below h.deadline typed.deadline);
       condition = typed.condition;
     }
     of (what.Fulfilled hold preimage) rule typed = typed
@@ -50,7 +55,7 @@ can_stand C base before e keeps timely typed = record {
     of (what.Undone ask) rule typed = typed
 
 -- and so can all of them
-all_stand : (book : PlainBook) (before es : Entries) → EachAfter (KeepsRuleOf book) before es → EachAfter IsInTime before es → All IsTyped es → All (CanStand book.config) es
+pub all_stand : (book : PlainBook) (before es : Entries) → EachAfter (KeepsRuleOf book) before es → EachAfter IsInTime before es → All IsTyped es → All (CanStand book.config) es
 all_stand book before [] rules moments typed = All-nil (CanStand book.config)
 all_stand book before (e ∷ es) rules moments typed =
     All-cons (CanStand book.config) e es

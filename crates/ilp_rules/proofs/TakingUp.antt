@@ -1,10 +1,10 @@
--- The entries of a text are taken up one by one.
-use Rattle.std.proofs.Common.{◌≡◌, ℕ, ◌+◌, ◌^◌, ◌<◌, ◌≤◌, Bool, true, false, cond, Option, Some, List, [], ◌∷◌, ◌++◌, length, take, refl, sym, ap, ◌∙◌, subst, arith, length-append}
+-- Entries are taken up one by one.
+use Rattle.std.proofs.Common.{◌≡◌, ℕ, ◌+◌, ◌^◌, ◌<◌, ◌≤◌, Bool, true, false, cond, Option, Some, List, [], ◌∷◌, ◌++◌, length, take, refl, sym, ap, ◌∙◌, subst, arith, append_assoc, length-append}
 use Rattle.std.specs.Prelude.{Result, Ok, Err, IfErr, OnOk, OnErr, IfSome, IsSomeAnd, slice_get, ◌==◌}
 use Rattle.std.specs.Result.{is_ok}
 use Rattle.std.proofs.lemmas.Bool.{eqb-true, eq-eqb}
 use Rattle.std.proofs.Math.Seq.{take-length, take-append_seam}
-use Rattle.std.proofs.lemmas.List.{take-append-le, length-take-le}
+use Rattle.std.proofs.lemmas.List.{append-nil, take-append-le, length-take-le}
 use Rattle.ilp_accounts.specs.Configuration.{Configuration}
 use Rattle.ilp_accounts.specs.Valid.{IsValid}
 use Rattle.ilp_journal.specs.declared.entry.Entry.{Entry}
@@ -12,40 +12,26 @@ use Rattle.ilp_journal.specs.Journal.{Entries}
 use Rattle.ilp_order.proofs.Sums.{slice_get-push}
 use Rattle.ilp_journal_text.specs.declared.reading.TextFault.{TextFault}
 use Rattle.ilp_journal_text.specs.declared.reading.TextFault.TheVariants as text_fault
-use Rattle.ilp_journal_text.specs.Reading.{Unread, Begins, Takes, IsAtEnd, HasRead, Explains, LacksFirstLine, IsTextOf}
+use Rattle.ilp_journal_text.specs.Reading.{Unread, Begins, Takes, IsAtEnd, HasRead, Explains, LacksFirstLine, IsTextOf, IsFirstBadLine, IsAllRead, HasReadLines, ExplainsNext, unread, AreLinesOf, IsFirstBadEntryLine}
 use Rattle.ilp_journal_text.proofs.Read.{has_begun, has_taken, has_ended}
 use Rattle.ilp_journal_text.proofs.FirstBad.{first_bad, lacks_first}
-use Rattle.ilp_rules.specs.declared.fault.CarryFault.{CarryFault}
-use Rattle.ilp_rules.specs.declared.fault.CarryFault.TheVariants.{BadJournalText, Unlawful, Memory}
+use Rattle.ilp_journal_text.proofs.EntryLines.{none_read, one_read, all_read, bad_next}
+use Rattle.ilp_rules.specs.declared.fault.Stop.{Stop}
+use Rattle.ilp_rules.specs.declared.fault.Stop.TheVariants.{Unlawful, Memory}
+use Rattle.ilp_rules.specs.declared.rule.BrokenRule.{BrokenRule}
 use Rattle.ilp_rules.specs.Broken.{Breaks}
 use Rattle.ilp_rules.specs.Book.{PlainBook, with_entries, pushed}
 use Rattle.ilp_rules.specs.Carried.{begun_with}
-use Rattle.ilp_rules.specs.Carry.{of_text, IsWhyNotCarried}
+use Rattle.ilp_rules.specs.Carry.{IsFirstUnlawful}
 use Rattle.ilp_rules.specs.Judging.{behind_all, carrying}
 use Rattle.ilp_rules.specs.Lawful.{IsLawful}
-use Rattle.ilp_rules.specs.TakenUp.{StopsAt, HasStopped}
+use Rattle.ilp_rules.specs.TakenUp.{StopsAt, HasStopped, AreTakenUp, NamesLine}
 use Rattle.ilp_rules.proofs.Rebasing.{lawful_behind}
 
--- the book after these entries, or why it isn't
-abbrev pub Stands : Configuration → Entries → PlainBook → Result Unit CarryFault → Type 0
-Stands C entries now (Ok u) = now ≡ with_entries (carrying C) entries
-Stands C entries now (Err fault) = HasStopped C entries fault
-
--- the entries of a text that were read, and the book that came of them
-pub record IsTakingUp (C : Configuration) (text : List ℕ) (lines : Unread) (lawful : Result Unit CarryFault) (now : PlainBook) : Type 0 where
-  pub entries : Entries
-  pub read : HasRead C text entries lines
-  pub config : now.config ≡ C
-  pub state : Stands C entries now lawful
-
--- the first line was read
-pub taking_up : (C : Configuration) (text : List ℕ) (lines : Unread) (u : Unit) (now : PlainBook) → now ≡ carrying C → Begins text lines → IsTakingUp C text lines (Ok u) now
-taking_up C text lines u now is begins = record {
-  entries = [];
-  read = has_begun C text lines begins;
-  config = ap (λ (b : PlainBook). b.config) is;
-  state = is;
-}
+-- the configuration is that of the book
+pub config_of : (C : Configuration) (es : Entries) (book : PlainBook) (taken : Result Unit Stop) → AreTakenUp C es book taken → book.config ≡ C
+config_of C es book (Ok u) is = ap (λ (b : PlainBook). b.config) is
+config_of C es book (Err stop) stopped = stopped.0
 
 -- ---- one more entry
 
@@ -61,129 +47,149 @@ at_last : (j : Entries) (e : Entry) (n : ℕ) → n ≡ length j → slice_get (
 at_last j e n number = slice_get-push j e n ∙ ap (λ b. cond b (Some e) (slice_get j n)) (eq-eqb n (length j) number)
 
 -- one that came after the last lawful one
-pub passed_over : (C : Configuration) (text : List ℕ) (lines after : Unread) (fault : CarryFault) (now : PlainBook) (e : Entry) → IsTakingUp C text lines (Err fault) now → Takes C e lines after
-    → IsTakingUp C text after (Err fault) now
-passed_over C text lines after fault now e so_far takes = record {
-  entries = so_far.entries ++ e ∷ [];
-  read = has_taken C text so_far.entries e lines after so_far.read takes;
-  config = so_far.config;
-  state = still fault so_far.state;
-}
+passed_over : (C : Configuration) (j : Entries) (book : PlainBook) (stop : Stop) (e : Entry) → AreTakenUp C j book (Err stop) → AreTakenUp C (j ++ e ∷ []) book (Err stop)
+passed_over C j book stop e so_far = (so_far.0, still stop so_far.1)
   where
-    front : (n : ℕ) → n ≤ length so_far.entries → take n (so_far.entries ++ e ∷ []) ≡ take n so_far.entries
-    front n within = take-append-le n so_far.entries (e ∷ []) within
+    front : (n : ℕ) → n ≤ length j → take n (j ++ e ∷ []) ≡ take n j
+    front n within = take-append-le n j (e ∷ []) within
 
-    still : (f : CarryFault) → HasStopped C so_far.entries f → HasStopped C (so_far.entries ++ e ∷ []) f
-    still (BadJournalText line) stopped = absurd stopped
+    still : (s : Stop) → HasStopped C j s → HasStopped C (j ++ e ∷ []) s
     still (Unlawful n rule) stopped = record {
-      within = omega (arith, stopped.within, length-append so_far.entries (e ∷ []));
+      within = omega (arith, stopped.within, length-append j (e ∷ []));
       below = stopped.below;
       lawful = subst (λ es. IsLawful (with_entries (carrying C) es)) (sym (front n (omega (arith, stopped.within)))) stopped.lawful;
       unlawful = λ lawful. stopped.unlawful (subst (λ es. IsLawful (with_entries (carrying C) es)) (front (n + 1) (omega (arith, stopped.within))) lawful);
       broken =
           let P : Option Entry → Entries → Type 0 = λ o es. IsSomeAnd o (λ (d : Entry). Breaks C es d rule) in
-          subst (λ o. P o (take n (so_far.entries ++ e ∷ []))) (sym (in_front so_far.entries e n stopped.within)) (subst (P (slice_get so_far.entries n)) (sym (front n (omega (arith, stopped.within)))) stopped.broken);
+          subst (λ o. P o (take n (j ++ e ∷ []))) (sym (in_front j e n stopped.within)) (subst (P (slice_get j n)) (sym (front n (omega (arith, stopped.within)))) stopped.broken);
     }
     still Memory stopped = tt
 
--- one that was taken up
-pub one_more : (C : Configuration) (text : List ℕ) (lines after : Unread) (u v : Unit) (now new : PlainBook) (e : Entry) → IsTakingUp C text lines (Ok u) now → Takes C e lines after
-    → new ≡ pushed now e → IsTakingUp C text after (Ok v) new
-one_more C text lines after u v now new e so_far takes is = record {
-  entries = so_far.entries ++ e ∷ [];
-  read = has_taken C text so_far.entries e lines after so_far.read takes;
-  config = ap (λ (b : PlainBook). b.config) is ∙ so_far.config;
-  state = is ∙ ap (λ (b : PlainBook). pushed b e) so_far.state;
-}
-
 -- one that may not come next, or for which memory is short
-pub stopped_here : (C : Configuration) (text : List ℕ) (lines after : Unread) (u : Unit) (fault : CarryFault) (now new : PlainBook) (e : Entry) → IsTakingUp C text lines (Ok u) now → Takes C e lines after
-    → StopsAt now e fault → new ≡ now → IsTakingUp C text after (Err fault) new
-stopped_here C text lines after u fault now new e so_far takes stops same = record {
-  entries = so_far.entries ++ e ∷ [];
-  read = has_taken C text so_far.entries e lines after so_far.read takes;
-  config = ap (λ (b : PlainBook). b.config) same ∙ so_far.config;
-  state = halted fault stops;
-}
+stopped_here : (C : Configuration) (j : Entries) (u : Unit) (stop : Stop) (book new : PlainBook) (e : Entry) → AreTakenUp C j book (Ok u) → StopsAt book e stop → new ≡ book
+    → AreTakenUp C (j ++ e ∷ []) new (Err stop)
+stopped_here C j u stop book new e so_far stops same = (ap (λ (b : PlainBook). b.config) (same ∙ so_far), halted stop stops)
   where
-    j : Entries
-    j = so_far.entries
-
-    halted : (f : CarryFault) → StopsAt now e f → HasStopped C (j ++ e ∷ []) f
-    halted (BadJournalText line) stops = absurd stops
+    halted : (s : Stop) → StopsAt book e s → HasStopped C (j ++ e ∷ []) s
     halted (Unlawful n rule) stops =
-        let number : n ≡ length j = stops.number ∙ ap (λ (b : PlainBook). length b.entries) so_far.state in
+        let number : n ≡ length j = stops.number ∙ ap (λ (b : PlainBook). length b.entries) so_far in
         let front : take n (j ++ e ∷ []) ≡ j = ap (λ k. take k (j ++ e ∷ [])) number ∙ take-append_seam j (e ∷ []) in
         let longer : length (j ++ e ∷ []) ≡ length j + 1 = length-append j (e ∷ []) in
         let whole : take (n + 1) (j ++ e ∷ []) ≡ j ++ e ∷ [] = ap (λ k. take k (j ++ e ∷ [])) (omega (arith, number, longer)) ∙ take-length (j ++ e ∷ []) in
         record {
           within = omega (arith, number, longer);
           below = stops.below;
-          lawful = subst (λ es. IsLawful (with_entries (carrying C) es)) (sym front) (subst IsLawful so_far.state stops.lawful);
-          unlawful = λ lawful. stops.unlawful (subst (λ (b : PlainBook). IsLawful (pushed b e)) (sym so_far.state) (subst (λ es. IsLawful (with_entries (carrying C) es)) whole lawful));
+          lawful = subst (λ es. IsLawful (with_entries (carrying C) es)) (sym front) (subst IsLawful so_far stops.lawful);
+          unlawful = λ lawful. stops.unlawful (subst (λ (b : PlainBook). IsLawful (pushed b e)) (sym so_far) (subst (λ es. IsLawful (with_entries (carrying C) es)) whole lawful));
           broken =
               let P : Option Entry → Entries → Type 0 = λ o es. IsSomeAnd o (λ (d : Entry). Breaks C es d rule) in
-              subst (λ o. P o (take n (j ++ e ∷ []))) (sym (at_last j e n number)) (subst (P (Some e)) (sym front) (subst (λ (b : PlainBook). Breaks b.config b.entries e rule) so_far.state stops.broken));
+              subst (λ o. P o (take n (j ++ e ∷ []))) (sym (at_last j e n number)) (subst (P (Some e)) (sym front) (subst (λ (b : PlainBook). Breaks b.config b.entries e rule) so_far stops.broken));
         }
     halted Memory stops = tt
 
--- whichever it is
-pub went_on : (C : Configuration) (text : List ℕ) (lines after : Unread) (lawful result : Result Unit CarryFault) (now new : PlainBook) (e : Entry) → IsTakingUp C text lines lawful now → Takes C e lines after
-    → true ≡ is_ok lawful → OnOk result (new ≡ pushed now e) → IfErr result (StopsAt now e) → OnErr result (new ≡ now) → IsTakingUp C text after result new
-went_on C text lines after (Ok u) (Ok v) now new e so_far takes good ok err same = one_more C text lines after u v now new e so_far takes ok
-went_on C text lines after (Ok u) (Err fault) now new e so_far takes good ok err same = stopped_here C text lines after u fault now new e so_far takes err same
-went_on C text lines after (Err fault) result now new e so_far takes good ok err same = absurd cc
+-- one that comes next, whether it is taken up or not
+pub went_on : (C : Configuration) (j : Entries) (taken result : Result Unit Stop) (book new : PlainBook) (e : Entry) → AreTakenUp C j book taken
+    → true ≡ is_ok taken → OnOk result (new ≡ pushed book e) → IfErr result (StopsAt book e) → OnErr result (new ≡ book) → AreTakenUp C (j ++ e ∷ []) new result
+went_on C j (Ok u) (Ok v) book new e so_far good ok err same = ok ∙ ap (λ (b : PlainBook). pushed b e) so_far
+went_on C j (Ok u) (Err stop) book new e so_far good ok err same = stopped_here C j u stop book new e so_far err same
+went_on C j (Err stop) result book new e so_far good ok err same = absurd cc
 
-pub went_past : (C : Configuration) (text : List ℕ) (lines after : Unread) (lawful : Result Unit CarryFault) (now : PlainBook) (e : Entry) → IsTakingUp C text lines lawful now → Takes C e lines after
-    → false ≡ is_ok lawful → IsTakingUp C text after lawful now
-went_past C text lines after (Ok u) now e so_far takes bad = absurd cc
-went_past C text lines after (Err fault) now e so_far takes bad = passed_over C text lines after fault now e so_far takes
+-- one that is passed over
+pub went_past : (C : Configuration) (j : Entries) (taken : Result Unit Stop) (book : PlainBook) (e : Entry) → AreTakenUp C j book taken → false ≡ is_ok taken → AreTakenUp C (j ++ e ∷ []) book taken
+went_past C j (Ok u) book e so_far bad = absurd cc
+went_past C j (Err stop) book e so_far bad = passed_over C j book stop e so_far
 
--- what was taken, where something was
-pub taken_next : (C D : Configuration) (o : Option Entry) (lines after : Unread) (e : Entry) → IfSome o (λ d. Takes D d lines after) → o ≡ Some e → D ≡ C → Takes C e lines after
-taken_next C D o lines after e takes is same = subst (λ X. Takes X e lines after) same (subst (λ x. IfSome x (λ d. Takes D d lines after)) is takes)
+-- ---- reading on
 
--- ---- the end of the text
+-- behind others these entries were read, and what came of all
+pub record IsTakingUp (HasCome : Entries → Unread → Type 0) (C : Configuration) (before : Entries) (lines : Unread) (book : PlainBook) (taken : Result Unit Stop) : Type 0 where
+  pub entries : Entries
+  pub read : HasCome entries lines
+  pub state : AreTakenUp C (before ++ entries) book taken
 
--- all entries were taken up
-pub taken_up : (C : Configuration) (text : List ℕ) (lines : Unread) (u : Unit) (now : PlainBook) → IsTakingUp C text lines (Ok u) now → IsAtEnd lines → IsTextOf C now.entries text
-taken_up C text lines u now so_far ends =
-    subst (λ (b : PlainBook). IsTextOf C b.entries text) (sym so_far.state) (has_ended C text so_far.entries lines so_far.read ends)
+-- nothing was read yet
+pub none_came : (HasCome : Entries → Unread → Type 0) (C : Configuration) (before : Entries) (lines : Unread) (book : PlainBook) (taken : Result Unit Stop) → HasCome [] lines → AreTakenUp C before book taken
+    → IsTakingUp HasCome C before lines book taken
+none_came HasCome C before lines book taken begins state = record { entries = []; read = begins; state = subst (λ es. AreTakenUp C es book taken) (sym (append-nil before)) state }
 
-pub all_taken_up : (C : Configuration) (text : List ℕ) (lines : Unread) (u : Unit) (now : PlainBook) → IsTakingUp C text lines (Ok u) now → now ≡ with_entries (carrying C) now.entries
-all_taken_up C text lines u now so_far = so_far.state ∙ ap (λ (b : PlainBook). with_entries (carrying C) b.entries) (sym so_far.state)
+-- one more was read
+one_came : (HasCome : Entries → Unread → Type 0) (C D : Configuration) (before : Entries) (lines after : Unread) (book new : PlainBook) (taken result : Result Unit Stop) (o : Option Entry) (e : Entry)
+    → ((j : Entries) → HasCome j lines → Takes C e lines after → HasCome (j ++ e ∷ []) after) → IsTakingUp HasCome C before lines book taken
+    → IfSome o (λ d. Takes D d lines after) → o ≡ Some e → D ≡ book.config
+    → ((j : Entries) → AreTakenUp C j book taken → AreTakenUp C (j ++ e ∷ []) new result) → IsTakingUp HasCome C before after new result
+one_came HasCome C D before lines after book new taken result o e more so_far takes is same goes = record {
+  entries = so_far.entries ++ e ∷ [];
+  read =
+      let config : D ≡ C = same ∙ config_of C (before ++ so_far.entries) book taken so_far.state in
+      more so_far.entries so_far.read (subst (λ X. Takes X e lines after) config (subst (λ x. IfSome x (λ d. Takes D d lines after)) is takes));
+  state = subst (λ es. AreTakenUp C es new result) (append_assoc before so_far.entries (e ∷ [])) (goes (before ++ so_far.entries) so_far.state);
+}
 
--- or not all
-pub not_taken_up : (C : Configuration) (text : List ℕ) (lines : Unread) (fault : CarryFault) (now : PlainBook) → IsTakingUp C text lines (Err fault) now → IsAtEnd lines → IsWhyNotCarried C text fault
-not_taken_up C text lines fault now so_far ends = of fault so_far.state
-  where
-    j : Entries
-    j = so_far.entries
+-- ---- a text
 
-    of : (f : CarryFault) → HasStopped C j f → IsWhyNotCarried C text f
-    of (BadJournalText line) stopped = absurd stopped
-    of (Unlawful n rule) stopped = (
-      j,
-      has_ended C text j lines so_far.read ends,
-      record {
-        within = stopped.within;
-        lawful = lawful_behind (with_entries (carrying C) (take n j)) (length j) (omega (arith, length-take-le n j (omega (arith, stopped.within)), stopped.within)) stopped.lawful;
-        unlawful = λ lawful. stopped.unlawful (lawful_behind (with_entries (begun_with C j) (take (n + 1) j)) behind_all (omega (arith, length-take-le (n + 1) j (omega (arith, stopped.within)), stopped.below)) lawful);
-        broken = stopped.broken;
-      },
-    )
-    of Memory stopped = tt
+module _ (C : Configuration) (before : Entries) (text : List ℕ) where
+  pub text_begins : (lines : Unread) (book : PlainBook) (taken : Result Unit Stop) → Begins text lines → AreTakenUp C before book taken → IsTakingUp (HasRead C text) C before lines book taken
+  text_begins lines book taken begins state = none_came (HasRead C text) C before lines book taken (has_begun C text lines begins) state
 
-pub told_why : (C : Configuration) (text : List ℕ) (lines : Unread) (lawful : Result Unit CarryFault) (now : PlainBook) → IsTakingUp C text lines lawful now → IsAtEnd lines → IfErr lawful (IsWhyNotCarried C text)
-told_why C text lines (Ok u) now so_far ends = tt
-told_why C text lines (Err fault) now so_far ends = not_taken_up C text lines fault now so_far ends
+  pub text_goes_on : (D : Configuration) (lines after : Unread) (book new : PlainBook) (taken result : Result Unit Stop) (o : Option Entry) (e : Entry) → IsTakingUp (HasRead C text) C before lines book taken
+      → IfSome o (λ d. Takes D d lines after) → o ≡ Some e → D ≡ book.config → ((j : Entries) → AreTakenUp C j book taken → AreTakenUp C (j ++ e ∷ []) new result)
+      → IsTakingUp (HasRead C text) C before after new result
+  text_goes_on D lines after book new taken result o e so_far takes is same goes =
+      one_came (HasRead C text) C D before lines after book new taken result o e (λ j read takes. has_taken C text j e lines after read takes) so_far takes is same goes
 
--- a bad line is told wherever it comes
-pub bad_line : (C : Configuration) (text : List ℕ) (lines : Unread) (lawful : Result Unit CarryFault) (now : PlainBook) (fault : TextFault) → IsValid C → length text < 2 ^ 64 → IsTakingUp C text lines lawful now
-    → Explains C lines fault → IsWhyNotCarried C text (of_text fault)
-bad_line C text lines lawful now (text_fault.BadLine line) valid fits so_far bad = first_bad C valid text so_far.entries lines so_far.read fits line bad
-bad_line C text lines lawful now text_fault.Memory valid fits so_far bad = tt
+  -- at its end all of its entries came
+  pub text_ends : (lines : Unread) (book : PlainBook) (taken : Result Unit Stop) → IsTakingUp (HasRead C text) C before lines book taken → IsAtEnd lines
+      → (j : Entries) × IsTextOf C j text × AreTakenUp C (before ++ j) book taken
+  text_ends lines book taken so_far ends = (so_far.entries, has_ended C text so_far.entries lines so_far.read ends, so_far.state)
 
--- also where it is the first line
-pub bad_first_line : (C : Configuration) (text : List ℕ) (fault : TextFault) → LacksFirstLine text → fault ≡ text_fault.BadLine 1 → IsWhyNotCarried C text (of_text fault)
-bad_first_line C text fault lacks is = subst (λ f. IsWhyNotCarried C text (of_text f)) (sym is) (lacks_first C text lacks)
+  -- a bad line is told wherever it comes
+  pub text_is_bad : (D : Configuration) (lines : Unread) (book : PlainBook) (taken : Result Unit Stop) (fault : TextFault) → IsValid D → length text < 2 ^ 64 → IsTakingUp (HasRead C text) C before lines book taken
+      → D ≡ book.config → Explains D lines fault → NamesLine (IsFirstBadLine C text) fault
+  text_is_bad D lines book taken fault valid fits so_far same explains =
+      let config : D ≡ C = same ∙ config_of C (before ++ so_far.entries) book taken so_far.state in
+      of fault (subst IsValid config valid) (subst (λ X. Explains X lines fault) config explains)
+    where
+      of : (f : TextFault) → IsValid C → Explains C lines f → NamesLine (IsFirstBadLine C text) f
+      of (text_fault.BadLine line) valid bad = first_bad C valid text so_far.entries lines so_far.read fits line bad
+      of text_fault.Memory valid bad = tt
+
+  -- also where it is the first line
+  pub first_line_is_bad : (fault : TextFault) → LacksFirstLine text → fault ≡ text_fault.BadLine 1 → NamesLine (IsFirstBadLine C text) fault
+  first_line_is_bad fault lacks is = subst (NamesLine (IsFirstBadLine C text)) (sym is) (lacks_first C text lacks)
+
+  -- ---- lines that were logged
+
+  pub lines_begin : (lines : Unread) (book : PlainBook) (taken : Result Unit Stop) → lines ≡ unread text → AreTakenUp C before book taken → IsTakingUp (HasReadLines C text) C before lines book taken
+  lines_begin lines book taken is state = none_came (HasReadLines C text) C before lines book taken (subst (HasReadLines C text []) (sym is) (none_read C text)) state
+
+  pub lines_go_on : (D : Configuration) (lines after : Unread) (book new : PlainBook) (taken result : Result Unit Stop) (o : Option Entry) (e : Entry) → IsTakingUp (HasReadLines C text) C before lines book taken
+      → IfSome o (λ d. Takes D d lines after) → o ≡ Some e → D ≡ book.config → ((j : Entries) → AreTakenUp C j book taken → AreTakenUp C (j ++ e ∷ []) new result)
+      → IsTakingUp (HasReadLines C text) C before after new result
+  lines_go_on D lines after book new taken result o e so_far takes is same goes =
+      one_came (HasReadLines C text) C D before lines after book new taken result o e (λ j read takes. one_read C text j e lines after read takes) so_far takes is same goes
+
+  -- behind the last line all entries came
+  pub lines_end : (lines : Unread) (book : PlainBook) (taken : Result Unit Stop) → IsTakingUp (HasReadLines C text) C before lines book taken → IsAllRead lines
+      → (j : Entries) × AreLinesOf C j text × AreTakenUp C (before ++ j) book taken
+  lines_end lines book taken so_far ends = (so_far.entries, all_read C text so_far.entries lines so_far.read ends, so_far.state)
+
+  -- a bad line is told wherever it comes
+  pub line_is_bad : (D : Configuration) (lines : Unread) (book : PlainBook) (taken : Result Unit Stop) (fault : TextFault) → IsTakingUp (HasReadLines C text) C before lines book taken
+      → D ≡ book.config → ExplainsNext D lines fault → NamesLine (IsFirstBadEntryLine C text) fault
+  line_is_bad D lines book taken fault so_far same explains =
+      of fault (subst (λ X. ExplainsNext X lines fault) (same ∙ config_of C (before ++ so_far.entries) book taken so_far.state) explains)
+    where
+      of : (f : TextFault) → ExplainsNext C lines f → NamesLine (IsFirstBadEntryLine C text) f
+      of (text_fault.BadLine line) bad = bad_next C text so_far.entries lines line so_far.read bad
+      of text_fault.Memory bad = tt
+
+-- ---- why not all were taken up
+
+-- the first unlawful entry is one by the base of a book of all of them
+pub first_unlawful : (C : Configuration) (j : Entries) (n : ℕ) (rule : BrokenRule) → HasStopped C j (Unlawful n rule) → IsFirstUnlawful C j n rule
+first_unlawful C j n rule stopped = record {
+  within = stopped.within;
+  lawful = lawful_behind (with_entries (carrying C) (take n j)) (length j) (omega (arith, length-take-le n j (omega (arith, stopped.within)), stopped.within)) stopped.lawful;
+  unlawful = λ lawful. stopped.unlawful (lawful_behind (with_entries (begun_with C j) (take (n + 1) j)) behind_all (omega (arith, length-take-le (n + 1) j (omega (arith, stopped.within)), stopped.below)) lawful);
+  broken = stopped.broken;
+}

@@ -4,8 +4,6 @@ use Rattle.ilp_accounts.specs.Configuration.{Configuration}
 use Rattle.ilp_journal.specs.declared.entry.Entry.{Entry}
 use Rattle.ilp_journal.specs.Journal.{Entries}
 use Rattle.ilp_journal_text.specs.Reading.{IsTextOf, IsFirstBadLine}
-use Rattle.ilp_journal_text.specs.declared.reading.TextFault.{TextFault}
-use Rattle.ilp_journal_text.specs.declared.reading.TextFault.TheVariants as text_fault
 use Rattle.ilp_rules.specs.declared.fault.CarryFault.{CarryFault}
 use Rattle.ilp_rules.specs.declared.fault.CarryFault.TheVariants.{BadJournalText, Unlawful, Memory}
 use Rattle.ilp_rules.specs.declared.rule.BrokenRule.{BrokenRule}
@@ -13,11 +11,6 @@ use Rattle.ilp_rules.specs.Broken.{Breaks}
 use Rattle.ilp_rules.specs.Book.{PlainBook, with_entries}
 use Rattle.ilp_rules.specs.Carried.{begun_with, carried}
 use Rattle.ilp_rules.specs.Lawful.{IsLawful}
-
--- a fault of a text as one of what isn't carried over
-abbrev pub of_text : TextFault → CarryFault
-of_text (text_fault.BadLine line) = BadJournalText line
-of_text text_fault.Memory = Memory
 
 -- The text is that of a lawful journal, in which holds may be open, and this is the book that begins with it.
 pub record IsCarriedOver (C : Configuration) (text : List ℕ) (now : ℤ) (book : PlainBook) : Type 0 where

@@ -8,6 +8,7 @@ pub mod Judging
 pub mod Broken
 pub mod Carried
 pub mod Carry
+pub mod Recover
 pub mod TakenUp
 pub use Rattle.ilp_order.specs.Places
 pub use Rattle.ilp_assets.specs.Quote

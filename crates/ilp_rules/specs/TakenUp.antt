@@ -1,10 +1,12 @@
--- How far the entries of a text were taken up. No public clause cites these words.
-use Rattle.std.specs.Prelude.{◌≡◌, ℕ, ◌+◌, ◌<◌, length, take, slice_get, IsSomeAnd, ⊤}
+-- How far entries were taken up. No public clause cites these words.
+use Rattle.std.specs.Prelude.{◌≡◌, ℕ, ◌+◌, ◌<◌, length, take, slice_get, Result, Ok, Err, IsSomeAnd, ⊤}
 use Rattle.ilp_accounts.specs.Configuration.{Configuration}
 use Rattle.ilp_journal.specs.declared.entry.Entry.{Entry}
 use Rattle.ilp_journal.specs.Journal.{Entries}
-use Rattle.ilp_rules.specs.declared.fault.CarryFault.{CarryFault}
-use Rattle.ilp_rules.specs.declared.fault.CarryFault.TheVariants.{BadJournalText, Unlawful, Memory}
+use Rattle.ilp_journal_text.specs.declared.reading.TextFault.{TextFault}
+use Rattle.ilp_journal_text.specs.declared.reading.TextFault.TheVariants as text_fault
+use Rattle.ilp_rules.specs.declared.fault.Stop.{Stop}
+use Rattle.ilp_rules.specs.declared.fault.Stop.TheVariants.{Unlawful, Memory}
 use Rattle.ilp_rules.specs.declared.rule.BrokenRule.{BrokenRule}
 use Rattle.ilp_rules.specs.Broken.{Breaks}
 use Rattle.ilp_rules.specs.Book.{PlainBook, with_entries, pushed}
@@ -20,8 +22,7 @@ pub record IsStop (book : PlainBook) (e : Entry) (n : ℕ) (rule : BrokenRule) :
   pub broken : Breaks book.config book.entries e rule
 
 -- why an entry isn't taken up
-abbrev pub StopsAt : PlainBook → Entry → CarryFault → Type 0
-StopsAt book e (BadJournalText line) = ⊥
+abbrev pub StopsAt : PlainBook → Entry → Stop → Type 0
 StopsAt book e (Unlawful n rule) = IsStop book e n rule
 StopsAt book e Memory = ⊤
 
@@ -34,7 +35,16 @@ pub record StopsBelow (C : Configuration) (entries : Entries) (n : ℕ) (rule : 
   pub broken : IsSomeAnd (slice_get entries n) (λ (e : Entry). Breaks C (take n entries) e rule)
 
 -- why not all entries were taken up
-abbrev pub HasStopped : Configuration → Entries → CarryFault → Type 0
-HasStopped C entries (BadJournalText line) = ⊥
+abbrev pub HasStopped : Configuration → Entries → Stop → Type 0
 HasStopped C entries (Unlawful n rule) = StopsBelow C entries n rule
 HasStopped C entries Memory = ⊤
+
+-- the book of these entries, or why it isn't
+abbrev pub AreTakenUp : Configuration → Entries → PlainBook → Result Unit Stop → Type 0
+AreTakenUp C entries book (Ok _) = book ≡ with_entries (carrying C) entries
+AreTakenUp C entries book (Err stop) = (book.config ≡ C) × HasStopped C entries stop
+
+-- a fault names a bad line, or is want of memory
+abbrev pub NamesLine : (ℕ → Type 0) → TextFault → Type 0
+NamesLine IsBad (text_fault.BadLine line) = IsBad line
+NamesLine IsBad text_fault.Memory = ⊤

@@ -3,9 +3,10 @@ ghost use Rattle.std.specs.Prelude.{◌≡◌, ℕ, None, IfOk, IfErr};
 ghost use Rattle.ilp_journal.specs.Journal.{open_hold_at};
 ghost use Rattle.ilp_rules.specs.Carried.{begun_with};
 ghost use Rattle.ilp_rules.specs.Carry.{IsCarriedOver, IsWhyNotCarried};
+ghost use Rattle.ilp_rules.specs.Recover.{IsRecovered, IsWhyNotRecovered};
 
-use crate::carrying::Carrying;
-use crate::fault::CarryFault;
+use crate::carrying::{Carrying, TakingUp};
+use crate::fault::{CarryFault, RecoverFault};
 use crate::tables::Tables;
 use ilp_accounts::Config;
 use ilp_journal::Journal;
@@ -59,8 +60,48 @@ impl<A: Allocator + Clone> Beginning<A> {
         ensures ok { IfOk result (IsCarriedOver config.now text.now now) }
         ensures err { IfErr result (IsWhyNotCarried config.now text.now) }
     {
-        let mut carrying = Carrying::new(alloc, config)?;
-        carrying.take_up_text(text)?;
+        match Beginning::recover(alloc, config, text, &[], now) {
+            Ok(beginning) => Ok(beginning),
+            Err(RecoverFault::BadJournalText { line }) => Err(CarryFault::BadJournalText { line }),
+            // Where there are no lines there is no bad one.
+            Err(RecoverFault::BadLogLine { .. }) => unreachable!(),
+            Err(RecoverFault::Unlawful { entry, rule }) => Err(CarryFault::Unlawful {
+                entry,
+                rule,
+            }),
+            Err(RecoverFault::Memory) => Err(CarryFault::Memory),
+        }
+    }
+
+    /// What a book begins with that goes on behind a crash: with the journal of which `saved` is the
+    /// text, and behind it the entries that were booked since, of which `logged` has the lines, as
+    /// `entry_line` of `ilp_journal_text` makes them. They are judged as one journal. Its open holds end
+    /// as those of `carry_over` do.
+    ///
+    /// The refusals come in the order of `RecoverFault`. A last line of what was logged is bad where it
+    /// lacks its end.
+    pub fn recover(
+        alloc: A,
+        config: &Config,
+        saved: &[u8],
+        logged: &[u8],
+        now: i64,
+    ) -> Result<Beginning<A>, RecoverFault>
+        ensures ok { IfOk result (IsRecovered config.now saved.now logged.now now) }
+        ensures err { IfErr result (IsWhyNotRecovered config.now saved.now logged.now) }
+    {
+        let mut taking = TakingUp::new(alloc, config)?;
+        if let Err(fault) = taking.take_text(saved) {
+            return Err(RecoverFault::of_saved(fault));
+        }
+        if let Err(fault) = taking.take_lines(logged) {
+            return Err(RecoverFault::of_logged(fault));
+        }
+        let TakingUp {
+            mut carrying,
+            taken,
+        } = taking;
+        taken?;
         carrying.end_holds(now);
         Ok(Beginning::begun_with(carrying))
     }

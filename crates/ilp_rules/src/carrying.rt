@@ -12,6 +12,7 @@ ghost use Rattle.ilp_rules.specs.Judging.{carrying};
 use crate::tables::Tables;
 use ilp_accounts::Config;
 use ilp_journal::{Entry, Journal};
+pub(crate) use reading::TakingUp;
 use std::alloc::{AllocError, Allocator};
 use std::marker::Model;
 

@@ -17,7 +17,7 @@ use crate::threads::{Acceptors, Shared, run};
 use crate::watching::Seen;
 use ilp_accounts::Config;
 use ilp_book::Book;
-use ilp_desk::{Closed, Desk, End, Naming, Share, gather};
+use ilp_desk::{Closed, Desk, End, EntryList, Naming, Share, gather};
 use ilp_http::Buffer;
 use ilp_intake::{Intake, IntakeHandle, MOST_WAITING, listen};
 use ilp_io::Sink;
@@ -97,7 +97,13 @@ where
 {
     let sides = open_sides(rt, config)?;
     let blanks = Blank::new(u64::from(config.workers()) + 2);
-    serve_desk::<Brand, R, L>(rt, config, book, blanks, links, sides)
+    let list = new_list(config)?;
+    serve_desk::<Brand, R, L>(rt, config, book, blanks, list, links, sides)
+}
+
+// What the entries of a desk are told to.
+fn new_list(config: &Config) -> Result<EntryList, Unprinted> {
+    Ok(EntryList::new(config.allocator())?)
 }
 
 // What takes connections in at both sides, and what reaches it.
@@ -181,6 +187,7 @@ fn serve_desk<J, R, L>(
     config: &Config,
     book: Book,
     blanks: Blank,
+    list: EntryList,
     links: &L,
     sides: Sides,
 ) -> Result<Book, ServeFault>
@@ -193,10 +200,11 @@ where
     requires opening { (book.entries ≡ J.desk.opening) × (book.base ≡ base_of J.desk) }
     requires ledger { (blanks.name ≡ J.name) × (blanks.parts ≡ J.parts) }
     requires parts { J.parts ≡ desk.actors_of J.desk }
+    requires list { list ≡ J.list }
     ensures { ClosesDesk J.desk result }
 {
     let workers = config.workers();
-    match Desk::<J>::open(config.allocator(), config, book, workers, blanks) {
+    match Desk::<J>::open(config.allocator(), config, book, workers, blanks, list) {
         Ok((desk, shares)) => {
             let ends = run_desk(rt, &desk, shares, links, sides);
             close_desk(desk, ends)
@@ -265,7 +273,7 @@ fn close_desk<J: Naming>(
 {
     match ends {
         Ok(ends) => match gather(desk, ends) {
-            Ok(Closed { book }) => Ok(book),
+            Ok(Closed { book }) => Ok(book.into_book()),
             Err(left) => Err(ServeFault::NotGathered(left.why)),
         },
         Err(why) => Err(ServeFault::Unprinted(why)),

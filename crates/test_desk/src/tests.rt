@@ -5,7 +5,7 @@ ghost use Rattle.ilp_desk.specs.Desk.{actors_of, base_of};
 
 use ilp_accounts::Config;
 use ilp_book::{Book, Outcome, PeerReply};
-use ilp_desk::{Desk, Naming, Share, WhyNoDesk};
+use ilp_desk::{Desk, EntryList, Naming, Share, WhyNoDesk};
 use ilp_io::Recording;
 use ilp_packet::Prepare;
 use ilp_report::{Snapshot, print};
@@ -201,14 +201,16 @@ fn book_at_once<J: Naming + Send + Sync, R: Threads + Wait + Abort + Sync>(
     book: Book,
     workers: u32,
     blanks: Blank,
+    list: EntryList,
 ) -> Option<usize>
     requires config { (config.now ≡ J.desk.config) × (book.config ≡ J.desk.config) }
     requires workers { workers ≡ J.desk.workers }
     requires opening { (book.entries ≡ J.desk.opening) × (book.base ≡ base_of J.desk) }
     requires ledger { (blanks.name ≡ J.name) × (blanks.parts ≡ J.parts) }
     requires parts { J.parts ≡ actors_of J.desk }
+    requires list { list ≡ J.list }
 {
-    match Desk::<J>::open(alloc, config, book, workers, blanks) {
+    match Desk::<J>::open(alloc, config, book, workers, blanks, list) {
         Ok((desk, shares)) => book_all(rt, &desk, shares).ok(),
         Err(_) => None,
     }
@@ -223,7 +225,8 @@ fn at_once<R: Threads + Wait + Abort + Sync>(
     let alloc = config.allocator();
     let book = Book::new(alloc, config)?;
     let blanks = Blank::new(u64::from(workers) + 2);
-    Ok(book_at_once::<Brand, R>(rt, alloc, config, book, workers, blanks))
+    let list = EntryList::new(alloc)?;
+    Ok(book_at_once::<Brand, R>(rt, alloc, config, book, workers, blanks, list))
 }
 
 #[test]
@@ -240,14 +243,16 @@ fn refused<J: Naming, A: Allocator>(
     book: Book,
     workers: u32,
     blanks: Blank,
+    list: EntryList,
 ) -> Option<WhyNoDesk>
     requires config { (config.now ≡ J.desk.config) × (book.config ≡ J.desk.config) }
     requires workers { workers ≡ J.desk.workers }
     requires opening { (book.entries ≡ J.desk.opening) × (book.base ≡ base_of J.desk) }
     requires ledger { (blanks.name ≡ J.name) × (blanks.parts ≡ J.parts) }
     requires parts { J.parts ≡ actors_of J.desk }
+    requires list { list ≡ J.list }
 {
-    match Desk::<J>::open(alloc, config, book, workers, blanks) {
+    match Desk::<J>::open(alloc, config, book, workers, blanks, list) {
         Ok(_) => None,
         Err(refused) => Some(refused.why),
     }
@@ -261,7 +266,8 @@ fn refusal<A: Allocator>(
 ) -> Result<Option<WhyNoDesk>, AllocError> {
     let book = Book::new(config.allocator(), config)?;
     let blanks = Blank::new(u64::from(workers) + 2);
-    Ok(refused::<Brand, A>(alloc, config, book, workers, blanks))
+    let list = EntryList::new(config.allocator())?;
+    Ok(refused::<Brand, A>(alloc, config, book, workers, blanks, list))
 }
 
 // Desks of 1 and of 64 workers open, those of 0 and of 65 don't.

@@ -6,7 +6,7 @@ ghost use Rattle.ilp_desk.specs.Desk.{actors_of, base_of};
 use crate::row::{journal_text_of, moments_of, said};
 use ilp_accounts::Config;
 use ilp_book::Book;
-use ilp_desk::{Desk, Naming, Share};
+use ilp_desk::{Desk, EntryList, Naming, Share};
 use std::marker::Brand;
 use std::rt::Files;
 use std::sync::ledger::Blank;
@@ -48,7 +48,8 @@ fn play_over<R: Print, P: Play<R>>(
 ) -> io::Result<()> {
     let book = book_of(config, lines)?;
     let blanks = Blank::new(u64::from(workers) + 2);
-    play_on::<Brand, R, P>(rt, config, book, workers, blanks, scene)
+    let list = EntryList::new(config.allocator())?;
+    play_on::<Brand, R, P>(rt, config, book, workers, blanks, list, scene)
 }
 
 // The book that these lines' journal is carried over as when the clock first tells. Without a journal it
@@ -75,6 +76,7 @@ fn play_on<J: Naming + Send + Sync, R: Print, P: Play<R>>(
     book: Book,
     workers: u32,
     blanks: Blank,
+    list: EntryList,
     scene: &P,
 ) -> io::Result<()>
     requires config { (config.now ≡ J.desk.config) × (book.config ≡ J.desk.config) }
@@ -82,8 +84,9 @@ fn play_on<J: Naming + Send + Sync, R: Print, P: Play<R>>(
     requires opening { (book.entries ≡ J.desk.opening) × (book.base ≡ base_of J.desk) }
     requires ledger { (blanks.name ≡ J.name) × (blanks.parts ≡ J.parts) }
     requires parts { J.parts ≡ actors_of J.desk }
+    requires list { list ≡ J.list }
 {
-    match Desk::<J>::open(config.allocator(), config, book, workers, blanks) {
+    match Desk::<J>::open(config.allocator(), config, book, workers, blanks, list) {
         Ok((desk, shares)) => scene.play(rt, desk, shares),
         Err(_) => println!(rt; "no desk"),
     }

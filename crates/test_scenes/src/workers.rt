@@ -20,7 +20,7 @@ use forwards::forward_one;
 use gathering::{Missing, close};
 use ilp_accounts::Config;
 use ilp_book::Book;
-use ilp_desk::{Desk, Naming, Share};
+use ilp_desk::{Desk, EntryList, Naming, Share};
 use many::forward_all;
 use memory::deny_each;
 use std::marker::Brand;
@@ -166,7 +166,8 @@ fn play_over<R: Print + Threads + Wait + Sync>(
 ) -> io::Result<()> {
     let book = Book::new(config.allocator(), config)?;
     let blanks = Blank::new(u64::from(scene.workers) + 2);
-    play_on::<Brand, R>(rt, config, book, scene.workers, blanks, scene)
+    let list = EntryList::new(config.allocator())?;
+    play_on::<Brand, R>(rt, config, book, scene.workers, blanks, list, scene)
 }
 
 // Opens a desk over this book, and plays the scene there. It stands apart from `opening`, since what is
@@ -177,6 +178,7 @@ fn play_on<J: Naming + Send + Sync, R: Print + Threads + Wait + Sync>(
     book: Book,
     workers: u32,
     blanks: Blank,
+    list: EntryList,
     scene: &Scene<'_>,
 ) -> io::Result<()>
     requires config { (config.now ≡ J.desk.config) × (book.config ≡ J.desk.config) }
@@ -184,8 +186,9 @@ fn play_on<J: Naming + Send + Sync, R: Print + Threads + Wait + Sync>(
     requires opening { (book.entries ≡ J.desk.opening) × (book.base ≡ base_of J.desk) }
     requires ledger { (blanks.name ≡ J.name) × (blanks.parts ≡ J.parts) }
     requires parts { J.parts ≡ actors_of J.desk }
+    requires list { list ≡ J.list }
 {
-    match Desk::<J>::open(config.allocator(), config, book, workers, blanks) {
+    match Desk::<J>::open(config.allocator(), config, book, workers, blanks, list) {
         Ok((desk, shares)) => scene.play(rt, desk, shares),
         Err(_) => println!(rt; "no desk"),
     }

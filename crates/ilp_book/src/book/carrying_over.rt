@@ -1,4 +1,4 @@
-//! A book that is carried over from one run of the connector to the next.
+//! A book that is carried over from one run of the connector to the next, also behind a crash.
 ghost use Rattle.std.specs.Prelude.{◌≡◌, ℤ, IfOk, IfErr, OnOk, OnErr, is_err, if◌then◌else◌};
 ghost use Rattle.std.specs.Io.KnownBytes.{Appends};
 ghost use Rattle.ilp_io.specs.Counts.{CountsUp};
@@ -8,12 +8,13 @@ ghost use Rattle.ilp_rules.specs.declared.fault.CarryFault.{CarryFault};
 ghost use Rattle.ilp_rules.specs.declared.fault.CarryFault.TheVariants as carry_fault;
 ghost use Rattle.ilp_rules.specs.Carried.{carried};
 ghost use Rattle.ilp_rules.specs.Carry.{IsCarriedOver, IsWhyNotCarried};
+ghost use Rattle.ilp_rules.specs.Recover.{IsRecovered, IsWhyNotRecovered};
 
 use crate::book::Book;
 use ilp_accounts::Config;
 use ilp_io::{Sink, WriteFault};
 use ilp_journal_text::put_journal;
-use ilp_rules::{Beginning, CarryFault};
+use ilp_rules::{Beginning, CarryFault, RecoverFault};
 use std::alloc::Allocator;
 
 impl<A: Allocator + Clone> Book<A> {
@@ -35,18 +36,48 @@ impl<A: Allocator + Clone> Book<A> {
         ensures err { IfErr result (IsWhyNotCarried config.now text.now) }
     {
         let beginning = Beginning::carry_over(alloc, config, text, now)?;
+        Ok(Book::of(beginning))
+    }
+
+    /// The book that goes on behind a crash: it begins with the journal of which `saved` is the text, as
+    /// `save` wrote it, and behind it with the entries that were booked since, of which `logged` has the
+    /// lines, as `entry_line` of `ilp_journal_text` makes them. They are judged as one journal. Its open
+    /// holds end as those of `carry_over` do.
+    ///
+    /// The refusals come in the order of `RecoverFault`. A last line of what was logged is bad where it
+    /// lacks its end.
+    pub fn recover(
+        alloc: A,
+        config: &Config,
+        saved: &[u8],
+        logged: &[u8],
+        now: i64,
+    ) -> Result<Book<A>, RecoverFault>
+        ensures ok { IfOk result (IsRecovered config.now saved.now logged.now now) }
+        ensures err { IfErr result (IsWhyNotRecovered config.now saved.now logged.now) }
+    {
+        let beginning = Beginning::recover(alloc, config, saved, logged, now)?;
+        Ok(Book::of(beginning))
+    }
+}
+
+impl<A: Allocator> Book<A> {
+    // The book of these parts.
+    fn of(beginning: Beginning<A>) -> Book<A>
+        ensures { result ≡ beginning }
+    {
         let Beginning {
             config,
             base,
             journal,
             tables,
         } = beginning;
-        Ok(Book {
+        Book {
             config,
             base,
             journal,
             tables,
-        })
+        }
     }
 }
 

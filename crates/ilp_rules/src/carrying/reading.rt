@@ -1,45 +1,95 @@
-//! The entries of a text are taken up.
-ghost use Rattle.std.specs.Prelude.{◌≡◌, OnOk, OnErr, IfErr};
-ghost use Rattle.ilp_journal_text.specs.Reading.{IsTextOf};
-ghost use Rattle.ilp_rules.specs.Book.{pushed, with_entries};
-ghost use Rattle.ilp_rules.specs.Carry.{IsWhyNotCarried};
-ghost use Rattle.ilp_rules.specs.Judging.{carrying};
-ghost use Rattle.ilp_rules.specs.TakenUp.{StopsAt};
+//! The entries of a saved journal, and those that were logged behind it, are taken up.
+ghost use Rattle.std.specs.Prelude.{◌≡◌, ◌∷◌, ◌++◌, [], OnOk, OnErr, IfOk, IfErr};
+ghost use Rattle.ilp_accounts.specs.Configuration.{Configuration};
+ghost use Rattle.ilp_journal.specs.Journal.{Entries};
+ghost use Rattle.ilp_journal_text.specs.Reading.{IsTextOf, IsFirstBadLine, AreLinesOf, IsFirstBadEntryLine};
+ghost use Rattle.ilp_rules.specs.Book.{pushed};
+ghost use Rattle.ilp_rules.specs.TakenUp.{StopsAt, AreTakenUp, NamesLine};
 
 use super::Carrying;
-use crate::fault::CarryFault;
+use crate::fault::Stop;
+use ilp_accounts::Config;
 use ilp_journal::Entry;
-use ilp_journal_text::JournalText;
-use std::alloc::Allocator;
+use ilp_journal_text::{JournalLines, JournalText, TextFault};
+use std::alloc::{AllocError, Allocator};
 
-impl<A: Allocator + Clone> Carrying<A> {
-    /// Takes up the entries of the text of a journal. The whole text is read, also where an entry is
-    /// unlawful or memory is short, since a bad line behind it is what is told then.
-    pub(crate) fn take_up_text(&mut self, text: &[u8]) -> Result<(), CarryFault>
-        requires empty { self.old ≡ carrying self.old.config }
-        ensures written { OnOk result (IsTextOf self.old.config self.new.entries text.now) }
-        ensures taken { OnOk result (self.new ≡ with_entries self.old self.new.entries) }
-        ensures err { IfErr result (IsWhyNotCarried self.old.config text.now) }
+/// Entries are taken up one after another, up to the first that is unlawful or for which memory is
+/// short. Those behind it are read all the same, since a bad line there is what is told then.
+#[derive(Drop)]
+pub(crate) struct TakingUp<A: Allocator> {
+    /// The book of the entries that were taken up.
+    pub(crate) carrying: Carrying<A>,
+    /// Whether those are all that came.
+    pub(crate) taken: Result<(), Stop>,
+}
+
+impl<A: Allocator + Clone> TakingUp<A> {
+    /// No entry came yet. `AllocError` tells that memory is short.
+    pub(crate) fn new(alloc: A, config: &Config) -> Result<TakingUp<A>, AllocError>
+        ensures { IfOk result (λ taking. AreTakenUp config.now [] taking.carrying taking.taken) }
     {
-        let mut lines = JournalText::begin(text)?;
-        let mut lawful = Ok(());
-        while let Some(entry) = lines.next(&self.config)? {
-            if lawful.is_ok() {
-                lawful = self.take_up(entry);
-            }
-        }
-        lawful
+        Ok(TakingUp {
+            carrying: Carrying::new(alloc, config)?,
+            taken: Ok(()),
+        })
     }
 
+    /// Takes up the entries of the text of a journal.
+    pub(crate) fn take_text(&mut self, text: &[u8]) -> Result<(), TextFault>
+        ensures ok { (C : Configuration) (before : Entries)
+            → AreTakenUp C before self.old.carrying self.old.taken → OnOk result ((entries : Entries)
+            × IsTextOf C entries text.now
+            × AreTakenUp C (before ++ entries) self.new.carrying self.new.taken) }
+        ensures err { (C : Configuration) (before : Entries)
+            → AreTakenUp C before self.old.carrying self.old.taken
+            → IfErr result (NamesLine (IsFirstBadLine C text.now)) }
+    {
+        let mut lines = JournalText::begin(text)?;
+        while let Some(entry) = lines.next(&self.carrying.config)? {
+            self.take(entry);
+        }
+        Ok(())
+    }
+
+    /// Takes up the entries of lines that were logged.
+    pub(crate) fn take_lines(&mut self, text: &[u8]) -> Result<(), TextFault>
+        ensures ok { (C : Configuration) (before : Entries)
+            → AreTakenUp C before self.old.carrying self.old.taken → OnOk result ((entries : Entries)
+            × AreLinesOf C entries text.now
+            × AreTakenUp C (before ++ entries) self.new.carrying self.new.taken) }
+        ensures err { (C : Configuration) (before : Entries)
+            → AreTakenUp C before self.old.carrying self.old.taken
+            → IfErr result (NamesLine (IsFirstBadEntryLine C text.now)) }
+    {
+        let mut lines = JournalLines::begin(text);
+        while let Some(entry) = lines.next(&self.carrying.config)? {
+            self.take(entry);
+        }
+        Ok(())
+    }
+
+    // Takes an entry up, if all before it were taken up and it may come next.
+    fn take(&mut self, entry: Entry)
+        ensures { (C : Configuration) (before : Entries)
+            → AreTakenUp C before self.old.carrying self.old.taken
+            → AreTakenUp C (before ++ entry ∷ []) self.new.carrying self.new.taken }
+    {
+        if self.taken.is_ok() {
+            self.taken = self.carrying.take_up(entry);
+        }
+    }
+}
+
+impl<A: Allocator + Clone> Carrying<A> {
     // Takes up an entry, if it may come next.
-    fn take_up(&mut self, entry: Entry) -> Result<(), CarryFault>
+    fn take_up(&mut self, entry: Entry) -> Result<(), Stop>
         ensures ok { OnOk result (self.new ≡ pushed self.old entry) }
         ensures err { IfErr result (StopsAt self.old entry) }
         ensures unchanged { OnErr result (self.new ≡ self.old) }
     {
         if let Err(rule) = self.judge(&entry) {
             let number = self.journal.len();
-            return Err(CarryFault::Unlawful {
+            return Err(Stop::Unlawful {
                 entry: number,
                 rule,
             });

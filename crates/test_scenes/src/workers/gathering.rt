@@ -251,7 +251,7 @@ fn print_closed(rt: &impl Print, book: Book) -> io::Result<()> {
 /// The book of the desk once its ends are gathered, or why they are not.
 pub(crate) fn book_of<J: Naming>(desk: Desk<J>, ends: Vec<End<J>>) -> Result<Book, WhyNotGathered> {
     match gather(desk, ends) {
-        Ok(Closed { book }) => Ok(book),
+        Ok(Closed { book }) => Ok(book.into_book()),
         Err(left) => Err(why_of(left)),
     }
 }

@@ -1,0 +1,38 @@
+//! The log of a desk: a file to which its entries are written in groups, with one sync for each, before
+//! anybody is told of them.
+//!
+//! The file begins with some first lines (its head), and then has a line for each entry, as in the
+//! journal's text. The first entries, up to a number that is its base, stand elsewhere: in the journal
+//! that was saved.
+//!
+//! # What is proved
+//!
+//! - A `Log` keeps that its file has the first so many entries of the desk's journal, and that a crash
+//!   now leaves these at least, and none that the desk hadn't booked.
+//! - `Log::commit` is `Ok` only where all entries that the receipt had seen are on the disk. A crash at
+//!   any moment of `OpenLog::commit` leaves what was written before it, and a beginning of the desk's
+//!   journal.
+//! - A `Kept` is a token of what was told. `OpenLog::find` tells, whenever it is called later: a crash at
+//!   any moment since the telling left all the lines that were told, and none that aren't the desk's.
+//! - `OpenLog::commit_all` is `Ok` only where all of a desk's entries are on the disk.
+//! - Once a call of the device has failed, each commit fails: what the file has then is for
+//!   `ilp_line_file::recover` to find.
+//! - `log_texts_have_the_lines_of_journal_texts`: behind its head a log's text is the lines that the
+//!   journal's text has of the same entries.
+#![tactic(auto)]
+
+mod ack;
+mod fault;
+mod group;
+mod kept;
+pub mod laws;
+mod log;
+mod naming;
+mod open_log;
+
+pub use ack::{Ack, OnDisk};
+pub use fault::LogFault;
+pub use kept::Kept;
+pub use log::Log;
+pub use naming::LogNaming;
+pub use open_log::OpenLog;

@@ -1,0 +1,51 @@
+//! A log under its lock.
+ghost use Rattle.std.specs.Prelude.{IfOk};
+ghost use mathlib.Core.List.{IsPrefix};
+ghost use Rattle.ilp_log.specs.Lines.{lines_of};
+
+use crate::fault::LogFault;
+use crate::kept::Kept;
+use crate::naming::LogNaming;
+use crate::open_log::OpenLog;
+use ilp_desk::{Desk, JournalReceipt, Naming};
+use ilp_line_file::Device;
+use std::alloc::Global;
+use std::sync::{Mutex, Wait};
+
+/// A log under its lock, for the threads that book at a desk. A thread that has the desk's lock may not
+/// ask it: the log's lock comes first.
+#[derive(Drop)]
+pub struct Log<J: Naming, K: LogNaming, D: Device + Drop> {
+    locked: Mutex<OpenLog<J, K, D>>,
+}
+
+impl<J: Naming, K: LogNaming, D: Device + Drop> Log<J, K, D> {
+    /// Puts a log under a lock.
+    pub fn new(log: OpenLog<J, K, D>) -> Log<J, K, D> {
+        Log {
+            locked: Mutex::new(log),
+        }
+    }
+
+    /// `OpenLog::commit`, by one thread after the other: who waits here mostly finds that its entries
+    /// were written by one before it.
+    pub fn commit(
+        &self,
+        rt: &impl Wait,
+        alloc: Global,
+        desk: &Desk<J>,
+        receipt: &mut JournalReceipt<J>,
+    ) -> Result<Kept<D, K>, LogFault>
+        ensures seen { IsPrefix receipt.old receipt.new }
+        ensures kept { IfOk result (λ kept. IsPrefix (lines_of K.form receipt.old) kept.lines) }
+    {
+        let mut log = self.locked.lock(rt);
+        log.commit(rt, alloc, desk, receipt)
+    }
+
+    /// The log, once nobody else has it.
+    pub fn into_inner(self) -> OpenLog<J, K, D> {
+        let Log { locked } = self;
+        locked.into_inner()
+    }
+}
