@@ -9,8 +9,8 @@
 //! - `check`, on octets that TOML reads, is the line of their configuration, or its first fault;
 //!   `NotToml` on others. `Memory` may come instead. `check_book` is that line of a book's
 //!   configuration, with the number of its entries.
-//! - `decode` gives the octets of a text just where it is hexadecimal, and `is_printable` tells
-//!   whether all octets are spaces or visible ASCII (`specs/Printable.antt`).
+//! - `decode` gives the octets of a text just where it is hexadecimal, or want of memory, and
+//!   `is_printable` tells whether all octets are spaces or visible ASCII (`specs/Printable.antt`).
 #![tactic(auto)]
 
 mod checking;

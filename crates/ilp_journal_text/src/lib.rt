@@ -10,7 +10,7 @@
 //! - `put_journal` writes exactly the text of a journal by a configuration (`specs/Text.antt`,
 //!   `journal_text`). Where a write fails or takes no octet it wrote a front of the text, and not
 //!   all of it. It has no allocator. Where it wrote all, the numbers of the entries are of the types
-//!   that a text allows (`IsTyped`). `put_entry` writes exactly the line of one entry.
+//!   that a text allows (`IsTyped`).
 //! - `JournalText::begin` and `next` read a text, an entry at a time (`specs/Reading.antt`): what
 //!   is answered is the entry of the next line, which can stand in a text of the configuration; at
 //!   the end line, none; and else the number of a line that no text has there. `next` takes memory
@@ -36,4 +36,4 @@ mod writing;
 pub use entry::entry_line;
 pub use line::Line;
 pub use reading::{JournalLines, JournalText, TextFault};
-pub use writing::{put_entry, put_journal};
+pub use writing::put_journal;

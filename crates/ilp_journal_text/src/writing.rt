@@ -61,12 +61,8 @@ fn put_entries<A: Allocator, W: Sink>(
     Ok(())
 }
 
-/// Writes the line that an entry has in the text of a journal, with the peers' names in the
-/// configuration. No memory is taken.
-///
-/// It is refused only where a write fails or takes no octet. Then a front of the line was taken, and
-/// not all of it. In either case it tells that the numbers of the entry are of their types.
-pub fn put_entry<W: Sink>(config: &Config, entry: &Entry, sink: &mut W) -> Result<(), WriteFault>
+// The line of an entry.
+fn put_entry<W: Sink>(config: &Config, entry: &Entry, sink: &mut W) -> Result<(), WriteFault>
     ensures ok { OnOk result (Appends (W.contents sink.old) (W.contents sink.new)
         (entry_line config.now entry.now)) }
     ensures typed { IsTyped entry.now }

@@ -27,7 +27,7 @@ use Rattle.ilp_book.proofs.Runs.{runs_lawful}
 use Rattle.ilp_offline.specs.Script.{Form, hold, answer, expire, credit, ask, close, report, silent, bad, moment_in, entry_in, key_in, verdict_in, hold_form, answer_form, expire_form, credit_form, ask_form, close_form, form_of_fields, fields_of, form_of}
 use Rattle.ilp_described.specs.Printable.{is_printable}
 use Rattle.ilp_offline.specs.Replay.{hold_packet, hold_text, answer_text, credit_json, form_step, line_step, after_line, after_lines}
-use Rattle.ilp_offline.specs.Calls.{called, calls_of_packet, calls_of_hold, calls_of_answer, calls_of_credit, calls_of_form, calls_of}
+use Rattle.ilp_offline.specs.Calls.{calls_of_packet, calls_of_hold, calls_of_answer, calls_of_credit, calls_of_form, calls_of}
 
 -- ---- what lines book
 

@@ -26,8 +26,8 @@ use std::sync::Wait;
 /// the Reject that the sender of its packet is answered, also where the response was not written
 /// whole. What is refused, as octets or later, is answered with a status and an empty body, and
 /// leaves the worker as it was unless a packet, a credit or a message was tried. What was booked
-/// stays, whatever becomes of the response. `alloc` is for the fields, for a report, and for the JSON of a quantity
-/// and its answer; room for that answer is made before anything is booked.
+/// stays, whatever becomes of the response. `alloc` is for the fields, for a report, and for the JSON
+/// of a quantity and its answer; room for that answer is made before anything is booked.
 pub fn answer_connection<
     J: Naming,
     C: Clock + Drop,

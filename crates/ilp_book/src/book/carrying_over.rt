@@ -79,9 +79,7 @@ impl<A: Allocator> Book<A> {
             tables,
         }
     }
-}
 
-impl<A: Allocator> Book<A> {
     /// Writes the text of the journal, which `carry_over` reads, with the peers' names in the
     /// configuration, the book's own. No memory is taken. It is refused only where a write fails or
     /// takes no octet. Then a front of the text was taken, and not all of it. What it wrote whole is
