@@ -43,6 +43,11 @@ IsShownAt desk step seen shown before after reply =
 abbrev pub IsLookAt : PlainDesk → ℕ → Option ℕ → Option Asked → Type 0
 IsLookAt desk peer tried found = (book : PlainBook) × IsBookOf desk book × found ≡ open_settlement book.entries peer tried
 
+-- And of one that a receipt is shown, besides: what it had seen begins that book's entries, and from then on it has seen them all.
+abbrev pub IsShownLook : PlainDesk → ℕ → Option ℕ → Entries → Entries → Option Asked → Type 0
+IsShownLook desk peer tried seen shown found =
+    (book : PlainBook) × IsBookOf desk book × (found ≡ open_settlement book.entries peer tried) × IsPrefix seen book.entries × (shown ≡ book.entries)
+
 -- What is known of a copy once the lock is let go: it tells all that some book of the desk came to.
 abbrev pub IsCopyOf : PlainDesk → PlainSnapshot → Type 0
 IsCopyOf desk snapshot = (book : PlainBook) × IsBookOf desk book × snapshot ≡ snapshot_of book

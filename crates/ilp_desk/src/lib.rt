@@ -23,7 +23,7 @@
 //!   it. So the journal that a session finds begins with what each earlier one left.
 //! - `Desk::hold_shown` and the five others are sessions with a receipt: what it had seen begins the
 //!   journal that was found, and then it has seen the one that was left, with the session's entry
-//!   (`IsShownAt`).
+//!   (`IsShownAt`). `open_settlement_shown` is a look with a receipt (`IsShownLook`).
 //! - `LockedBook::snapshot` copies what the report tells of its book, and `open_settlement` tells the
 //!   open settlement that comes next; those of `Desk` tell it of some book of the desk. Nothing
 //!   changes.

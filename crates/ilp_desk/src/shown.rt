@@ -6,7 +6,7 @@ ghost use Rattle.ilp_book.specs.Configured.{IsKnown};
 ghost use Rattle.ilp_book.specs.HoldStep.{incoming, hold_step, growth_of};
 ghost use Rattle.ilp_book.specs.AnswerStep.{answer_step, expire_step};
 ghost use Rattle.ilp_book.specs.SettleStep.{payment, credit_growth, credit_step, ask_growth, ask_step, close_step};
-ghost use Rattle.ilp_desk.specs.Session.{IsShownAt};
+ghost use Rattle.ilp_desk.specs.Session.{IsShownAt, IsShownLook};
 
 use crate::desk::Desk;
 use crate::naming::Naming;
@@ -145,5 +145,20 @@ impl<J: Naming> Desk<J> {
         let reply = book.settle_close(share, number, verdict, now);
         book.show(receipt);
         reply
+    }
+
+    /// `open_settlement`, shown to a receipt. Nothing is booked, and no share is raised.
+    pub fn open_settlement_shown(
+        &self,
+        rt: &impl Wait,
+        receipt: &mut JournalReceipt<J>,
+        peer: u32,
+        tried: Option<u32>,
+    ) -> Option<Asked>
+        ensures { IsShownLook J.desk peer tried receipt.old receipt.new result }
+    {
+        let mut book = self.lock(rt);
+        book.show(receipt);
+        book.open_settlement(peer, tried)
     }
 }
