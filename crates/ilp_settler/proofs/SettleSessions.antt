@@ -2,7 +2,7 @@
 use Rattle.std.proofs.Common.{◌≡◌, ℕ, ℤ, List, ◌++◌, Option, Some, None, refl, sym, ap, ◌∙◌}
 use Rattle.std.specs.Prelude.{Result, Ok, Err}
 use Rattle.ilp_journal.specs.declared.entry.Ask.{Ask}
-use Rattle.ilp_journal.specs.Journal.{open_ask_at}
+use Rattle.ilp_journal.specs.Journal.{Entries, open_ask_at}
 use Rattle.ilp_book.specs.declared.calls.Asked.{Asked}
 use Rattle.ilp_book.specs.declared.fault.AskFault.{AskFault}
 use Rattle.ilp_book.specs.declared.fault.NotOpen.{NotOpen}
@@ -41,9 +41,9 @@ close_counts book caller n verdict = of (open_ask_at book.entries n)
 -- ---- sessions
 
 -- a book was asked for a settlement, at a moment that the clock gave
-pub asking_by : (desk : PlainDesk) (peer : ℕ) (moments moments' : Option (List ℤ)) (before after : Portion) (now : ℤ) (reply : Result Asked AskFault)
-    → Tells moments now moments' → IsAskedAt desk peer now before after reply → IsAsking desk peer moments moments' before after reply
-asking_by desk peer moments moments' before after now reply asked at =
+pub asking_by : (desk : PlainDesk) (peer : ℕ) (moments moments' : Option (List ℤ)) (seen seen' : Entries) (before after : Portion) (now : ℤ) (reply : Result Asked AskFault)
+    → Tells moments now moments' → IsAskedAt desk peer now seen seen' before after reply → IsAsking desk peer moments moments' seen seen' before after reply
+asking_by desk peer moments moments' seen seen' before after now reply asked at =
     let old = at.0 in
     let made = ask_step old (by before.actor now) peer (ask_growth reply) in
     let does : Does old at.1 reply made = at.3 in

@@ -3,6 +3,7 @@ use Rattle.std.specs.Prelude.{◌≡◌, ℕ, ◌+◌, ℤ, Bool, true, false, L
 use Rattle.std.specs.Fmt.{decimal}
 use Rattle.ilp_accounts.specs.Limits.{most_peers}
 use Rattle.ilp_accounts.specs.Configuration.{Configuration}
+use Rattle.ilp_journal.specs.Journal.{Entries}
 use Rattle.ilp_book.specs.declared.calls.Asked.{Asked}
 use Rattle.ilp_book.specs.declared.fault.AskFault.{AskFault}
 use Rattle.ilp_book.specs.declared.fault.AskFault.TheVariants as ask_fault
@@ -16,15 +17,18 @@ use Rattle.ilp_desk.specs.declared.record.Record.{Record}
 use Rattle.ilp_desk.specs.declared.record.Recorded.TheVariants as recorded
 use Rattle.ilp_desk.specs.Desk.{PlainDesk}
 use Rattle.ilp_desk.specs.Portion.{Portion, portion, Holding, holding}
-use Rattle.ilp_desk.specs.Session.{IsReplyAt, IsLookAt}
+use Rattle.ilp_desk.specs.Session.{IsReplyAt, IsShownAt, IsShownLook}
+use Rattle.ilp_keeping.specs.declared.keeper.NotKept.{NotKept}
+use Rattle.ilp_keeping.specs.Keeping.{ToKeeper, IsHanded}
 use Rattle.ilp_link_traits.specs.declared.links.EngineReply.{EngineReply}
 use Rattle.ilp_link_traits.specs.declared.links.EngineReply.TheVariants.{Accepted, Refused, Unknown}
 use Rattle.ilp_settler.specs.declared.turn.Turn.{Turn}
-use Rattle.ilp_settler.specs.declared.turn.Turn.TheVariants.{NoAccount, Idle, Kept, Closed}
+use Rattle.ilp_settler.specs.declared.turn.Turn.TheVariants.{NoAccount, Idle, Unwritten, Kept, Closed}
 use Rattle.ilp_link_traits.specs.Links.{Tells, ToEngine, asked, asking, settled, settling}
 
 -- its share, the records of what it booked, what its links tell (the moments of its clock, and what engines were handed), and,
--- by the peers' places, whose engines are known to have the account, and which settlement the engine was asked for last
+-- by the peers' places, whose engines are known to have the account, and which settlement the engine was asked for last; what it has
+-- seen of the journal, and what its keeper tells
 pub record PlainSettler : Type 0 where
   pub share : Portion
   pub records : List Record
@@ -32,10 +36,12 @@ pub record PlainSettler : Type 0 where
   pub engine : Option (List ToEngine)
   pub accounts : List Bool
   pub tried : List (Option ℕ)
+  pub seen : Entries
+  pub kept : Option (List ToKeeper)
 
-abbrev pub settler : Portion → List Record → Option (List ℤ) → Option (List ToEngine) → List Bool → List (Option ℕ) → PlainSettler
-settler share records moments engine accounts tried =
-    record { share = share; records = records; moments = moments; engine = engine; accounts = accounts; tried = tried }
+abbrev pub settler : Portion → List Record → Option (List ℤ) → Option (List ToEngine) → List Bool → List (Option ℕ) → Entries → Option (List ToKeeper) → PlainSettler
+settler share records moments engine accounts tried seen kept =
+    record { share = share; records = records; moments = moments; engine = engine; accounts = accounts; tried = tried; seen = seen; kept = kept }
 
 -- ---- accounts
 
@@ -86,10 +92,11 @@ longest_key = 43
 
 -- ---- asking a book
 
--- A book of the desk was asked at a moment for a settlement to the peer, and this was its reply.
-abbrev pub IsAskedAt : PlainDesk → ℕ → ℤ → Portion → Portion → Result Asked AskFault → Type 0
-IsAskedAt desk peer now before after reply =
-    IsReplyAt desk (λ book. ask_step book (by before.actor now) peer (ask_growth reply)) before after reply
+-- A book of the desk was asked at a moment for a settlement to the peer, and this was its reply. What was seen of the journal begins
+-- that book's, and then the one that it left was seen.
+abbrev pub IsAskedAt : PlainDesk → ℕ → ℤ → Entries → Entries → Portion → Portion → Result Asked AskFault → Type 0
+IsAskedAt desk peer now seen seen' before after reply =
+    IsShownAt desk (λ book. ask_step book (by before.actor now) peer (ask_growth reply)) seen seen' before after reply
 
 -- how many entries a reply booked
 abbrev pub asks_of : Result Asked AskFault → ℕ
@@ -97,17 +104,17 @@ asks_of (Ok a) = 1
 asks_of (Err fault) = 0
 
 -- A book is asked at a moment that the clock gives.
-pub record IsAsking (desk : PlainDesk) (peer : ℕ) (moments moments' : Option (List ℤ)) (before after : Portion) (reply : Result Asked AskFault) : Type 0 where
+pub record IsAsking (desk : PlainDesk) (peer : ℕ) (moments moments' : Option (List ℤ)) (seen seen' : Entries) (before after : Portion) (reply : Result Asked AskFault) : Type 0 where
   pub now : ℤ
   pub asked : Tells moments now moments'
-  pub booked : IsAskedAt desk peer now before after reply
+  pub booked : IsAskedAt desk peer now seen seen' before after reply
   pub raised : after ≡ portion before.actor (before.entries + asks_of reply)
 
 -- ---- choosing an open settlement
 
 -- The open settlement behind the one that was tried last is found, else the first of all, in one look at the book.
-abbrev pub IsChoosing : PlainDesk → ℕ → Option ℕ → Option Asked → Type 0
-IsChoosing desk peer tried found = IsLookAt desk peer tried found
+abbrev pub IsChoosing : PlainDesk → ℕ → Option ℕ → Entries → Entries → Option Asked → Type 0
+IsChoosing desk peer tried seen seen' found = IsShownLook desk peer tried seen seen' found
 
 -- ---- asking the engine
 
@@ -173,43 +180,57 @@ ClosesBy desk peer a said (Some verdict) moments moments' before after turn = Is
 pub record IsWithoutAccount (peer : ℕ) (before after : PlainSettler) : Type 0 where
   pub unknown : knows_account before.accounts peer ≡ false
   pub denied : Tells before.engine (account_told peer false) after.engine
-  pub same : after ≡ settler before.share before.records before.moments after.engine before.accounts before.tried
+  pub same : after ≡ record before { engine = after.engine }
 
 -- The engine has the account, and there is no room for a record. No book is asked, and no engine for a settlement.
 pub record IsWithoutRoom (peer : ℕ) (before after : PlainSettler) : Type 0 where
   pub account : HasAccount (knows_account before.accounts peer) peer before.engine after.engine
-  pub same : after ≡ settler before.share before.records before.moments after.engine (with_account before.accounts peer) before.tried
+  pub same : after ≡ record before { engine = after.engine; accounts = with_account before.accounts peer }
 
--- No engine is asked for a settlement.
-pub record IsIdle (before after : PlainSettler) (engine : Option (List ToEngine)) (share : Portion) (moments : Option (List ℤ)) : Type 0 where
-  pub same : after ≡ settler share before.records moments engine after.accounts before.tried
+-- No engine is asked for a settlement, and no keeper.
+pub record IsIdle (before after : PlainSettler) (engine : Option (List ToEngine)) (share : Portion) (moments : Option (List ℤ)) (seen : Entries) : Type 0 where
+  pub same : after ≡ settler share before.records moments engine after.accounts before.tried seen before.kept
 
--- The peer's engine is asked for the settlement, once, and a book is told what it said. Between the two sessions nothing is known
--- of the book.
-pub record IsSettling (desk : PlainDesk) (peer : ℕ) (before after : PlainSettler) (engine : Option (List ToEngine)) (a : Asked) (share : Portion) (moments : Option (List ℤ)) (told : Turn) : Type 0 where
+-- The keeper is handed the journal that was seen, and says that it is kept. Then the peer's engine is asked for the settlement, once,
+-- and a book is told what it said. Of that book nothing is known.
+pub record IsSettling (desk : PlainDesk) (peer : ℕ) (before after : PlainSettler) (engine : Option (List ToEngine)) (a : Asked) (share : Portion) (moments : Option (List ℤ)) (seen : Entries) (told : Turn) : Type 0 where
+  pub kept : IsHanded seen (Ok tt) before.kept after.kept after.seen
   pub said : EngineReply
   pub handed : Tells engine (settlement_told desk.config peer a said) after.engine
   pub closed : ClosesBy desk peer a said (verdict_by said) moments after.moments (holding share before.records) (holding after.share after.records) told
   pub tried : after.tried ≡ with_tried before.tried peer a.number
 
+-- The keeper is handed the journal that was seen, and says that it is not kept. No engine is asked, and the settlement stays as it is.
+pub record IsUnwritten (before after : PlainSettler) (engine : Option (List ToEngine)) (a : Asked) (share : Portion) (moments : Option (List ℤ)) (seen : Entries) (told : Turn) : Type 0 where
+  pub why : NotKept
+  pub kept : IsHanded seen (Err why) before.kept after.kept after.seen
+  pub same : after ≡ settler share before.records moments engine after.accounts before.tried after.seen after.kept
+  pub turn_is : told ≡ Unwritten a.number a.amount
+
+-- a settlement is carried out: the engine is asked for it just where the journal that has it is kept
+abbrev pub CarriesOut : PlainDesk → ℕ → PlainSettler → PlainSettler → Option (List ToEngine) → Asked → Portion → Option (List ℤ) → Entries → Turn → Type 0
+CarriesOut desk peer before after engine a share moments seen told =
+    IsSettling desk peer before after engine a share moments seen told ⊎ IsUnwritten before after engine a share moments seen told
+
 -- an open settlement is taken up where one was found; else the turn tells why none was asked for
-abbrev pub TakesUp : PlainDesk → ℕ → PlainSettler → PlainSettler → Option (List ToEngine) → AskFault → Portion → Option (List ℤ) → Turn → Option Asked → Type 0
-TakesUp desk peer before after engine fault share moments told None = IsIdle before after engine share moments × (told ≡ Idle fault)
-TakesUp desk peer before after engine fault share moments told (Some a) = IsSettling desk peer before after engine a share moments told
+abbrev pub TakesUp : PlainDesk → ℕ → PlainSettler → PlainSettler → Option (List ToEngine) → AskFault → Portion → Option (List ℤ) → Entries → Turn → Option Asked → Type 0
+TakesUp desk peer before after engine fault share moments seen told None = IsIdle before after engine share moments seen × (told ≡ Idle fault)
+TakesUp desk peer before after engine fault share moments seen told (Some a) = CarriesOut desk peer before after engine a share moments seen told
 
 -- A book refused a settlement, and was looked at for one that is open.
-pub record IsTakingUp (desk : PlainDesk) (peer : ℕ) (before after : PlainSettler) (engine : Option (List ToEngine)) (fault : AskFault) (share : Portion) (moments : Option (List ℤ)) (told : Turn) : Type 0 where
+pub record IsTakingUp (desk : PlainDesk) (peer : ℕ) (before after : PlainSettler) (engine : Option (List ToEngine)) (fault : AskFault) (share : Portion) (moments : Option (List ℤ)) (seen : Entries) (told : Turn) : Type 0 where
   pub found : Option Asked
-  pub chosen : IsChoosing desk peer (last_tried before.tried peer) found
-  pub taken : TakesUp desk peer before after engine fault share moments told found
+  pub looked : Entries
+  pub chosen : IsChoosing desk peer (last_tried before.tried peer) seen looked found
+  pub taken : TakesUp desk peer before after engine fault share moments looked told found
 
 -- after a book was asked: by a new settlement, or by an open one, unless memory was denied
-abbrev pub GoesOn : {E : Type 0} → PlainDesk → ℕ → PlainSettler → PlainSettler → Option (List ToEngine) → Portion → Option (List ℤ) → Result Turn E → Result Asked AskFault → Type 0
-GoesOn desk peer before after engine share moments turn (Ok a) =
-    (told : Turn) × IsSettling desk peer before after engine a share moments told × (turn ≡ Ok told)
-GoesOn desk peer before after engine share moments turn (Err ask_fault.Memory) = IsIdle before after engine share moments × IsErr turn
-GoesOn desk peer before after engine share moments turn (Err fault) =
-    (told : Turn) × IsTakingUp desk peer before after engine fault share moments told × (turn ≡ Ok told)
+abbrev pub GoesOn : {E : Type 0} → PlainDesk → ℕ → PlainSettler → PlainSettler → Option (List ToEngine) → Portion → Option (List ℤ) → Entries → Result Turn E → Result Asked AskFault → Type 0
+GoesOn desk peer before after engine share moments seen turn (Ok a) =
+    (told : Turn) × CarriesOut desk peer before after engine a share moments seen told × (turn ≡ Ok told)
+GoesOn desk peer before after engine share moments seen turn (Err ask_fault.Memory) = IsIdle before after engine share moments seen × IsErr turn
+GoesOn desk peer before after engine share moments seen turn (Err fault) =
+    (told : Turn) × IsTakingUp desk peer before after engine fault share moments seen told × (turn ≡ Ok told)
 
 -- The engine has the account, which is kept. A book is asked for a settlement, and then the engine.
 pub record IsTurn {E : Type 0} (desk : PlainDesk) (peer : ℕ) (before after : PlainSettler) (turn : Result Turn E) : Type 0 where
@@ -219,8 +240,9 @@ pub record IsTurn {E : Type 0} (desk : PlainDesk) (peer : ℕ) (before after : P
   pub reply : Result Asked AskFault
   pub share : Portion
   pub moments : Option (List ℤ)
-  pub asked : IsAsking desk peer before.moments moments before.share share reply
-  pub goes_on : GoesOn desk peer before after engine share moments turn reply
+  pub seen : Entries
+  pub asked : IsAsking desk peer before.moments moments before.seen seen before.share share reply
+  pub goes_on : GoesOn desk peer before after engine share moments seen turn reply
 
 -- what a turn for a peer is, by what it answers
 abbrev pub Turns : {E : Type 0} → PlainDesk → ℕ → PlainSettler → PlainSettler → Result Turn E → Type 0

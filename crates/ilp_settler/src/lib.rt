@@ -1,21 +1,22 @@
 //! The sweeper and the settler of a desk: the one releases holds whose deadline has come, the other
 //! has the peers' engines settle what is owed. Each has a share of the desk and a clock, and the
-//! settler a link to the engines.
+//! settler a link to the engines and a keeper of the journal.
 //!
 //! # What is proved
 //!
 //! - `Sweeper::turn` releases at most one hold, at a moment of its clock, by the book's sweep, and
 //!   raises its share by one just where it answers a number.
-//! - `Settler::turn` has three steps (`specs/Settler.antt`). Just where the settler doesn't know
+//! - `Settler::turn` has four steps (`specs/Settler.antt`). Just where the settler doesn't know
 //!   that the peer's engine has an account of the peer, the engine is asked for it, once. Where it
 //!   says no, the turn is `NoAccount`, and nothing else happens; else the settler knows it from
 //!   then on.
 //! - Then a book of the desk is asked at a moment of the clock for a settlement. Where it refuses
 //!   that for another cause than memory, the open settlement behind the one that was tried last for
-//!   this peer is found, else the first of all, by one look (`IsChoosing`). The engine is handed
-//!   just the one that was booked or found: its amount at the scale of the peer's balance, under
-//!   the key of its entry's number. Where there is none, no engine is asked, and the turn is `Idle`
-//!   with the refusal.
+//!   this peer is found, else the first of all, by one look (`IsChoosing`). Where there is none, no
+//!   engine is asked, and the turn is `Idle` with the refusal.
+//! - The keeper is handed the journal that has the one that was booked or found. Where it says that
+//!   this is not kept, no engine is asked, and the turn is `Unwritten`. Else the engine is handed just
+//!   that one: its amount at the scale of the peer's balance, under the key of its entry's number.
 //! - Where the engine accepted or refused it, a book is told so at the clock's next moment. Just
 //!   where it was still open, the answer is `Closed`, and the list grows by that record. Else it is
 //!   `Kept`, as where the engine said neither; then no book is told. Both have the amount and what

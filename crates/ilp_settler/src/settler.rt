@@ -6,7 +6,8 @@ ghost use Rattle.ilp_settler.specs.Settler.{settler, no_accounts, none_tried, Tu
 
 use crate::settling::{LONGEST_KEY, MOST_PEERS, SettlerParts};
 use crate::turn::Turn;
-use ilp_desk::{Desk, End, Naming, Record, Share};
+use ilp_desk::{Desk, End, JournalReceipt, Naming, Record, Share};
+use ilp_keeping::Keeper;
 use ilp_link_traits::{Clock, EngineLink};
 use std::alloc::{AllocError, Allocator, Global};
 use std::marker::Model;
@@ -15,31 +16,48 @@ use std::sync::Wait;
 /// The settler of a desk: its share, the records of what it booked, its clock and its way to the
 /// peers' engines.
 #[derive(Drop)]
-pub struct Settler<J: Naming, C: Clock + Drop, E: EngineLink + Drop, A: Allocator = Global> {
-    parts: SettlerParts<J, C, E, A>,
+pub struct Settler<
+    J: Naming,
+    C: Clock + Drop,
+    E: EngineLink + Drop,
+    K: Keeper<J> + Drop,
+    A: Allocator = Global,
+> {
+    parts: SettlerParts<J, C, E, K, A>,
 }
 
-impl<J: Naming, C: Clock + Drop, E: EngineLink + Drop, A: Allocator> Model for Settler<J, C, E, A> {
+impl<J: Naming, C: Clock + Drop, E: EngineLink + Drop, K: Keeper<J> + Drop, A: Allocator> Model
+    for Settler<J, C, E, K, A> {
     ghost use Rattle.ilp_settler.specs.Settler.{PlainSettler, settler};
 
     ghost Value = { PlainSettler };
 
     ghost view = { λ s. settler s.parts.share s.parts.records.items (C.told s.parts.clock) (E.told s.parts.engine)
-        s.parts.accounts s.parts.tried };
+        s.parts.accounts s.parts.tried s.parts.receipt (K.told s.parts.keeper) };
 }
 
 /// What was given for a settler that there is no memory for, as it was given.
 #[derive(Drop)]
-pub struct NoSettler<J: Naming, C: Clock + Drop, E: EngineLink + Drop> {
+pub struct NoSettler<J: Naming, C: Clock + Drop, E: EngineLink + Drop, K: Keeper<J> + Drop> {
     /// The share of the desk, with which nothing was booked meanwhile.
     pub share: Share<J>,
     /// The clock, which was not asked.
     pub clock: C,
     /// The way to the engines, of which none was handed anything.
     pub engine: E,
+    /// The keeper, which was not asked.
+    pub keeper: K,
+    /// What was seen of the journal.
+    pub receipt: JournalReceipt<J>,
 }
 
-impl<J: Naming, C: Clock + Drop, E: EngineLink + Drop, A: Allocator> Settler<J, C, E, A> {
+impl<J: Naming, C: Clock + Drop, E: EngineLink + Drop, K: Keeper<J> + Drop, A: Allocator> Settler<
+    J,
+    C,
+    E,
+    K,
+    A,
+> {
     /// A settler with this share and these links, which keeps no record yet and knows of no account.
     /// Room is made for the key of any settlement; where memory for that is denied, all is handed
     /// back.
@@ -48,18 +66,24 @@ impl<J: Naming, C: Clock + Drop, E: EngineLink + Drop, A: Allocator> Settler<J, 
         share: Share<J>,
         clock: C,
         engine: E,
-    ) -> Result<Settler<J, C, E, A>, NoSettler<J, C, E>>
+        keeper: K,
+        receipt: JournalReceipt<J>,
+    ) -> Result<Settler<J, C, E, K, A>, NoSettler<J, C, E, K>>
     where
         A: Copy,
-        ensures settler { IfOk result (λ s. s ≡ settler share [] (C.told clock) (E.told engine) no_accounts none_tried) }
+        ensures settler { IfOk result (λ s. s ≡ settler share [] (C.told clock) (E.told engine) no_accounts none_tried
+            receipt (K.told keeper)) }
         ensures share { IfErr result (λ e. e.share ≡ share) }
-        ensures links { IfErr result (λ e. (e.clock ≡ clock) × (e.engine ≡ engine)) }
+        ensures links { IfErr result (λ e. (e.clock ≡ clock) × (e.engine ≡ engine) × (e.keeper ≡ keeper)) }
+        ensures receipt { IfErr result (λ e. e.receipt ≡ receipt) }
     {
         let Ok(key) = String::with_capacity(alloc, LONGEST_KEY) else {
             return Err(NoSettler {
                 share,
                 clock,
                 engine,
+                keeper,
+                receipt,
             });
         };
         let parts = SettlerParts {
@@ -67,6 +91,8 @@ impl<J: Naming, C: Clock + Drop, E: EngineLink + Drop, A: Allocator> Settler<J, 
             records: Vec::new(alloc),
             clock,
             engine,
+            keeper,
+            receipt,
             key,
             accounts: [false; MOST_PEERS],
             tried: [None; MOST_PEERS],
@@ -92,10 +118,13 @@ impl<J: Naming, C: Clock + Drop, E: EngineLink + Drop, A: Allocator> Settler<J, 
     /// engine that never said that it has an account of the peer is asked for that first, and where
     /// it says no the turn ends as `NoAccount`. Then a settlement is booked; where the book refuses
     /// that, the open one behind the one that was tried last for this peer is taken up, else the
-    /// first of all. The engine is asked for it under the key `RUN-NUMBER`, while no lock is held,
-    /// and what it said is booked. Where none is open, the turn ends as `Idle`. The error is want of memory, which is denied before the engine is
-    /// asked to settle. Nothing is booked then, share and records are as they were, and that the
-    /// engine has the account is kept, so that the next turn does not ask for it again.
+    /// first of all. Where none is open, the turn ends as `Idle`. The keeper is handed the journal
+    /// that has its entry; where that is not kept, the turn ends as `Unwritten`. The engine is asked
+    /// for it under the key `RUN-NUMBER`, while no lock is held, and what it said is booked.
+    ///
+    /// The error is want of memory, which is denied before the engine is asked to settle. Nothing is
+    /// booked then, share and records are as they were, and that the engine has the account is kept,
+    /// so that the next turn does not ask for it again.
     pub fn turn(&mut self, rt: &impl Wait, desk: &Desk<J>, peer: u32) -> Result<Turn, AllocError>
         requires known { IsKnown J.desk.config peer }
         ensures { Turns J.desk peer self.old self.new result }
@@ -104,7 +133,7 @@ impl<J: Naming, C: Clock + Drop, E: EngineLink + Drop, A: Allocator> Settler<J, 
     }
 }
 
-impl<J: Naming, C: Clock + Drop, E: EngineLink + Drop> Settler<J, C, E> {
+impl<J: Naming, C: Clock + Drop, E: EngineLink + Drop, K: Keeper<J> + Drop> Settler<J, C, E, K> {
     /// What the settler hands back in the end.
     pub fn into_end(self) -> End<J>
         ensures { result ≡ holding self.share self.records }

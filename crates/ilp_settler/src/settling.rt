@@ -5,12 +5,13 @@ ghost use Rattle.ilp_book.specs.Configured.{IsKnown};
 ghost use Rattle.ilp_desk.specs.Portion.{holding};
 ghost use Rattle.ilp_link_traits.specs.declared.links.EngineReply.{EngineReply};
 ghost use Rattle.ilp_link_traits.specs.Links.{Tells};
-ghost use Rattle.ilp_settler.specs.Settler.{settler, longest_key, key_text, knows_account, with_account, account_told, HasAccount, last_tried, with_tried, IsAsking, IsChoosing, IsTakingUp, settlement_told, verdict_by, IsClosing, ClosesBy, record_of_close, Turns};
+ghost use Rattle.ilp_settler.specs.Settler.{settler, longest_key, key_text, knows_account, with_account, account_told, HasAccount, last_tried, with_tried, IsAsking, IsChoosing, IsTakingUp, settlement_told, verdict_by, IsClosing, ClosesBy, CarriesOut, record_of_close, Turns};
 
 use crate::turn::Turn;
 use ilp_accounts::Config;
 use ilp_book::{AskFault, Asked, EngineVerdict};
-use ilp_desk::{Desk, End, Naming, Record, Recorded, Share};
+use ilp_desk::{Desk, End, JournalReceipt, Naming, Record, Recorded, Share};
+use ilp_keeping::Keeper;
 use ilp_link_traits::{Clock, EngineLink, EngineReply};
 use itoa::Buffer;
 use std::alloc::{AllocError, Allocator, Global};
@@ -25,11 +26,20 @@ pub(crate) const MOST_PEERS: usize = 256;
 
 // What a settler has: its share and its records, its links, and room for a key.
 #[derive(Drop)]
-pub(crate) struct SettlerParts<J: Naming, C: Clock + Drop, E: EngineLink + Drop, A: Allocator> {
+pub(crate) struct SettlerParts<
+    J: Naming,
+    C: Clock + Drop,
+    E: EngineLink + Drop,
+    K: Keeper<J> + Drop,
+    A: Allocator,
+> {
     pub(crate) share: Share<J>,
     pub(crate) records: Vec<Record, A>,
     pub(crate) clock: C,
     pub(crate) engine: E,
+    pub(crate) keeper: K,
+    // What was seen of the journal.
+    pub(crate) receipt: JournalReceipt<J>,
     // The key of the settlement that an engine is asked for.
     pub(crate) key: String<A>,
     // By peers' places: whether the engine said that it has the account.
@@ -39,7 +49,13 @@ pub(crate) struct SettlerParts<J: Naming, C: Clock + Drop, E: EngineLink + Drop,
     ghost room: { longest_key ≤ string_capacity key },
 }
 
-impl<J: Naming, C: Clock + Drop, E: EngineLink + Drop, A: Allocator> SettlerParts<J, C, E, A> {
+impl<
+    J: Naming,
+    C: Clock + Drop,
+    E: EngineLink + Drop,
+    K: Keeper<J> + Drop,
+    A: Allocator,
+> SettlerParts<J, C, E, K, A> {
     // A turn for a peer. Room for a record is made before a book is asked.
     pub(crate) fn turn(
         &mut self,
@@ -50,9 +66,11 @@ impl<J: Naming, C: Clock + Drop, E: EngineLink + Drop, A: Allocator> SettlerPart
         requires known { IsKnown J.desk.config peer }
         ensures { Turns J.desk peer
             (settler self.old.share self.old.records.items (C.told self.old.clock)
-            (E.told self.old.engine) self.old.accounts self.old.tried)
+            (E.told self.old.engine) self.old.accounts self.old.tried self.old.receipt
+            (K.told self.old.keeper))
             (settler self.new.share self.new.records.items (C.told self.new.clock)
-            (E.told self.new.engine) self.new.accounts self.new.tried)
+            (E.told self.new.engine) self.new.accounts self.new.tried self.new.receipt
+            (K.told self.new.keeper))
             result }
     {
         if !self.has_account(desk.config(), peer) {
@@ -75,10 +93,13 @@ impl<J: Naming, C: Clock + Drop, E: EngineLink + Drop, A: Allocator> SettlerPart
         requires room { vec_len self.old.records < vec_capacity self.old.records }
         ensures taken { IsTakingUp J.desk peer
             (settler self.old.share self.old.records.items (C.told self.old.clock)
-            (E.told self.old.engine) self.old.accounts self.old.tried)
+            (E.told self.old.engine) self.old.accounts self.old.tried self.old.receipt
+            (K.told self.old.keeper))
             (settler self.new.share self.new.records.items (C.told self.new.clock)
-            (E.told self.new.engine) self.new.accounts self.new.tried)
-            (E.told self.old.engine) fault self.old.share (C.told self.old.clock) result }
+            (E.told self.new.engine) self.new.accounts self.new.tried self.new.receipt
+            (K.told self.new.keeper))
+            (E.told self.old.engine) fault self.old.share (C.told self.old.clock)
+            self.old.receipt result }
         ensures accounts { self.new.accounts ≡ self.old.accounts }
     {
         match self.choose(rt, desk, peer) {
@@ -88,12 +109,17 @@ impl<J: Naming, C: Clock + Drop, E: EngineLink + Drop, A: Allocator> SettlerPart
     }
 
     // The open settlement behind the one that was tried last, else the first of all.
-    fn choose(&self, rt: &impl Wait, desk: &Desk<J>, peer: u32) -> Option<Asked>
+    fn choose(&mut self, rt: &impl Wait, desk: &Desk<J>, peer: u32) -> Option<Asked>
         requires known { IsKnown J.desk.config peer }
-        ensures { IsChoosing J.desk peer (last_tried self.now.tried peer) result }
+        ensures chosen { IsChoosing J.desk peer (last_tried self.old.tried peer) self.old.receipt
+            self.new.receipt result }
+        ensures books { (self.new.share ≡ self.old.share) × (self.new.records ≡ self.old.records)
+            × (self.new.clock ≡ self.old.clock) × (self.new.accounts ≡ self.old.accounts) }
+        ensures others { (self.new.engine ≡ self.old.engine) × (self.new.keeper ≡ self.old.keeper)
+            × (self.new.tried ≡ self.old.tried) }
     {
         let tried = self.tried[place_of(desk.config(), peer)];
-        desk.open_settlement(rt, peer, tried)
+        desk.open_settlement_shown(rt, &mut self.receipt, peer, tried)
     }
 
     // Whether the peer's engine has the account: where it did not say so before, it is asked now.
@@ -108,6 +134,8 @@ impl<J: Naming, C: Clock + Drop, E: EngineLink + Drop, A: Allocator> SettlerPart
         ensures kept { result ≡ true → self.new.accounts ≡ with_account self.old.accounts peer }
         ensures books { (self.new.share ≡ self.old.share) × (self.new.records ≡ self.old.records)
             × (self.new.clock ≡ self.old.clock) × (self.new.tried ≡ self.old.tried) }
+        ensures keeping { (self.new.keeper ≡ self.old.keeper)
+            × (self.new.receipt ≡ self.old.receipt) }
     {
         let place = place_of(config, peer);
         if !self.accounts[place] {
@@ -123,14 +151,15 @@ impl<J: Naming, C: Clock + Drop, E: EngineLink + Drop, A: Allocator> SettlerPart
     fn ask(&mut self, rt: &impl Wait, desk: &Desk<J>, peer: u32) -> Result<Asked, AskFault>
         requires known { IsKnown J.desk.config peer }
         ensures asked { IsAsking J.desk peer (C.told self.old.clock) (C.told self.new.clock)
-            self.old.share self.new.share result }
+            self.old.receipt self.new.receipt self.old.share self.new.share result }
         ensures records { self.new.records ≡ self.old.records }
         ensures accounts { self.new.accounts ≡ self.old.accounts }
         ensures tried { self.new.tried ≡ self.old.tried }
         ensures engine { self.new.engine ≡ self.old.engine }
+        ensures keeper { self.new.keeper ≡ self.old.keeper }
     {
         let now = self.clock.now();
-        desk.ask(rt, &mut self.share, peer, now)
+        desk.ask_shown(rt, &mut self.share, &mut self.receipt, peer, now)
     }
 
     // Hands the settlement to the peer's engine, under its key. No lock is held meanwhile.
@@ -141,6 +170,8 @@ impl<J: Naming, C: Clock + Drop, E: EngineLink + Drop, A: Allocator> SettlerPart
         ensures books { (self.new.share ≡ self.old.share) × (self.new.records ≡ self.old.records)
             × (self.new.clock ≡ self.old.clock) × (self.new.accounts ≡ self.old.accounts) }
         ensures tried { self.new.tried ≡ with_tried self.old.tried peer asked.number }
+        ensures keeping { (self.new.keeper ≡ self.old.keeper)
+            × (self.new.receipt ≡ self.old.receipt) }
     {
         put_key(&mut self.key, config, asked.number);
         let scale = config.scale(peer);
@@ -149,8 +180,32 @@ impl<J: Naming, C: Clock + Drop, E: EngineLink + Drop, A: Allocator> SettlerPart
             .settle(peer, self.key.as_str(), asked.amount, scale)
     }
 
-    // Has the peer's engine settle, and the desk book what it said.
+    // Has the settlement's entry kept, and then the engine asked.
     fn carry_out(&mut self, rt: &impl Wait, desk: &Desk<J>, peer: u32, asked: Asked) -> Turn
+        requires known { IsKnown J.desk.config peer }
+        requires room { vec_len self.old.records < vec_capacity self.old.records }
+        ensures carried { CarriesOut J.desk peer
+            (settler self.old.share self.old.records.items (C.told self.old.clock)
+            (E.told self.old.engine) self.old.accounts self.old.tried self.old.receipt
+            (K.told self.old.keeper))
+            (settler self.new.share self.new.records.items (C.told self.new.clock)
+            (E.told self.new.engine) self.new.accounts self.new.tried self.new.receipt
+            (K.told self.new.keeper))
+            (E.told self.old.engine) asked self.old.share (C.told self.old.clock)
+            self.old.receipt result }
+        ensures accounts { self.new.accounts ≡ self.old.accounts }
+    {
+        let Ok(()) = self.keeper.keep(&mut self.receipt) else {
+            return Turn::Unwritten {
+                number: asked.number,
+                amount: asked.amount,
+            };
+        };
+        self.have_settled(rt, desk, peer, asked)
+    }
+
+    // Has the peer's engine settle, and the desk book what it said.
+    fn have_settled(&mut self, rt: &impl Wait, desk: &Desk<J>, peer: u32, asked: Asked) -> Turn
         requires known { IsKnown J.desk.config peer }
         requires room { vec_len self.old.records < vec_capacity self.old.records }
         ensures settled { (said : EngineReply)
@@ -161,6 +216,8 @@ impl<J: Naming, C: Clock + Drop, E: EngineLink + Drop, A: Allocator> SettlerPart
             (holding self.new.share self.new.records.items) result }
         ensures accounts { self.new.accounts ≡ self.old.accounts }
         ensures tried { self.new.tried ≡ with_tried self.old.tried peer asked.number }
+        ensures keeping { (self.new.keeper ≡ self.old.keeper)
+            × (self.new.receipt ≡ self.old.receipt) }
     {
         let said = self.settle(desk.config(), peer, asked);
         match verdict_by(said) {
@@ -190,6 +247,8 @@ impl<J: Naming, C: Clock + Drop, E: EngineLink + Drop, A: Allocator> SettlerPart
         ensures accounts { self.new.accounts ≡ self.old.accounts }
         ensures tried { self.new.tried ≡ self.old.tried }
         ensures engine { self.new.engine ≡ self.old.engine }
+        ensures keeping { (self.new.keeper ≡ self.old.keeper)
+            × (self.new.receipt ≡ self.old.receipt) }
     {
         let Asked { number, amount } = asked;
         let later = self.clock.now();
@@ -210,7 +269,13 @@ impl<J: Naming, C: Clock + Drop, E: EngineLink + Drop, A: Allocator> SettlerPart
     }
 }
 
-impl<J: Naming, C: Clock + Drop, E: EngineLink + Drop> SettlerParts<J, C, E, Global> {
+impl<J: Naming, C: Clock + Drop, E: EngineLink + Drop, K: Keeper<J> + Drop> SettlerParts<
+    J,
+    C,
+    E,
+    K,
+    Global,
+> {
     // The share and the records; the rest ends here.
     pub(crate) fn into_end(self) -> End<J>
         ensures { result ≡ holding self.share self.records.items }

@@ -10,6 +10,12 @@ pub enum Turn {
     NoAccount,
     /// No settlement is due, or the book can't have another; this is why. None is open.
     Idle(AskFault),
+    /// The settlement of this number is open, and no engine was asked for it, since nothing says that its
+    /// entry is kept. Later turns try it again. The amount is in units of the peer's asset.
+    Unwritten {
+        number: u32,
+        amount: u64,
+    },
     /// The settlement of this number is not closed by this turn: the engine did not say what became
     /// of it, or the book had it open no more when it did. While it is open, later turns try it again
     /// under the same key. The amount is in units of the peer's asset.
