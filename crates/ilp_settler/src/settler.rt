@@ -41,14 +41,14 @@ impl<J: Naming, C: Clock + Drop, E: EngineLink + Drop, K: Keeper<J> + Drop, A: A
 pub struct NoSettler<J: Naming, C: Clock + Drop, E: EngineLink + Drop, K: Keeper<J> + Drop> {
     /// The share of the desk, with which nothing was booked meanwhile.
     pub share: Share<J>,
+    /// The receipt, which was shown nothing.
+    pub receipt: JournalReceipt<J>,
     /// The clock, which was not asked.
     pub clock: C,
     /// The way to the engines, of which none was handed anything.
     pub engine: E,
     /// The keeper, which was not asked.
     pub keeper: K,
-    /// What was seen of the journal.
-    pub receipt: JournalReceipt<J>,
 }
 
 impl<J: Naming, C: Clock + Drop, E: EngineLink + Drop, K: Keeper<J> + Drop, A: Allocator> Settler<
@@ -64,35 +64,35 @@ impl<J: Naming, C: Clock + Drop, E: EngineLink + Drop, K: Keeper<J> + Drop, A: A
     pub fn new(
         alloc: A,
         share: Share<J>,
+        receipt: JournalReceipt<J>,
         clock: C,
         engine: E,
         keeper: K,
-        receipt: JournalReceipt<J>,
     ) -> Result<Settler<J, C, E, K, A>, NoSettler<J, C, E, K>>
     where
         A: Copy,
         ensures settler { IfOk result (λ s. s ≡ settler share [] (C.told clock) (E.told engine) no_accounts none_tried
             receipt (K.told keeper)) }
         ensures share { IfErr result (λ e. e.share ≡ share) }
-        ensures links { IfErr result (λ e. (e.clock ≡ clock) × (e.engine ≡ engine) × (e.keeper ≡ keeper)) }
-        ensures receipt { IfErr result (λ e. e.receipt ≡ receipt) }
+        ensures links { IfErr result (λ e. (e.clock ≡ clock) × (e.engine ≡ engine)) }
+        ensures kept { IfErr result (λ e. (e.receipt ≡ receipt) × (e.keeper ≡ keeper)) }
     {
         let Ok(key) = String::with_capacity(alloc, LONGEST_KEY) else {
             return Err(NoSettler {
                 share,
+                receipt,
                 clock,
                 engine,
                 keeper,
-                receipt,
             });
         };
         let parts = SettlerParts {
             share,
             records: Vec::new(alloc),
+            receipt,
             clock,
             engine,
             keeper,
-            receipt,
             key,
             accounts: [false; MOST_PEERS],
             tried: [None; MOST_PEERS],

@@ -35,11 +35,11 @@ pub(crate) struct SettlerParts<
 > {
     pub(crate) share: Share<J>,
     pub(crate) records: Vec<Record, A>,
+    // What was seen of the journal.
+    pub(crate) receipt: JournalReceipt<J>,
     pub(crate) clock: C,
     pub(crate) engine: E,
     pub(crate) keeper: K,
-    // What was seen of the journal.
-    pub(crate) receipt: JournalReceipt<J>,
     // The key of the settlement that an engine is asked for.
     pub(crate) key: String<A>,
     // By peers' places: whether the engine said that it has the account.
