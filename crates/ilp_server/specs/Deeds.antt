@@ -1,6 +1,8 @@
 -- What a request brought about that an operator is told of.
 use Rattle.std.specs.Prelude.{ℕ, if◌then◌else◌, Option, Some, None, Result, Ok, Err}
 use Rattle.ilp_book.specs.declared.calls.Kept.{Kept}
+use Rattle.ilp_workers.specs.declared.crediting.NotCredited.{NotCredited}
+use Rattle.ilp_workers.specs.declared.crediting.NotCredited.TheVariants.{Refused, NotKept}
 use Rattle.ilp_workers.specs.declared.rejects.ToldReject.{ToldReject}
 use Rattle.ilp_settlement.specs.declared.quantity.Quantity.{Quantity}
 use Rattle.ilp_book.specs.declared.fault.CreditFault.{CreditFault}
@@ -22,6 +24,11 @@ abbrev pub refusal_deed : ℕ → Quantity → CreditFault → Deed
 refusal_deed peer quantity (KeyTaken number) = deed.KeyTaken peer number quantity
 refusal_deed peer quantity fault = Nothing
 
+-- a settlement that is not answered as credited: it may be credited all the same
+abbrev pub uncredited_deed : ℕ → Quantity → NotCredited → Deed
+uncredited_deed peer quantity (Refused fault) = refusal_deed peer quantity fault
+uncredited_deed peer quantity (NotKept credit) = credit_deed peer credit
+
 -- the Reject that the sender of a packet is answered, if it is one
 abbrev pub packet_deed : ℕ → Option ToldReject → Deed
 packet_deed peer (Some reject) = Rejected peer reject
@@ -34,5 +41,5 @@ deed_of (Ok (Settlement peer kept text)) = credit_deed peer kept
 deed_of (Ok Message) = Nothing
 deed_of (Ok (Report text)) = Nothing
 deed_of (Ok Close) = Nothing
-deed_of (Err (Credit peer quantity fault)) = refusal_deed peer quantity fault
+deed_of (Err (Credit peer quantity fault)) = uncredited_deed peer quantity fault
 deed_of (Err why) = Nothing

@@ -12,12 +12,12 @@ use Rattle.ilp_settlement.specs.declared.quantity.QuantityFault.{QuantityFault}
 use Rattle.ilp_settlement.specs.declared.quantity.QuantityFault.TheVariants as quantity_fault
 use Rattle.ilp_settlement.specs.Quantity.{quantity_in, quantity_text}
 use Rattle.ilp_book.specs.declared.calls.Kept.{Kept}
-use Rattle.ilp_book.specs.declared.fault.CreditFault.{CreditFault}
 use Rattle.ilp_book.specs.Configured.{scale_at}
 use Rattle.ilp_book.specs.SettleStep.{payment}
 use Rattle.ilp_book.specs.Book.{PlainBook}
 use Rattle.ilp_report.specs.Report.{report_text}
 use Rattle.ilp_desk.specs.Desk.{PlainDesk, IsBookOf}
+use Rattle.ilp_workers.specs.declared.crediting.NotCredited.{NotCredited}
 use Rattle.ilp_workers.specs.declared.reply.BadPacket.{BadPacket}
 use Rattle.ilp_workers.specs.declared.reply.Receipt.{Receipt}
 use Rattle.ilp_workers.specs.declared.messaging.MessageFault.{MessageFault}
@@ -97,8 +97,8 @@ abbrev pub IsNoQuantity : List ℕ → QuantityFault → Type 0
 IsNoQuantity body fault = (fault ≡ quantity_fault.Memory) ⊎ (quantity_in body ≡ Err fault)
 
 -- the outcome of a payment that is credited, which answers the amount that is kept under its key, at the scale of the peer's
--- balance; or that is refused
-abbrev pub IsCreditOutcome : PlainDesk → ℕ → Quantity → Result Kept CreditFault → Result Served NotServed → Type 0
+-- balance; or that is refused, or is not kept
+abbrev pub IsCreditOutcome : PlainDesk → ℕ → Quantity → Result Kept NotCredited → Result Served NotServed → Type 0
 IsCreditOutcome desk peer quantity (Ok kept) outcome =
     (text : OctetsWithRoom) × (outcome ≡ Ok (Settlement peer kept text)) × (text.octets ≡ quantity_text kept.amount (scale_at desk.config peer))
 IsCreditOutcome desk peer quantity (Err fault) outcome = outcome ≡ Err (unserved.Credit peer quantity fault)
@@ -107,7 +107,7 @@ IsCreditOutcome desk peer quantity (Err fault) outcome = outcome ≡ Err (unserv
 abbrev pub ServesQuantity : PlainDesk → ℕ → List ℕ → Quantity → PlainWorker → PlainWorker → Result Served NotServed → Type 0
 ServesQuantity desk peer key quantity before after outcome =
     IsTurnedAway unserved.Memory before after outcome
-    ⊎ ((credit : Result Kept CreditFault) × Credits desk (payment peer key quantity) before after credit × IsCreditOutcome desk peer quantity credit outcome)
+    ⊎ ((credit : Result Kept NotCredited) × Credits desk (payment peer key quantity) before after credit × IsCreditOutcome desk peer quantity credit outcome)
 
 -- A body under a key: what is no quantity is turned away.
 abbrev pub ServesPayment : PlainDesk → ℕ → List ℕ → List ℕ → PlainWorker → PlainWorker → Result Served NotServed → Type 0

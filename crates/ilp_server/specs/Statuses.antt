@@ -8,6 +8,7 @@ use Rattle.ilp_http.specs.declared.status.Status.TheVariants.{BadRequest, Unauth
 use Rattle.ilp_settlement.specs.declared.quantity.QuantityFault.TheVariants as quantity_fault
 use Rattle.ilp_book.specs.declared.fault.CreditFault.{CreditFault}
 use Rattle.ilp_book.specs.declared.fault.CreditFault.TheVariants as credit_fault
+use Rattle.ilp_workers.specs.declared.crediting.NotCredited.TheVariants.{Refused, NotKept}
 use Rattle.ilp_workers.specs.declared.messaging.MessageFault.TheVariants as message_fault
 use Rattle.ilp_server.specs.declared.unserved.NotServed.{NotServed}
 use Rattle.ilp_server.specs.declared.unserved.NotServed.TheVariants.{NoRequest, UnknownTarget, UnknownSender, Packet, NoKey, Quantity, Credit, Message, Memory}
@@ -32,7 +33,8 @@ status_of (Quantity quantity_fault.NotJson) = BadRequest
 status_of (Quantity quantity_fault.BadAmount) = BadRequest
 status_of (Quantity quantity_fault.BadScale) = BadRequest
 status_of (Quantity quantity_fault.Memory) = Unavailable
-status_of (Credit peer quantity fault) = status_of_credit fault
+status_of (Credit peer quantity (Refused fault)) = status_of_credit fault
+status_of (Credit peer quantity (NotKept credit)) = Unavailable
 status_of (Message message_fault.TooLong) = BadGateway
 status_of (Message message_fault.NoAnswer) = BadGateway
 status_of (Message message_fault.Memory) = Unavailable

@@ -12,7 +12,7 @@ use crate::unserved::{NotServed, unread};
 use ilp_desk::{Desk, Naming};
 use ilp_http::{Buffer, Kind, Status, read_request, write_response};
 use ilp_io::{Sink, Source};
-use ilp_workers::{Clock, EngineLink, Uplink, Worker};
+use ilp_workers::{Clock, EngineLink, Keeper, Uplink, Worker};
 use std::alloc::{Allocator, Global};
 use std::sync::Wait;
 
@@ -33,13 +33,14 @@ pub fn answer_connection<
     C: Clock + Drop,
     U: Uplink + Drop,
     E: EngineLink + Drop,
+    K: Keeper<J> + Drop,
     A: Allocator,
     S: Source,
     W: Sink,
 >(
     rt: &impl Wait,
     alloc: Global,
-    worker: &mut Worker<J, C, U, E, A>,
+    worker: &mut Worker<J, C, U, E, K, A>,
     desk: &Desk<J>,
     side: Side,
     source: &mut S,
@@ -72,9 +73,10 @@ fn respond<
     C: Clock + Drop,
     U: Uplink + Drop,
     E: EngineLink + Drop,
+    K: Keeper<J> + Drop,
     A: Allocator,
     W: Sink,
->(worker: &Worker<J, C, U, E, A>, sink: &mut W, outcome: Result<Served, NotServed>) -> Handled
+>(worker: &Worker<J, C, U, E, K, A>, sink: &mut W, outcome: Result<Served, NotServed>) -> Handled
     ensures written { IsWritten worker.now outcome (W.contents sink.old) (W.contents sink.new) result }
     ensures failed { CountsUp (W.failures sink.old) (W.failures sink.new) (failed_writes_of result) }
 {

@@ -1,13 +1,13 @@
 //! What a worker made of a request.
 ghost use Rattle.std.specs.Prelude.{◌≡◌};
-ghost use Rattle.ilp_server.specs.Deeds.{deed_of, credit_deed, refusal_deed};
+ghost use Rattle.ilp_server.specs.Deeds.{deed_of, credit_deed, refusal_deed, uncredited_deed};
 
 use crate::handled::Deed;
 use crate::unserved::NotServed;
 use ilp_book::{CreditFault, Kept};
 use ilp_oer::Octets;
 use ilp_settlement::Quantity;
-use ilp_workers::ToldReject;
+use ilp_workers::{NotCredited, ToldReject};
 
 /// What the response to a request that was served has as its body.
 #[derive(Drop)]
@@ -50,8 +50,18 @@ pub(crate) fn deed_of(outcome: &Result<Served, NotServed>) -> Deed
                 quantity,
                 fault,
             },
-        ) => refusal_deed(*peer, *quantity, *fault),
+        ) => uncredited_deed(*peer, *quantity, *fault),
         _ => Deed::Nothing,
+    }
+}
+
+// A settlement that is not answered as credited. It may be credited all the same.
+fn uncredited_deed(peer: u32, quantity: Quantity, fault: NotCredited) -> Deed
+    ensures { result ≡ uncredited_deed peer quantity fault }
+{
+    match fault {
+        NotCredited::Refused(fault) => refusal_deed(peer, quantity, fault),
+        NotCredited::NotKept { credit } => credit_deed(peer, credit),
     }
 }
 

@@ -13,7 +13,7 @@ use ilp_journal::Key;
 use ilp_oer::Octets;
 use ilp_report::print;
 use ilp_settlement::{LONGEST_QUANTITY, Quantity, put_quantity};
-use ilp_workers::{Clock, EngineLink, Uplink, Worker};
+use ilp_workers::{Clock, EngineLink, Keeper, Uplink, Worker};
 use std::alloc::{Allocator, Global};
 use std::sync::Wait;
 
@@ -23,11 +23,12 @@ pub(crate) fn serve<
     C: Clock + Drop,
     U: Uplink + Drop,
     E: EngineLink + Drop,
+    K: Keeper<J> + Drop,
     A: Allocator,
 >(
     rt: &impl Wait,
     alloc: Global,
-    worker: &mut Worker<J, C, U, E, A>,
+    worker: &mut Worker<J, C, U, E, K, A>,
     desk: &Desk<J>,
     side: Side,
     request: &Request<'_>,
@@ -48,9 +49,16 @@ pub(crate) fn serve<
 }
 
 // Forwards the body as a packet of the peer whose token the request shows.
-fn serve_packet<J: Naming, C: Clock + Drop, U: Uplink + Drop, E: EngineLink + Drop, A: Allocator>(
+fn serve_packet<
+    J: Naming,
+    C: Clock + Drop,
+    U: Uplink + Drop,
+    E: EngineLink + Drop,
+    K: Keeper<J> + Drop,
+    A: Allocator,
+>(
     rt: &impl Wait,
-    worker: &mut Worker<J, C, U, E, A>,
+    worker: &mut Worker<J, C, U, E, K, A>,
     desk: &Desk<J>,
     request: &Request<'_>,
 ) -> Result<Served, NotServed>
@@ -75,11 +83,12 @@ fn serve_settlement<
     C: Clock + Drop,
     U: Uplink + Drop,
     E: EngineLink + Drop,
+    K: Keeper<J> + Drop,
     A: Allocator,
 >(
     rt: &impl Wait,
     alloc: Global,
-    worker: &mut Worker<J, C, U, E, A>,
+    worker: &mut Worker<J, C, U, E, K, A>,
     desk: &Desk<J>,
     peer: u32,
     request: &Request<'_>,
@@ -96,10 +105,17 @@ fn serve_settlement<
 
 // Credits the quantity that the body is. Room for the answer and the key is made before anything is
 // booked.
-fn serve_payment<J: Naming, C: Clock + Drop, U: Uplink + Drop, E: EngineLink + Drop, A: Allocator>(
+fn serve_payment<
+    J: Naming,
+    C: Clock + Drop,
+    U: Uplink + Drop,
+    E: EngineLink + Drop,
+    K: Keeper<J> + Drop,
+    A: Allocator,
+>(
     rt: &impl Wait,
     alloc: Global,
-    worker: &mut Worker<J, C, U, E, A>,
+    worker: &mut Worker<J, C, U, E, K, A>,
     desk: &Desk<J>,
     peer: u32,
     key: &[u8],
@@ -134,8 +150,15 @@ fn serve_payment<J: Naming, C: Clock + Drop, U: Uplink + Drop, E: EngineLink + D
 }
 
 // Sends the body as a message to the peer's engine.
-fn serve_message<J: Naming, C: Clock + Drop, U: Uplink + Drop, E: EngineLink + Drop, A: Allocator>(
-    worker: &mut Worker<J, C, U, E, A>,
+fn serve_message<
+    J: Naming,
+    C: Clock + Drop,
+    U: Uplink + Drop,
+    E: EngineLink + Drop,
+    K: Keeper<J> + Drop,
+    A: Allocator,
+>(
+    worker: &mut Worker<J, C, U, E, K, A>,
     desk: &Desk<J>,
     peer: u32,
     body: &[u8],

@@ -7,7 +7,7 @@ use crate::handled::ConnectionFault;
 use ilp_book::CreditFault;
 use ilp_http::{Refusal, RequestFault, Status};
 use ilp_settlement::{Quantity, QuantityFault};
-use ilp_workers::{BadPacket, MessageFault};
+use ilp_workers::{BadPacket, MessageFault, NotCredited};
 use thiserror::Error;
 
 /// Why a request is not served. It is answered by a status and an empty body.
@@ -31,12 +31,12 @@ pub enum NotServed {
     /// The body is no quantity, or memory to read it was denied.
     #[error("{0}")]
     Quantity(QuantityFault),
-    /// The settlement of the peer, of this quantity, is not credited.
+    /// The settlement of the peer, of this quantity, is not answered as credited.
     #[error("{fault}")]
     Credit {
         peer: u32,
         quantity: Quantity,
-        fault: CreditFault,
+        fault: NotCredited,
     },
     /// The message has no answer.
     #[error("{0}")]
@@ -59,7 +59,14 @@ impl NotServed {
             NotServed::NoKey => Status::BadRequest,
             NotServed::Quantity(QuantityFault::Memory) => Status::Unavailable,
             NotServed::Quantity(_) => Status::BadRequest,
-            NotServed::Credit { fault, .. } => status_of_credit(fault),
+            NotServed::Credit {
+                fault: NotCredited::Refused(fault),
+                ..
+            } => status_of_credit(fault),
+            NotServed::Credit {
+                fault: NotCredited::NotKept { .. },
+                ..
+            } => Status::Unavailable,
             NotServed::Message(MessageFault::TooLong) => Status::BadGateway,
             NotServed::Message(MessageFault::NoAnswer) => Status::BadGateway,
             NotServed::Message(MessageFault::Memory) => Status::Unavailable,
