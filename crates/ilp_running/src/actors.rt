@@ -7,47 +7,72 @@ use ilp_desk::{Desk, Naming, Share};
 use ilp_http::Buffer;
 use ilp_links::Links;
 use ilp_settler::{Settler, Sweeper};
-use ilp_workers::{Clock, EngineLink, Uplink, Worker};
-use std::alloc::{AllocError, Global};
+use ilp_workers::{Clock, EngineLink, Keeper, Uplink, Worker};
+use std::alloc::AllocError;
+use std::sync::Wait;
 
 /// A worker, and the buffer into which it reads requests.
 #[derive(Drop)]
-pub(crate) struct Responder<J: Naming, C: Clock + Drop, U: Uplink + Drop, E: EngineLink + Drop> {
-    pub(crate) worker: Worker<J, C, U, E>,
+pub(crate) struct Responder<
+    J: Naming,
+    C: Clock + Drop,
+    U: Uplink + Drop,
+    E: EngineLink + Drop,
+    K: Keeper<J> + Drop,
+> {
+    pub(crate) worker: Worker<J, C, U, E, K>,
     pub(crate) buffer: Buffer,
 }
 
 /// The sweeper and the settler, who take turns and rest between them, and the clock of the watcher, who
 /// does so too.
 #[derive(Drop)]
-pub(crate) struct Turning<J: Naming, C: Clock + Drop, E: EngineLink + Drop> {
+pub(crate) struct Turning<J: Naming, C: Clock + Drop, E: EngineLink + Drop, K: Keeper<J> + Drop> {
     pub(crate) sweeper: Sweeper<J, C>,
-    pub(crate) settler: PausedSettler<J, C, E>,
+    pub(crate) settler: PausedSettler<J, C, E, K>,
     pub(crate) clock: C,
 }
 
 /// The actors of a desk, with all the memory that they are given.
 #[derive(Drop)]
-pub(crate) struct Actors<J: Naming, C: Clock + Drop, U: Uplink + Drop, E: EngineLink + Drop> {
-    pub(crate) responders: Vec<Responder<J, C, U, E>>,
-    pub(crate) turning: Turning<J, C, E>,
+pub(crate) struct Actors<
+    J: Naming,
+    C: Clock + Drop,
+    U: Uplink + Drop,
+    E: EngineLink + Drop,
+    K: Keeper<J> + Drop,
+> {
+    pub(crate) responders: Vec<Responder<J, C, U, E, K>>,
+    pub(crate) turning: Turning<J, C, E, K>,
 }
 
-// The actors whose links are made by `L`.
-type ActorsOf<J, L> = Actors<J, <L as Links>::Clock, <L as Links>::Uplink, <L as Links>::Engine>;
-
-// The workers whose links are made by `L`, with their buffers.
-type RespondersOf<J, L> = Vec<
-    Responder<J, <L as Links>::Clock, <L as Links>::Uplink, <L as Links>::Engine>,
+// The actors whose links are made by `L`, and whose keepers are `K`.
+type ActorsOf<J, L, K> = Actors<
+    J,
+    <L as Links>::Clock,
+    <L as Links>::Uplink,
+    <L as Links>::Engine,
+    K,
 >;
 
-/// The actors whose shares these are, the settler's last and the sweeper's before it. It is refused
-/// where memory is denied.
-pub(crate) fn actors_of<J: Naming, L: Links>(
+// A worker whose links are made by `L`, with its buffer.
+type ResponderOf<J, L, K> = Responder<
+    J,
+    <L as Links>::Clock,
+    <L as Links>::Uplink,
+    <L as Links>::Engine,
+    K,
+>;
+
+/// The actors whose shares these are, the settler's last and the sweeper's before it. Each has a copy of
+/// the keeper. It is refused where memory is denied.
+pub(crate) fn actors_of<J: Naming, L: Links, K: Keeper<J> + Drop + Copy>(
+    rt: &impl Wait,
     desk: &Desk<J>,
     shares: Vec<Share<J>>,
     links: &L,
-) -> Result<ActorsOf<J, L>, AllocError>
+    keeper: K,
+) -> Result<ActorsOf<J, L, K>, AllocError>
     requires { 2 ≤ vec_len shares }
 {
     let alloc = desk.config().allocator();
@@ -56,11 +81,11 @@ pub(crate) fn actors_of<J: Naming, L: Links>(
         unreachable!();
     };
     let settler = PausedSettler {
-        settler: new_settler(alloc, settlers, links)?,
+        settler: new_settler(rt, desk, settlers, links, keeper)?,
         pauses: Pauses::new(alloc, desk.config().peers())?,
     };
     let sweeper = Sweeper::new(alloc, sweepers, links.clock());
-    let responders = new_responders(alloc, shares, links)?;
+    let responders = new_responders(rt, desk, shares, links, keeper)?;
     let turning = Turning {
         sweeper,
         settler,
@@ -72,39 +97,55 @@ pub(crate) fn actors_of<J: Naming, L: Links>(
     })
 }
 
-fn new_responders<J: Naming, L: Links>(
-    alloc: Global,
+fn new_responders<J: Naming, L: Links, K: Keeper<J> + Drop + Copy>(
+    rt: &impl Wait,
+    desk: &Desk<J>,
     shares: Vec<Share<J>>,
     links: &L,
-) -> Result<RespondersOf<J, L>, AllocError> {
-    let mut responders = Vec::new(alloc);
+    keeper: K,
+) -> Result<Vec<ResponderOf<J, L, K>>, AllocError> {
+    let mut responders = Vec::new(desk.config().allocator());
     for share in shares {
-        responders.push(new_responder(alloc, share, links)?)?;
+        responders.push(new_responder(rt, desk, share, links, keeper)?)?;
     }
     Ok(responders)
 }
 
-fn new_responder<J: Naming, L: Links>(
-    alloc: Global,
+fn new_responder<J: Naming, L: Links, K: Keeper<J> + Drop>(
+    rt: &impl Wait,
+    desk: &Desk<J>,
     share: Share<J>,
     links: &L,
-) -> Result<Responder<J, L::Clock, L::Uplink, L::Engine>, AllocError> {
+    keeper: K,
+) -> Result<ResponderOf<J, L, K>, AllocError> {
+    let alloc = desk.config().allocator();
     let buffer = Buffer::new(alloc)?;
     let uplink = links.uplink()?;
     let engine = links.engine()?;
-    match Worker::new(alloc, share, links.clock(), uplink, engine) {
+    let receipt = desk.receipt(rt);
+    match Worker::new(alloc, share, receipt, links.clock(), uplink, engine, keeper) {
         Ok(worker) => Ok(Responder { worker, buffer }),
         Err(_) => Err(AllocError),
     }
 }
 
-fn new_settler<J: Naming, L: Links>(
-    alloc: Global,
+fn new_settler<J: Naming, L: Links, K: Keeper<J> + Drop>(
+    rt: &impl Wait,
+    desk: &Desk<J>,
     share: Share<J>,
     links: &L,
-) -> Result<Settler<J, L::Clock, L::Engine>, AllocError> {
+    keeper: K,
+) -> Result<Settler<J, L::Clock, L::Engine, K>, AllocError> {
     let engine = links.engine()?;
-    match Settler::new(alloc, share, links.clock(), engine) {
+    let receipt = desk.receipt(rt);
+    match Settler::new(
+        desk.config().allocator(),
+        share,
+        receipt,
+        links.clock(),
+        engine,
+        keeper,
+    ) {
         Ok(settler) => Ok(settler),
         Err(_) => Err(AllocError),
     }

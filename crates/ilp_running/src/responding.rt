@@ -10,7 +10,7 @@ use ilp_http::Status;
 use ilp_intake::ReadyConnection;
 use ilp_links::{TimedWriter, instant_after};
 use ilp_server::{Handled, answer_connection};
-use ilp_workers::{Clock, EngineLink, Uplink};
+use ilp_workers::{Clock, EngineLink, Keeper, Uplink};
 use std::io::{Eprint, ErrorKind, Read, Write};
 use std::net::{Shutdown, TcpStream};
 use std::sync::Wait;
@@ -27,8 +27,9 @@ pub(crate) fn serve_connections<
     C: Clock + Drop,
     U: Uplink + Drop,
     E: EngineLink + Drop,
+    K: Keeper<J> + Drop,
     R: Wait + time::Clock + Eprint,
->(shared: Shared<'_, J, R>, responder: Responder<J, C, U, E>, jobs: Receiver<Job>) -> End<J> {
+>(shared: Shared<'_, J, R>, responder: Responder<J, C, U, E, K>, jobs: Receiver<Job>) -> End<J> {
     let mut responder = responder;
     let rt = shared.rt;
     for job in jobs.iter(rt) {
@@ -52,8 +53,9 @@ fn serve_job<
     C: Clock + Drop,
     U: Uplink + Drop,
     E: EngineLink + Drop,
+    K: Keeper<J> + Drop,
     R: Wait + time::Clock + Eprint,
->(shared: &Shared<'_, J, R>, responder: &mut Responder<J, C, U, E>, job: Job) {
+>(shared: &Shared<'_, J, R>, responder: &mut Responder<J, C, U, E, K>, job: Job) {
     let rt = shared.rt;
     // Behind the response the client may be gone, and its address with it.
     let address = job
@@ -87,8 +89,9 @@ fn serve_connection<
     C: Clock + Drop,
     U: Uplink + Drop,
     E: EngineLink + Drop,
+    K: Keeper<J> + Drop,
     R: Wait + time::Clock,
->(rt: &R, desk: &Desk<J>, responder: &mut Responder<J, C, U, E>, job: &Job) -> Handled {
+>(rt: &R, desk: &Desk<J>, responder: &mut Responder<J, C, U, E, K>, job: &Job) -> Handled {
     let ReadyConnection {
         stream,
         octets,

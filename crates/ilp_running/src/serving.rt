@@ -25,6 +25,7 @@ use ilp_links::Links;
 use ilp_notices::{few_files, listening, no_thread, not_listening, one_worker};
 use ilp_report::{Snapshot, print};
 use ilp_server::Side;
+use ilp_workers::Forgetful;
 use std::io::{Eprint, ErrorKind};
 use std::marker::Brand;
 use std::net::{Net, TcpListener, TcpStream};
@@ -228,7 +229,7 @@ where
     requires { 2 ≤ vec_len shares }
 {
     let config = desk.config();
-    let actors = actors_of(desk, shares, links)?;
+    let actors = actors_of(rt, desk, shares, links, Forgetful)?;
     let places = Places::new(config.allocator(), config.workers(), config.peers())?;
     let seen = Seen::new();
     let Sides {

@@ -15,7 +15,7 @@ use ilp_desk::{Desk, End, Naming};
 use ilp_links::Hurry;
 use ilp_notices::{Notices, closing};
 use ilp_settler::Sweeper;
-use ilp_workers::{Clock, EngineLink, Uplink};
+use ilp_workers::{Clock, EngineLink, Keeper, Uplink};
 use std::io::Eprint;
 use std::sync::Wait;
 use std::thread::{JoinHandle, Scope, Threads};
@@ -62,10 +62,10 @@ struct TurnThreads<J: Naming> {
 }
 
 // Starts a thread for each worker.
-fn start_workers<'s, S, J, C, U, E, R>(
+fn start_workers<'s, S, J, C, U, E, K, R>(
     scope: &'s Scope<'s, S>,
     shared: &Shared<'s, J, R>,
-    responders: Vec<Responder<J, C, U, E>>,
+    responders: Vec<Responder<J, C, U, E, K>>,
     jobs: &Receiver<Job>,
 ) -> Result<Vec<JoinHandle<End<J>>>, Unprinted>
 where
@@ -73,6 +73,7 @@ where
     C: Clock + Drop + Send + 's,
     U: Uplink + Drop + Send + 's,
     E: EngineLink + Drop + Send + 's,
+    K: Keeper<J> + Drop + Send + 's,
     R: Wait + time::Clock + Eprint + Sync + 's,
 {
     let mut threads = Vec::new(shared.desk.config().allocator());
@@ -86,10 +87,10 @@ where
 }
 
 // Starts the thread of a worker.
-fn start_worker<'s, S, J, C, U, E, R>(
+fn start_worker<'s, S, J, C, U, E, K, R>(
     scope: &'s Scope<'s, S>,
     shared: &Shared<'s, J, R>,
-    responder: Responder<J, C, U, E>,
+    responder: Responder<J, C, U, E, K>,
     jobs: &Receiver<Job>,
 ) -> Result<JoinHandle<End<J>>, Unprinted>
 where
@@ -97,6 +98,7 @@ where
     C: Clock + Drop + Send + 's,
     U: Uplink + Drop + Send + 's,
     E: EngineLink + Drop + Send + 's,
+    K: Keeper<J> + Drop + Send + 's,
     R: Wait + time::Clock + Eprint + Sync + 's,
 {
     let jobs = jobs.clone()?;
@@ -124,16 +126,17 @@ where
 }
 
 // Starts the thread of the settler.
-fn start_settler<'s, S, J, C, E, R>(
+fn start_settler<'s, S, J, C, E, K, R>(
     scope: &'s Scope<'s, S>,
     shared: &Shared<'s, J, R>,
-    settler: PausedSettler<J, C, E>,
+    settler: PausedSettler<J, C, E, K>,
     shutdown: Shutdown,
 ) -> Result<JoinHandle<End<J>>, Unprinted>
 where
     J: Naming + Send + Sync + 's,
     C: Clock + Drop + Send + 's,
     E: EngineLink + Drop + Send + 's,
+    K: Keeper<J> + Drop + Send + 's,
     R: Wait + time::Clock + Eprint + Sync + 's,
 {
     let shared = shared.another();
@@ -164,16 +167,17 @@ where
 }
 
 // Starts the threads of the sweeper, the settler and the watcher.
-fn start_turns<'s, S, J, C, E, R>(
+fn start_turns<'s, S, J, C, E, K, R>(
     scope: &'s Scope<'s, S>,
     shared: &Shared<'s, J, R>,
-    turning: Turning<J, C, E>,
+    turning: Turning<J, C, E, K>,
     shutdown: &Shutdown,
 ) -> Result<TurnThreads<J>, Unprinted>
 where
     J: Naming + Send + Sync + 's,
     C: Clock + Drop + Send + 's,
     E: EngineLink + Drop + Send + 's,
+    K: Keeper<J> + Drop + Send + 's,
     R: Wait + time::Clock + Eprint + Sync + 's,
 {
     let Turning {
@@ -263,10 +267,10 @@ struct ActorThreads<J: Naming> {
 }
 
 // Starts the threads of all actors. The workers serve the jobs that are sent.
-fn start_actors<'s, S, J, C, U, E, R>(
+fn start_actors<'s, S, J, C, U, E, K, R>(
     scope: &'s Scope<'s, S>,
     shared: &Shared<'s, J, R>,
-    actors: Actors<J, C, U, E>,
+    actors: Actors<J, C, U, E, K>,
     jobs: Receiver<Job>,
 ) -> Result<ActorThreads<J>, Unprinted>
 where
@@ -274,6 +278,7 @@ where
     C: Clock + Drop + Send + 's,
     U: Uplink + Drop + Send + 's,
     E: EngineLink + Drop + Send + 's,
+    K: Keeper<J> + Drop + Send + 's,
     R: Wait + time::Clock + Eprint + Sync + 's,
 {
     let Actors {
@@ -316,9 +321,9 @@ fn join_actors<J: Naming, R: Threads>(
 /// is answered, and gives what they hand in. Where a thread can't be started those that run are ended
 /// and joined: workers end once all senders of jobs are dropped, the sweeper and the settler once
 /// `KeepRunning` is, and an intake once it is closed.
-pub(crate) fn run<J, C, U, E, R>(
+pub(crate) fn run<J, C, U, E, K, R>(
     shared: Shared<'_, J, R>,
-    actors: Actors<J, C, U, E>,
+    actors: Actors<J, C, U, E, K>,
     acceptors: Acceptors,
     hurry: &Hurry,
 ) -> Result<Vec<End<J>>, Unprinted>
@@ -327,6 +332,7 @@ where
     C: Clock + Drop + Send,
     U: Uplink + Drop + Send,
     E: EngineLink + Drop + Send,
+    K: Keeper<J> + Drop + Send,
     R: Threads + Wait + time::Clock + Eprint + Sync,
 {
     let alloc = shared.desk.config().allocator();
@@ -336,7 +342,7 @@ where
         thread::scope_env(),
         shared.rt,
         move |scope| -> Result<Vec<End<J>>, Unprinted>
-            requires { IsSend J.row × IsSync J.row × IsSend C.row × IsSend U.row × IsSend E.row × IsSync R.row }
+            requires { IsSend J.row × IsSync J.row × IsSend C.row × IsSend U.row × IsSend E.row × IsSend K.row × IsSync R.row }
         {
             let threads = start_actors(scope, &shared, actors, jobs)?;
             let accepted = accept_at_both(scope, &shared, acceptors, sender);

@@ -6,7 +6,7 @@ use crate::threads::Shared;
 use ilp_book::AskFault;
 use ilp_desk::{Desk, End, Naming};
 use ilp_settler::{Settler, Sweeper, Turn};
-use ilp_workers::{Clock, EngineLink, EngineReply};
+use ilp_workers::{Clock, EngineLink, EngineReply, Keeper};
 use std::io::Eprint;
 use std::sync::Wait;
 use std::time;
@@ -32,19 +32,28 @@ pub(crate) fn sweep<J: Naming, C: Clock + Drop, R: Wait + time::Clock>(
 
 /// The settler, and how long the peers' turns rest.
 #[derive(Drop)]
-pub(crate) struct PausedSettler<J: Naming, C: Clock + Drop, E: EngineLink + Drop> {
-    pub(crate) settler: Settler<J, C, E>,
+pub(crate) struct PausedSettler<
+    J: Naming,
+    C: Clock + Drop,
+    E: EngineLink + Drop,
+    K: Keeper<J> + Drop,
+> {
+    pub(crate) settler: Settler<J, C, E, K>,
     pub(crate) pauses: Pauses,
 }
 
 /// Has the settler take a turn for each peer, and then rest for `settle_ms`, until the connector
 /// ends. What becomes of a settlement is told.
-pub(crate) fn settle<J: Naming, C: Clock + Drop, E: EngineLink + Drop, R>(
+pub(crate) fn settle<J, C, E, K, R>(
     shared: Shared<'_, J, R>,
-    paused: PausedSettler<J, C, E>,
+    paused: PausedSettler<J, C, E, K>,
     shutdown: Shutdown,
 ) -> End<J>
 where
+    J: Naming,
+    C: Clock + Drop,
+    E: EngineLink + Drop,
+    K: Keeper<J> + Drop,
     R: Wait + time::Clock + Eprint,
 {
     let mut paused = paused;
@@ -62,12 +71,16 @@ where
 
 // Has the settler take a turn for each peer whose turns don't rest; none is begun once the connector
 // ends.
-fn settle_all<J: Naming, C: Clock + Drop, E: EngineLink + Drop, R>(
+fn settle_all<J, C, E, K, R>(
     shared: &Shared<'_, J, R>,
-    paused: &mut PausedSettler<J, C, E>,
+    paused: &mut PausedSettler<J, C, E, K>,
     shutdown: &Shutdown,
 )
 where
+    J: Naming,
+    C: Clock + Drop,
+    E: EngineLink + Drop,
+    K: Keeper<J> + Drop,
     R: Wait + time::Clock + Eprint,
 {
     for peer in 0..shared.desk.config().peers() {
@@ -85,13 +98,17 @@ where
 }
 
 // Tells what became of a settlement with a peer. After a refusal the peer's turns rest.
-fn tell_turn<J: Naming, C: Clock + Drop, E: EngineLink + Drop, R>(
+fn tell_turn<J, C, E, K, R>(
     shared: &Shared<'_, J, R>,
-    paused: &mut PausedSettler<J, C, E>,
+    paused: &mut PausedSettler<J, C, E, K>,
     peer: u32,
     turn: Turn,
 )
 where
+    J: Naming,
+    C: Clock + Drop,
+    E: EngineLink + Drop,
+    K: Keeper<J> + Drop,
     R: Wait + time::Clock + Eprint,
 {
     let (rt, config, notices) = (shared.rt, shared.desk.config(), shared.notices);
@@ -99,6 +116,8 @@ where
         Turn::NoAccount => {}
         Turn::Idle(AskFault::Full) => shared.seen.note_full(),
         Turn::Idle(_) => {}
+        // The keeper tells that itself.
+        Turn::Unwritten { .. } => {}
         Turn::Kept { number, .. } => notices.settlement_kept_open(rt, config, peer, number),
         Turn::Closed {
             number,
