@@ -41,6 +41,10 @@ impl From<AllocError> for DeviceFault {
 /// A crash may come at any moment, during a call too. Each member is of proofs alone: no call tells
 /// it. After a call that failed the file may be whatever a crash may leave.
 pub trait Device {
+    /// Whether what its clauses say is claimed of it. Of a file of the system it isn't, of whose calls
+    /// no contract tells: then the clauses say nothing.
+    ghost claims: { Type 0 };
+
     /// The octets that a read returns.
     ghost seen: { Self → List ℕ };
 
@@ -58,46 +62,48 @@ pub trait Device {
 
     /// All the octets.
     fn read(&mut self, alloc: Global) -> Result<Vec<u8>, DeviceFault>
-        ensures octets { IfOk result (λ octets. octets.items ≡ seen self.old) }
-        ensures seen { seen self.new ≡ seen self.old }
-        ensures crash { (c : List ℕ) → may_leave self.new c → may_leave self.old c }
-        ensures time { Elapses (moment self.old) (moment self.new)
+        ensures octets { claims → IfOk result (λ octets. octets.items ≡ seen self.old) }
+        ensures seen { claims → seen self.new ≡ seen self.old }
+        ensures crash { claims → (c : List ℕ) → may_leave self.new c → may_leave self.old c }
+        ensures time { claims → Elapses (moment self.old) (moment self.new)
             (left_since self.old) (left_since self.new) (may_leave self.new) }
-        ensures cause { HasCause (faults self.old) (faults self.new) result };
+        ensures cause { claims → HasCause (faults self.old) (faults self.new) result };
 
     /// Writes over what is there, and past the end. Until a sync, a crash may leave each octet of
     /// the range as it was or as it is written.
     fn write_at(&mut self, at: usize, octets: &[u8]) -> Result<(), DeviceFault>
-        requires { at ≤ length (seen self.old) }
-        ensures written { OnOk result (Holds (seen self.old) at octets.now (seen self.new)) }
-        ensures crash { Follows (Torn at octets.now) (may_leave self.old) (may_leave self.new) }
-        ensures time { Elapses (moment self.old) (moment self.new)
+        requires { claims → at ≤ length (seen self.old) }
+        ensures written { claims → OnOk result
+            (Holds (seen self.old) at octets.now (seen self.new)) }
+        ensures crash { claims
+            → Follows (Torn at octets.now) (may_leave self.old) (may_leave self.new) }
+        ensures time { claims → Elapses (moment self.old) (moment self.new)
             (left_since self.old) (left_since self.new) (may_leave self.new) }
-        ensures cause { HasCause (faults self.old) (faults self.new) result };
+        ensures cause { claims → HasCause (faults self.old) (faults self.new) result };
 
     /// Cuts the file to a length, which is at most its own.
     fn cut(&mut self, len: usize) -> Result<(), DeviceFault>
-        requires { len ≤ length (seen self.old) }
-        ensures cut { OnOk result (seen self.new ≡ take len (seen self.old)) }
-        ensures crash { Follows (Cut len) (may_leave self.old) (may_leave self.new) }
-        ensures time { Elapses (moment self.old) (moment self.new)
+        requires { claims → len ≤ length (seen self.old) }
+        ensures cut { claims → OnOk result (seen self.new ≡ take len (seen self.old)) }
+        ensures crash { claims → Follows (Cut len) (may_leave self.old) (may_leave self.new) }
+        ensures time { claims → Elapses (moment self.old) (moment self.new)
             (left_since self.old) (left_since self.new) (may_leave self.new) }
-        ensures cause { HasCause (faults self.old) (faults self.new) result };
+        ensures cause { claims → HasCause (faults self.old) (faults self.new) result };
 
     /// Once it has returned `Ok`, a crash leaves what a read returns.
     fn sync(&mut self) -> Result<(), DeviceFault>
-        ensures durable { OnOk result (Only (seen self.old) (may_leave self.new)) }
-        ensures seen { seen self.new ≡ seen self.old }
-        ensures crash { (c : List ℕ) → may_leave self.new c → may_leave self.old c }
-        ensures time { Elapses (moment self.old) (moment self.new)
+        ensures durable { claims → OnOk result (Only (seen self.old) (may_leave self.new)) }
+        ensures seen { claims → seen self.new ≡ seen self.old }
+        ensures crash { claims → (c : List ℕ) → may_leave self.new c → may_leave self.old c }
+        ensures time { claims → Elapses (moment self.old) (moment self.new)
             (left_since self.old) (left_since self.new) (may_leave self.new) }
-        ensures cause { HasCause (faults self.old) (faults self.new) result };
+        ensures cause { claims → HasCause (faults self.old) (faults self.new) result };
 
     /// This moment is one of those since an earlier one.
-    ghost counts_now: { (file : Self) (t : ℕ) (c : List ℕ) → t ≤ moment file
+    ghost counts_now: { claims → (file : Self) (t : ℕ) (c : List ℕ) → t ≤ moment file
         → may_leave file c → left_since file t c };
 
     /// Since this moment there is no other.
-    ghost only_now: { (file : Self) (c : List ℕ) → left_since file (moment file) c
+    ghost only_now: { claims → (file : Self) (c : List ℕ) → left_since file (moment file) c
         → may_leave file c };
 }

@@ -2,10 +2,12 @@
 //! synced.
 //!
 //! `Device` says what such a disk does: of a write that isn't synced a crash leaves each octet as it
-//! was or as it is written, and past the old end zeros or nothing. That a file of the system is such a
-//! device, no clause can say.
+//! was or as it is written, and past the old end zeros or nothing. That a file of the system does so, no
+//! clause can say. So each device tells whether it is claimed (`claims`).
 //!
 //! # What is proved
+//!
+//! Of a device of which it is claimed:
 //!
 //! - The lines of a file (`recovered`) are the whole lines before its first NUL octet. What else a
 //!   crash leaves behind them is no line.

@@ -25,20 +25,21 @@ impl<D: Device> LineFile<D> {
     /// At `Err` nobody knows how many of them are there: the file is to be recovered before it is used
     /// again.
     pub fn append(&mut self, text: &[u8]) -> Result<(), DeviceFault>
-        requires settled { IsSettled D.seen D.may_leave self.old }
+        requires settled { D.claims → IsSettled D.seen D.may_leave self.old }
         requires text { IsText text.now }
         requires room { self.old.end + length text.now < 2 ^ 64 }
 
-        ensures settled { OnOk result (IsSettled D.seen D.may_leave self.new) }
-        ensures lines { OnOk result (recovered (D.seen self.new.device)
+        ensures settled { D.claims → OnOk result (IsSettled D.seen D.may_leave self.new) }
+        ensures lines { D.claims → OnOk result (recovered (D.seen self.new.device)
             ≡ recovered (D.seen self.old.device) ++ recovered text.now) }
 
         // A crash at any moment of the call leaves the lines from before it, and a beginning of the
         // new ones behind them.
-        ensures any_moment { LeavesOnly D.moment D.left_since self.old.device self.new.device
-            (IsBetween (recovered (D.seen self.old.device))
+        ensures any_moment { D.claims → LeavesOnly D.moment D.left_since
+            self.old.device self.new.device (IsBetween (recovered (D.seen self.old.device))
             (recovered (D.seen self.old.device) ++ recovered text.now)) }
-        ensures cause { HasCause (D.faults self.old.device) (D.faults self.new.device) result }
+        ensures cause { D.claims
+            → HasCause (D.faults self.old.device) (D.faults self.new.device) result }
     {
         self.device.write_at(self.end, text)?;
         self.device.sync()?;
@@ -51,18 +52,20 @@ impl<D: Device> LineFile<D> {
     ///
     /// At `Err` the file is to be recovered before it is used again.
     pub fn reserve(&mut self, zeros: &[u8]) -> Result<(), DeviceFault>
-        requires settled { IsSettled D.seen D.may_leave self.old }
+        requires settled { D.claims → IsSettled D.seen D.may_leave self.old }
         requires blank { IsBlank zeros.now }
 
-        ensures settled { OnOk result (IsSettled D.seen D.may_leave self.new) }
-        ensures lines { OnOk result (recovered (D.seen self.new.device)
+        ensures settled { D.claims → OnOk result (IsSettled D.seen D.may_leave self.new) }
+        ensures lines { D.claims → OnOk result (recovered (D.seen self.new.device)
             ≡ recovered (D.seen self.old.device)) }
         ensures end { self.new.end ≡ self.old.end }
 
         // A crash at any moment of the call leaves the same lines.
-        ensures any_moment { LeavesOnly D.moment D.left_since self.old.device self.new.device
+        ensures any_moment { D.claims → LeavesOnly D.moment D.left_since
+            self.old.device self.new.device
             (λ c. recovered c ≡ recovered (D.seen self.old.device)) }
-        ensures cause { HasCause (D.faults self.old.device) (D.faults self.new.device) result }
+        ensures cause { D.claims
+            → HasCause (D.faults self.old.device) (D.faults self.new.device) result }
     {
         self.device.write_at(self.end, zeros)?;
         self.device.sync()
@@ -75,17 +78,19 @@ impl<D: Device> LineFile<D> {
 /// At `Ok` the device is ready as a `LineFile` that ends where the text does.
 pub fn recover<D: Device>(alloc: Global, device: &mut D) -> Result<Vec<u8>, DeviceFault>
     // After a restart, what is read is what is on the disk.
-    requires { Only (D.seen device.old) (D.may_leave device.old) }
+    requires { D.claims → Only (D.seen device.old) (D.may_leave device.old) }
 
-    ensures text { IfOk result (λ text. text.items ≡ text_of (recovered (D.seen device.old))) }
-    ensures same { OnOk result (recovered (D.seen device.new) ≡ recovered (D.seen device.old)) }
-    ensures settled { IfOk result (λ text. IsSettled D.seen D.may_leave
+    ensures text { D.claims → IfOk result
+        (λ text. text.items ≡ text_of (recovered (D.seen device.old))) }
+    ensures same { D.claims
+        → OnOk result (recovered (D.seen device.new) ≡ recovered (D.seen device.old)) }
+    ensures settled { D.claims → IfOk result (λ text. IsSettled D.seen D.may_leave
         (record { device = device.new; end = length text.items })) }
 
     // A crash at any moment leaves the same lines.
-    ensures any_moment { LeavesOnly D.moment D.left_since device.old device.new
+    ensures any_moment { D.claims → LeavesOnly D.moment D.left_since device.old device.new
         (λ c. recovered c ≡ recovered (D.seen device.old)) }
-    ensures cause { HasCause (D.faults device.old) (D.faults device.new) result }
+    ensures cause { D.claims → HasCause (D.faults device.old) (D.faults device.new) result }
 {
     let mut text = device.read(alloc)?;
     let end = end_of(&text);

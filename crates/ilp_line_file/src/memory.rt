@@ -57,6 +57,8 @@ fn replace(
 }
 
 impl Device for MemoryDevice {
+    ghost claims = { Unit {0} };
+
     ghost seen = { λ m. m.octets.items };
 
     ghost may_leave = { λ m c. c ≡ m.octets.items };
@@ -67,9 +69,9 @@ impl Device for MemoryDevice {
 
     ghost faults = { λ _. 0 };
 
-    ghost counts_now = { λ m t c le now. inl now };
+    ghost counts_now = { λ _ m t c le now. inl now };
 
-    ghost only_now = { λ m c left. only_octets m.past.items m.octets.items c left };
+    ghost only_now = { λ _ m c left. only_octets m.past.items m.octets.items c left };
 
     fn read(&mut self, alloc: Global) -> Result<Vec<u8>, DeviceFault> {
         Ok(self.octets.to_vec(alloc)?)

@@ -6,11 +6,10 @@ use Rattle.std.specs.Fmt.{decimal, signed_decimal}
 use Rattle.std.proofs.lemmas.List.{map-append, take_more, get_or-drop}
 use Rattle.std.proofs.lemmas.Option.{get_or_from_slice_get, slice_get_within}
 use Rattle.ilp_accounts.specs.Configuration.{Configuration}
-use Rattle.ilp_accounts.specs.Valid.{IsValid}
 use Rattle.ilp_journal.specs.declared.entry.Entry.{Entry}
 use Rattle.ilp_journal.specs.Journal.{Entries}
 use Rattle.ilp_journal_text.specs.Text.{after_space, what_fields, entry_line}
-use Rattle.ilp_journal_text.specs.Reading.{IsTyped}
+use Rattle.ilp_journal_text.specs.Reading.{IsLine, HasNoNul}
 use Rattle.ilp_line_file.specs.Text.{text_of, AreLines}
 use Rattle.ilp_line_file.proofs.Whole.{text_of-append}
 use Rattle.ilp_line_file.proofs.Ending.{lines_snoc}
@@ -40,19 +39,20 @@ no_lines C entries from text empty =
     record { whole = empty ∙ ap (λ (l : Entries). text_of (entry_lines C l)) (sym none); lines = subst (λ (l : Entries). AreLines (entry_lines C l)) (sym none) tt }
 
 -- one entry's line behind those before it
-pub one_more_line : (C : Configuration) (entries : Entries) (from to : ℕ) (e : Entry) (old new : List ℕ) → IsValid C → from ≤ to → slice_get entries to ≡ Some e → IsTyped e
-    → AreLinesOf C entries from to old → new ≡ old ++ entry_line C e → AreLinesOf C entries from (to + 1) new
-one_more_line C entries from to e old new valid order stands typed was is =
+pub one_more_line : (C : Configuration) (entries : Entries) (from to : ℕ) (e : Entry) (line old new : List ℕ) → from ≤ to → slice_get entries to ≡ Some e → line ≡ entry_line C e → IsLine line → HasNoNul line
+    → AreLinesOf C entries from to old → new ≡ old ++ line → AreLinesOf C entries from (to + 1) new
+one_more_line C entries from to e line old new order stands spelled one_line no_nul was is =
     let before = slice_range entries from to in
     let more = range_more entries from to e order stands in
     let all : entry_lines C (slice_range entries from (to + 1)) ≡ entry_lines C before ++ words_of C e ∷ [] = ap (entry_lines C) more ∙ map-append (words_of C) before (e ∷ []) in
+    let words : words_of C e ++ 10 ∷ [] ≡ line = line_is C e ∙ sym spelled in
     record {
       whole = is
-          ∙ ap (λ (t : List ℕ). t ++ entry_line C e) was.whole
-          ∙ ap (λ (t : List ℕ). text_of (entry_lines C before) ++ t) (sym (line_is C e))
+          ∙ ap (λ (t : List ℕ). t ++ line) was.whole
+          ∙ ap (λ (t : List ℕ). text_of (entry_lines C before) ++ t) (sym words)
           ∙ sym (text_of-append (entry_lines C before) (words_of C e ∷ []))
           ∙ ap text_of (sym all);
-      lines = subst AreLines (sym all) (lines_snoc (entry_lines C before) (words_of C e) was.lines (words_line C valid e typed));
+      lines = subst AreLines (sym all) (lines_snoc (entry_lines C before) (words_of C e) was.lines (words_line (words_of C e) line words one_line no_nul));
     }
 
 -- ---- the text of a log

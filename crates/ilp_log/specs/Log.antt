@@ -45,7 +45,7 @@ abbrev pub HoldAcks : {D : Type 0} → (D → ℕ) → (D → ℕ → List ℕ �
 HoldAcks moment left_since device least most [] = Unit {0}
 HoldAcks moment left_since device least most (ack ∷ acks) = HoldsAck moment left_since device least most ack × HoldAcks moment left_since device least most acks
 
--- The file has the first entries of the desk's journal. A crash now leaves these at least, and none that the desk hadn't; and unless
+-- What a log keeps where its device claims what a device does: the file has the first entries of the desk's journal. A crash now leaves these at least, and none that the desk hadn't; and unless
 -- a call of the device has failed, the file is settled and has just these.
 pub record IsLog {D : Type 0} (seen : D → List ℕ) (may_leave : D → List ℕ → Type 0) (moment : D → ℕ) (left_since : D → ℕ → List ℕ → Type 0) (form : LogForm) (file : LineFile D) (failed : Bool) (entries : Entries) (count : ℕ) (acks : List Ack) : Type 0 where
   pub base : form.base ≤ count

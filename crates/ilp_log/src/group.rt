@@ -3,8 +3,7 @@ ghost use Rattle.std.specs.Prelude.{◌≤◌, ◌<◌, length, IfOk};
 ghost use Rattle.ilp_log.specs.Lines.{AreLinesOf, IsGroup};
 
 use ilp_book::Book;
-use ilp_io::Recording;
-use ilp_journal_text::put_entry;
+use ilp_journal_text::entry_line;
 use std::alloc::{AllocError, Global};
 
 // How many entries are copied at once, while the desk's lock is taken.
@@ -53,14 +52,12 @@ fn lines_between(alloc: Global, book: &Book, from: u32, to: u32) -> Result<Vec<u
     requires within { to ≤ length book.now.entries }
     ensures { IfOk result (λ text. AreLinesOf book.now.config book.now.entries from to text.items) }
 {
-    let mut text = Recording::new(alloc);
+    let mut text = Vec::new(alloc);
     for number in from..to {
         let Some(entry) = book.entry(number) else {
             unreachable!();
         };
-        let Ok(()) = put_entry(book.config(), entry, &mut text) else {
-            return Err(AllocError);
-        };
+        text.extend_from_slice(entry_line(book.config(), entry).as_slice())?;
     }
-    Ok(text.octets)
+    Ok(text)
 }

@@ -7,6 +7,9 @@
 //!
 //! # What is proved
 //!
+//! Of the file what follows is said where its device claims what `ilp_line_file::Device` says. Of any
+//! other, as a file of the system, it is only tested.
+//!
 //! - A `Log` keeps that its file has the first so many entries of the desk's journal, and that a crash
 //!   now leaves these at least, and none that the desk hadn't booked.
 //! - `Log::commit` is `Ok` only where all entries that the receipt had seen are on the disk. A crash at

@@ -37,7 +37,8 @@ impl<J: Naming, K: LogNaming, D: Device + Drop> Log<J, K, D> {
         receipt: &mut JournalReceipt<J>,
     ) -> Result<Kept<D, K>, LogFault>
         ensures seen { IsPrefix receipt.old receipt.new }
-        ensures kept { IfOk result (λ kept. IsPrefix (lines_of K.form receipt.old) kept.lines) }
+        ensures kept { D.claims → IfOk result
+            (λ kept. IsPrefix (lines_of K.form receipt.old) kept.lines) }
     {
         let mut log = self.locked.lock(rt);
         log.commit(rt, alloc, desk, receipt)

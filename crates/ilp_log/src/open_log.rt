@@ -43,7 +43,7 @@ pub struct OpenLog<J: Naming, K: LogNaming, D: Device + Drop> {
 }
 
 impl<J: Naming, K: LogNaming, D: Device + Drop> Model for OpenLog<J, K, D> {
-    ghost use Rattle.std.specs.Prelude.{◌≡◌};
+    ghost use Rattle.std.specs.Prelude.{◌≡◌, ◌≤◌, length};
     ghost use Rattle.ilp_log.specs.declared.open_log.PlainLog.{PlainLog};
     ghost use Rattle.ilp_log.specs.Log.{IsLog};
 
@@ -51,9 +51,9 @@ impl<J: Naming, K: LogNaming, D: Device + Drop> Model for OpenLog<J, K, D> {
 
     ghost view = { λ l. record { device = l.file.device; seen = l.receipt; count = l.count } };
 
-    ghost invariant = { λ l. (K.form.config ≡ J.desk.config)
-        × IsLog D.seen D.may_leave D.moment D.left_since K.form l.file l.failed l.receipt l.count
-        l.acks };
+    ghost invariant = { λ l. (K.form.config ≡ J.desk.config) × (l.count ≤ length l.receipt)
+        × (D.claims → IsLog D.seen D.may_leave D.moment D.left_since K.form l.file l.failed
+        l.receipt l.count l.acks) };
 }
 
 impl<J: Naming, K: LogNaming, D: Device + Drop> OpenLog<J, K, D> {
@@ -66,9 +66,10 @@ impl<J: Naming, K: LogNaming, D: Device + Drop> OpenLog<J, K, D> {
         acks: GrownList<LineFile<D>, Ack, K>,
     ) -> OpenLog<J, K, D>
         requires config { K.form.config ≡ J.desk.config }
-        requires settled { IsSettled D.seen D.may_leave file }
+        requires settled { D.claims → IsSettled D.seen D.may_leave file }
         requires count { (K.form.base ≤ count) × (count ≤ length receipt) }
-        requires lines { recovered (D.seen file.device) ≡ lines_of K.form (take count receipt) }
+        requires lines { D.claims
+            → recovered (D.seen file.device) ≡ lines_of K.form (take count receipt) }
         requires acks { acks ≡ [] }
         ensures { result ≡ record { device = file.device; seen = receipt; count = count } }
     {
@@ -90,9 +91,9 @@ impl<J: Naming, K: LogNaming, D: Device + Drop> OpenLog<J, K, D> {
         acks: GrownList<LineFile<D>, Ack, K>,
     ) -> OpenLog<J, K, D>
         requires config { K.form.config ≡ J.desk.config }
-        requires settled { IsSettled D.seen D.may_leave file }
+        requires settled { D.claims → IsSettled D.seen D.may_leave file }
         requires count { (K.form.base ≡ count) × (count ≤ length receipt) }
-        requires head { recovered (D.seen file.device) ≡ K.form.head }
+        requires head { D.claims → recovered (D.seen file.device) ≡ K.form.head }
         requires acks { acks ≡ [] }
         ensures { result ≡ record { device = file.device; seen = receipt; count = count } }
     {
@@ -114,7 +115,8 @@ impl<J: Naming, K: LogNaming, D: Device + Drop> OpenLog<J, K, D> {
         ensures book { book.new ≡ book.old }
         ensures config { book.old.config ≡ K.form.config }
         ensures within { self.old.count ≤ length self.old.seen }
-        ensures any_moment { LeavesOnly D.moment D.left_since self.old.device self.new.device
+        ensures any_moment { D.claims → LeavesOnly D.moment D.left_since
+            self.old.device self.new.device
             (IsBetween (lines_of K.form (written self.old)) (lines_of K.form book.old.entries)) }
     {
         book.show(&mut self.receipt);
@@ -128,7 +130,8 @@ impl<J: Naming, K: LogNaming, D: Device + Drop> OpenLog<J, K, D> {
         ensures within { self.old.count ≤ length self.old.seen }
         ensures group { IfOk result (λ group.
             IsGroup K.form.config book.old.entries self.old.count group.to group.text.items) }
-        ensures any_moment { LeavesOnly D.moment D.left_since self.old.device self.new.device
+        ensures any_moment { D.claims → LeavesOnly D.moment D.left_since
+            self.old.device self.new.device
             (IsBetween (lines_of K.form (written self.old)) (lines_of K.form book.old.entries)) }
     {
         self.see(book);
@@ -142,7 +145,8 @@ impl<J: Naming, K: LogNaming, D: Device + Drop> OpenLog<J, K, D> {
         ensures seen { self.new.seen ≡ self.old.seen }
         ensures ok { OnOk result (self.new.count ≡ group.now.to) }
         ensures err { OnErr result (self.new.count ≡ self.old.count) }
-        ensures any_moment { LeavesOnly D.moment D.left_since self.old.device self.new.device
+        ensures any_moment { D.claims → LeavesOnly D.moment D.left_since
+            self.old.device self.new.device
             (IsBetween (lines_of K.form (written self.old)) (lines_of K.form self.old.seen)) }
     {
         if self.failed {
@@ -166,9 +170,10 @@ impl<J: Naming, K: LogNaming, D: Device + Drop> OpenLog<J, K, D> {
     /// Tells what is on the disk. It is refused as `Failed` where a call of the device has failed.
     pub fn tell(&mut self) -> Result<Kept<D, K>, LogFault>
         ensures same { self.new ≡ self.old }
-        ensures kept { IfOk result (λ kept. IsAllKept D.seen D.moment self.old.device
+        ensures kept { D.claims → IfOk result (λ kept. IsAllKept D.seen D.moment self.old.device
             (lines_of K.form (written self.old)) kept) }
-        ensures any_moment { LeavesOnly D.moment D.left_since self.old.device self.new.device
+        ensures any_moment { D.claims → LeavesOnly D.moment D.left_since
+            self.old.device self.new.device
             (IsBetween (lines_of K.form (written self.old)) (lines_of K.form self.old.seen)) }
     {
         if self.failed {
@@ -186,7 +191,8 @@ impl<J: Naming, K: LogNaming, D: Device + Drop> OpenLog<J, K, D> {
         ensures mine { IsPrefix self.old.seen receipt.new }
         ensures seen { self.new ≡ record self.old { seen = receipt.new } }
         ensures within { self.old.count ≤ length self.old.seen }
-        ensures any_moment { LeavesOnly D.moment D.left_since self.old.device self.new.device
+        ensures any_moment { D.claims → LeavesOnly D.moment D.left_since
+            self.old.device self.new.device
             (IsBetween (lines_of K.form (written self.old)) (lines_of K.form receipt.new)) }
     {
         let mut book = desk.lock(rt);
@@ -208,7 +214,8 @@ impl<J: Naming, K: LogNaming, D: Device + Drop> OpenLog<J, K, D> {
         ensures within { self.old.count ≤ length self.old.seen }
         ensures group { IfOk result (λ group.
             IsGroup K.form.config receipt.new self.old.count group.to group.text.items) }
-        ensures any_moment { LeavesOnly D.moment D.left_since self.old.device self.new.device
+        ensures any_moment { D.claims → LeavesOnly D.moment D.left_since
+            self.old.device self.new.device
             (IsBetween (lines_of K.form (written self.old)) (lines_of K.form receipt.new)) }
     {
         let mut book = desk.lock(rt);
@@ -231,7 +238,8 @@ impl<J: Naming, K: LogNaming, D: Device + Drop> OpenLog<J, K, D> {
         ensures count { self.old.count ≤ self.new.count }
         ensures more { OnOk result
             (self.old.count < length receipt.old → self.old.count < self.new.count) }
-        ensures any_moment { LeavesOnly D.moment D.left_since self.old.device self.new.device
+        ensures any_moment { D.claims → LeavesOnly D.moment D.left_since
+            self.old.device self.new.device
             (IsBetween (lines_of K.form (written self.old)) (lines_of K.form receipt.new)) }
     {
         let group = self.copy(rt, alloc, desk, receipt)?;
@@ -255,11 +263,12 @@ impl<J: Naming, K: LogNaming, D: Device + Drop> OpenLog<J, K, D> {
 
         // A crash at any moment of the call leaves the entries that were written before it, and none
         // that are not in the desk's journal.
-        ensures any_moment { LeavesOnly D.moment D.left_since self.old.device self.new.device
+        ensures any_moment { D.claims → LeavesOnly D.moment D.left_since
+            self.old.device self.new.device
             (IsBetween (lines_of K.form (written self.old)) (lines_of K.form receipt.new)) }
 
         // What is told: all entries that the receipt had seen are on the disk now.
-        ensures kept { IfOk result (λ kept. IsKept D.seen D.moment self.new.device
+        ensures kept { D.claims → IfOk result (λ kept. IsKept D.seen D.moment self.new.device
             (lines_of K.form receipt.old) kept) }
     {
         let upto = receipt.len();
@@ -277,11 +286,12 @@ impl<J: Naming, K: LogNaming, D: Device + Drop> OpenLog<J, K, D> {
         book: &mut LockedBook<J>,
     ) -> Result<Kept<D, K>, LogFault>
         ensures book { book.new ≡ book.old }
-        ensures any_moment { LeavesOnly D.moment D.left_since self.old.device self.new.device
+        ensures any_moment { D.claims → LeavesOnly D.moment D.left_since
+            self.old.device self.new.device
             (IsBetween (lines_of K.form (written self.old)) (lines_of K.form book.old.entries)) }
 
         // The file has the lines of all entries, and no other.
-        ensures kept { IfOk result (λ kept. IsAllKept D.seen D.moment self.new.device
+        ensures kept { D.claims → IfOk result (λ kept. IsAllKept D.seen D.moment self.new.device
             (lines_of K.form book.old.entries) kept) }
     {
         let upto = book.book().len();
@@ -298,8 +308,8 @@ impl<J: Naming, K: LogNaming, D: Device + Drop> OpenLog<J, K, D> {
     pub fn find(&mut self, book: &mut LockedBook<J>, kept: Kept<D, K>)
         ensures log { self.new ≡ record self.old { seen = book.old.entries } }
         ensures book { book.new ≡ book.old }
-        ensures earlier { kept.moment ≤ D.moment self.old.device }
-        ensures each { (c : List ℕ) → D.left_since self.old.device kept.moment c
+        ensures earlier { D.claims → kept.moment ≤ D.moment self.old.device }
+        ensures each { D.claims → (c : List ℕ) → D.left_since self.old.device kept.moment c
             → IsBetween kept.lines (lines_of K.form book.old.entries) c }
     {
         self.see(book);

@@ -20,20 +20,20 @@ loop-alloc-preserved g c =
       mine = prefix_trans _ _ _ i.mine w.begins;
       first = i.first;
       count = omega (arith, i.count, w.count);
-      leaves = one_more_group g.D.Device.moment g.D.Device.left_since g.K.LogNaming.form c.args.self.now.device c.loop-alloc.self.device c.write_group.new.self.device c.args.self.now.seen c.loop-alloc.self.seen c.loop-alloc.receipt c.write_group.new.receipt
-          c.args.self.now.count c.loop-alloc.self.count i.first i.mine w.begins seen i.count i.leaves w.any_moment;
+      leaves = λ holds. one_more_group g.D.Device.moment g.D.Device.left_since g.K.LogNaming.form c.args.self.now.device c.loop-alloc.self.device c.write_group.new.self.device c.args.self.now.seen c.loop-alloc.self.seen c.loop-alloc.receipt c.write_group.new.receipt
+          c.args.self.now.count c.loop-alloc.self.count i.first i.mine w.begins seen i.count (i.leaves holds) (w.any_moment holds);
     }
 
 pub returns-in_err-write_group-clause-any_moment : goal.returns-in_err-write_group-clause-any_moment
-returns-in_err-write_group-clause-any_moment g c =
+returns-in_err-write_group-clause-any_moment g c holds =
     let i = c.loop-alloc.invariant in
     let w = c.write_group.ensures in
     let seen : IsPrefix c.args.self.now.seen c.loop-alloc.self.seen = subst (λ (l : Entries). IsPrefix c.args.self.now.seen l) (sym i.seen) i.mine in
     one_more_group g.D.Device.moment g.D.Device.left_since g.K.LogNaming.form c.args.self.now.device c.loop-alloc.self.device c.write_group.new.self.device c.args.self.now.seen c.loop-alloc.self.seen c.loop-alloc.receipt c.write_group.new.receipt
-    c.args.self.now.count c.loop-alloc.self.count i.first i.mine w.begins seen i.count i.leaves w.any_moment
+    c.args.self.now.count c.loop-alloc.self.count i.first i.mine w.begins seen i.count (i.leaves holds) (w.any_moment holds)
 
 pub returns-clause-kept : goal.returns-clause-kept
-returns-clause-kept g c =
+returns-clause-kept g c holds =
     let i = c.loop-alloc.invariant in
     let enough : length c.args.receipt.now ≤ c.loop-alloc.self.count = omega (arith, i.upto, c.count.ensures.value, c.loop-alloc-test.false) in
     let seen : IsPrefix c.args.receipt.now c.loop-alloc.self.seen = subst (λ (l : Entries). IsPrefix c.args.receipt.now l) (sym i.seen) i.begins in
@@ -43,4 +43,4 @@ returns-clause-kept g c =
       has = subst (λ (l : List (List ℕ)). IsPrefix (lines_of g.K.LogNaming.form c.args.receipt.now) l) (sym is.same) begins;
       when = is.when ∙ ap (λ v. g.D.Device.moment v.device) same;
       read = ap (λ v. recovered (g.D.Device.seen v.device)) (sym same) ∙ is.read;
-    }) c.tell.ensures.kept
+    }) (c.tell.ensures.kept holds)

@@ -14,7 +14,7 @@ invariant-loop-alloc g l = record {
   mine : IsPrefix l.fn.self.seen l.receipt;
   first : l.fn.self.count ≤ length l.fn.self.seen;
   count : l.fn.self.count ≤ l.self.count;
-  leaves : LeavesOnly g.D.Device.moment g.D.Device.left_since l.fn.self.device l.self.device (IsBetween (lines_of g.K.LogNaming.form (written l.fn.self)) (lines_of g.K.LogNaming.form l.receipt));
+  leaves : g.D.Device.claims → LeavesOnly g.D.Device.moment g.D.Device.left_since l.fn.self.device l.self.device (IsBetween (lines_of g.K.LogNaming.form (written l.fn.self)) (lines_of g.K.LogNaming.form l.receipt));
 }
 
 abbrev pub decreases-loop-alloc : goal.decreases-loop-alloc

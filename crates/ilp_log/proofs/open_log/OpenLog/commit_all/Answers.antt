@@ -13,8 +13,6 @@ pub loop-alloc-preserved : goal.loop-alloc-preserved
 loop-alloc-preserved g c =
     let i = c.loop-alloc.invariant in
     let h = c.hand.ensures in
-    let put = subst (λ v. LeavesOnly g.D.Device.moment g.D.Device.left_since v.device c.put.new.self.device (IsBetween (lines_of g.K.LogNaming.form (written v)) (lines_of g.K.LogNaming.form v.seen))) h.seen c.put.ensures.any_moment in
-    let put' = subst (λ (d : Entries). LeavesOnly g.D.Device.moment g.D.Device.left_since c.loop-alloc.self.device c.put.new.self.device (IsBetween (lines_of g.K.LogNaming.form (take c.loop-alloc.self.count d)) (lines_of g.K.LogNaming.form d))) (ap (λ b. b.entries) i.book) put in
     record {
       book = h.book ∙ i.book;
       upto = i.upto;
@@ -22,21 +20,24 @@ loop-alloc-preserved g c =
       mine = i.mine;
       first = i.first;
       count = omega (arith, i.count, c.in_ok-group.ensures.group.later, c.in_ok-put.ensures.ok);
-      leaves = one_more_group g.D.Device.moment g.D.Device.left_since g.K.LogNaming.form c.args.self.now.device c.loop-alloc.self.device c.put.new.self.device c.args.self.now.seen c.args.book.now.entries c.args.book.now.entries c.args.book.now.entries
-          c.args.self.now.count c.loop-alloc.self.count i.first i.mine (prefix_self c.args.book.now.entries) i.mine i.count i.leaves put';
+      leaves = λ holds.
+          let put = subst (λ v. LeavesOnly g.D.Device.moment g.D.Device.left_since v.device c.put.new.self.device (IsBetween (lines_of g.K.LogNaming.form (written v)) (lines_of g.K.LogNaming.form v.seen))) h.seen (c.put.ensures.any_moment holds) in
+          let put' = subst (λ (d : Entries). LeavesOnly g.D.Device.moment g.D.Device.left_since c.loop-alloc.self.device c.put.new.self.device (IsBetween (lines_of g.K.LogNaming.form (take c.loop-alloc.self.count d)) (lines_of g.K.LogNaming.form d))) (ap (λ b. b.entries) i.book) put in
+          one_more_group g.D.Device.moment g.D.Device.left_since g.K.LogNaming.form c.args.self.now.device c.loop-alloc.self.device c.put.new.self.device c.args.self.now.seen c.args.book.now.entries c.args.book.now.entries c.args.book.now.entries
+          c.args.self.now.count c.loop-alloc.self.count i.first i.mine (prefix_self c.args.book.now.entries) i.mine i.count (i.leaves holds) put';
     }
 
 pub returns-in_err-put-clause-any_moment : goal.returns-in_err-put-clause-any_moment
-returns-in_err-put-clause-any_moment g c =
+returns-in_err-put-clause-any_moment g c holds =
     let i = c.loop-alloc.invariant in
     let h = c.hand.ensures in
-    let put = subst (λ v. LeavesOnly g.D.Device.moment g.D.Device.left_since v.device c.put.new.self.device (IsBetween (lines_of g.K.LogNaming.form (written v)) (lines_of g.K.LogNaming.form v.seen))) h.seen c.put.ensures.any_moment in
+    let put = subst (λ v. LeavesOnly g.D.Device.moment g.D.Device.left_since v.device c.put.new.self.device (IsBetween (lines_of g.K.LogNaming.form (written v)) (lines_of g.K.LogNaming.form v.seen))) h.seen (c.put.ensures.any_moment holds) in
     let put' = subst (λ (d : Entries). LeavesOnly g.D.Device.moment g.D.Device.left_since c.loop-alloc.self.device c.put.new.self.device (IsBetween (lines_of g.K.LogNaming.form (take c.loop-alloc.self.count d)) (lines_of g.K.LogNaming.form d))) (ap (λ b. b.entries) i.book) put in
     one_more_group g.D.Device.moment g.D.Device.left_since g.K.LogNaming.form c.args.self.now.device c.loop-alloc.self.device c.put.new.self.device c.args.self.now.seen c.args.book.now.entries c.args.book.now.entries c.args.book.now.entries
-    c.args.self.now.count c.loop-alloc.self.count i.first i.mine (prefix_self c.args.book.now.entries) i.mine i.count i.leaves put'
+    c.args.self.now.count c.loop-alloc.self.count i.first i.mine (prefix_self c.args.book.now.entries) i.mine i.count (i.leaves holds) put'
 
 pub returns-clause-kept : goal.returns-clause-kept
-returns-clause-kept g c =
+returns-clause-kept g c holds =
     let i = c.loop-alloc.invariant in
     let all : written c.loop-alloc.self ≡ c.args.book.now.entries =
     ap (λ (l : Entries). take c.loop-alloc.self.count l) i.seen ∙ take_all c.loop-alloc.self.count c.args.book.now.entries (omega (arith, i.upto, c.count.ensures.value, c.loop-alloc-test.false)) in
@@ -45,4 +46,4 @@ returns-clause-kept g c =
       same = is.same ∙ ap (lines_of g.K.LogNaming.form) all;
       when = is.when ∙ ap (λ v. g.D.Device.moment v.device) same;
       read = ap (λ v. recovered (g.D.Device.seen v.device)) (sym same) ∙ is.read;
-    }) c.tell.ensures.kept
+    }) (c.tell.ensures.kept holds)
