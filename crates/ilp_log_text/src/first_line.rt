@@ -24,8 +24,8 @@ pub(crate) struct Origin {
     pub(crate) digest: [u8; 32],
 }
 
-/// The text that a log goes on from, by its first line. `None` where it is no such line: one that is
-/// spelt in another way than it would be written is none.
+/// The text that a log goes on from, by its first line. `None` where it is no such line: one that
+/// is spelt in another way than it would be written is none.
 pub(crate) fn origin_in(line: &[u8]) -> Option<Origin>
     ensures whole { IfSome result (λ origin.
         line.now ≡ first_line origin.count origin.digest) }

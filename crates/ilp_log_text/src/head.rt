@@ -9,9 +9,9 @@ use ilp_remembered::{peer_line, run_line};
 use sha2::{Digest, Sha256};
 use std::alloc::{AllocError, Global};
 
-/// The first two lines of a log that goes on from this text of a journal of `count` entries, each with
-/// its end: the number and the text's digest, and what is remembered of the run by this configuration.
-/// Where no text was saved yet, it is that of nothing, and `count` is 0.
+/// The first two lines of a log that goes on from this text of a journal of `count` entries, each
+/// with its end: the number and the text's digest, and what is remembered of the run by this
+/// configuration. Where no text was saved yet, it is that of nothing, and `count` is 0.
 ///
 /// Neither line has a NUL, or a line end within it. It is refused where memory is short alone.
 pub fn head_text(

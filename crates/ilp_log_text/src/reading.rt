@@ -78,8 +78,8 @@ impl<'a> LogText<'a> {
         })
     }
 
-    /// How many entries the journal's text has that the log goes on from. The log's first line of an
-    /// entry is that of the entry of this number, from 0.
+    /// How many entries the journal's text has that the log goes on from. The log's first line of
+    /// an entry is that of the entry of this number, from 0.
     pub fn count(&self) -> u32
         ensures { result ≡ self.now.count }
     {
@@ -101,16 +101,17 @@ impl<'a> LogText<'a> {
         self.lines
     }
 
-    /// Whether the log goes on from this text of a journal: whether the text's SHA-256 digest is that
-    /// which the log names. The number of entries isn't compared: it is a property of the text.
+    /// Whether the log goes on from this text of a journal: whether the text's SHA-256 digest is
+    /// that which the log names. The number of entries isn't compared: a text of the same digest is
+    /// taken for the same text, and so has as many.
     pub fn is_of(&self, saved: &[u8]) -> bool
         ensures { IsTrue result ↔ (self.now.digest ≡ sha256 saved.now) }
     {
         self.origin.digest.as_slice() == Sha256::digest(saved).as_slice()
     }
 
-    /// Whether a later text of the journal has all that the log has: its lines behind the first, from
-    /// the number `count` on, begin with the log's.
+    /// Whether a later text of the journal has all that the log has: its lines behind the first,
+    /// from the number `count` on, begin with the log's.
     pub fn is_in(&self, saved: &[u8]) -> bool
         ensures { IsTrue result ↔ IsIn self.now saved.now }
     {

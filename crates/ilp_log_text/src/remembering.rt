@@ -5,8 +5,8 @@ ghost use Rattle.ilp_log_text.specs.Remembering.{is_semicolon, remembered_in, wh
 
 use std::alloc::{AllocError, Global};
 
-/// The text that `ilp_remembered::change_of` reads, of the second line of a log: a line of each of its
-/// parts, which `; ` cuts, behind the first line of that form and before the last.
+/// The text that `ilp_remembered::change_of` reads, of the second line of a log: a line of each
+/// of its parts, which `; ` cuts, behind the first line of that form and before the last.
 ///
 /// It is refused where memory is short alone.
 pub fn remembered_in(alloc: Global, line: &[u8]) -> Result<Vec<u8>, AllocError>
