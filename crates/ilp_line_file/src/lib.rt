@@ -10,7 +10,7 @@
 //! Of a device of which it is claimed:
 //!
 //! - The lines of a file (`recovered`) are the whole lines before its first NUL octet. What else a
-//!   crash leaves behind them is no line.
+//!   crash leaves behind them is no line. `end_of` says where they end.
 //! - `LineFile::append` puts whole lines behind those that are there, with one write and one sync. A
 //!   crash at any moment of it leaves the lines from before, and a beginning of the new ones. At Ok
 //!   all of them are on the disk.
@@ -25,7 +25,7 @@ mod line_file;
 mod memory;
 
 pub use device::{Device, DeviceFault};
-pub use line_file::{LineFile, recover};
+pub use line_file::{LineFile, end_of, recover};
 pub use memory::MemoryDevice;
 
 #[cfg(test)]

@@ -100,8 +100,8 @@ pub fn recover<D: Device>(alloc: Global, device: &mut D) -> Result<Vec<u8>, Devi
     Ok(text)
 }
 
-// Where the whole lines before the first NUL end.
-fn end_of(octets: &[u8]) -> usize
+/// Where the whole lines of a file's octets end: those before the first NUL.
+pub fn end_of(octets: &[u8]) -> usize
     ensures within { result ≤ length octets.now }
     ensures text { take result octets.now ≡ text_of (recovered octets.now) }
 {

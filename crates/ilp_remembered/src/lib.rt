@@ -5,6 +5,7 @@
 //! # What is proved
 //!
 //! - `remembered_text` is the text of a configuration (`specs/Remembered.antt`, `remembered_text`).
+//!   `run_line` and `peer_line` are its lines.
 //! - `change_of` finds, of a text that is whole, another run where a settlement is open, or a peer with
 //!   another asset where something is counted in it; and it finds nothing only where there is neither
 //!   (`FindsChange`).
@@ -16,4 +17,4 @@ mod lines;
 mod text;
 
 pub use change::{Change, change_of};
-pub use text::remembered_text;
+pub use text::{peer_line, remembered_text, run_line};

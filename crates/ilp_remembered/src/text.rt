@@ -18,16 +18,16 @@ pub fn remembered_text(alloc: Global, config: &Config) -> Result<String, AllocEr
     format!(in alloc; "ilp-remembered 1\n{run}\n{peers}end\n")
 }
 
-/// The line of the run.
-pub(crate) fn run_line(alloc: Global, config: &Config) -> Result<String, AllocError>
+/// The line of the run, without its end.
+pub fn run_line(alloc: Global, config: &Config) -> Result<String, AllocError>
     ensures { IfOk result (λ t. string_bytes t ≡ remembered.run_line config.now.settings.run) }
 {
     let run = config.run();
     format!(in alloc; "run {run}")
 }
 
-/// The line of a peer.
-pub(crate) fn peer_line(alloc: Global, config: &Config, peer: u32) -> Result<String, AllocError>
+/// The line of a peer, without its end: its name and its asset.
+pub fn peer_line(alloc: Global, config: &Config, peer: u32) -> Result<String, AllocError>
     requires { peer < length config.now.peers }
     ensures { IfOk result (λ t. string_bytes t ≡ remembered.peer_line (peer_at config.now peer).name
         (remembered.asset_of config.now (peer_at config.now peer))) }

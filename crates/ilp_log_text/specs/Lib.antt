@@ -1,0 +1,5 @@
+pub mod Head
+pub mod Text
+pub mod Lines
+pub mod Remembering
+pub mod Rows
