@@ -61,6 +61,8 @@ pub(crate) struct Given<'a> {
     pub(crate) answer: Option<&'a [u8]>,
     /// What the engine says of accounts and settlements.
     pub(crate) says: Sayings<'a>,
+    /// How often the worker's keeper keeps the journal, and how often the settler's.
+    pub(crate) kept: u32,
     /// The steps, each behind `-- `.
     pub(crate) steps: &'a str,
 }
@@ -111,6 +113,9 @@ fn given_in<'a>(lines: &'a str, reply: &'a [u8], answer: &'a [u8]) -> Given<'a> 
         came: said(lines, "bob").map(|_| reply),
         answer: said(lines, "replies").map(|_| answer),
         says: Sayings(said(lines, "says").unwrap_or("")),
+        kept: said(lines, "kept")
+            .and_then(|count| count.parse().ok())
+            .unwrap_or(u32::MAX),
         steps: lines,
     }
 }

@@ -3,4 +3,5 @@
 pub(crate) mod bob;
 pub(crate) mod clocks;
 pub(crate) mod engine;
+pub(crate) mod keeper;
 pub(crate) mod noting;

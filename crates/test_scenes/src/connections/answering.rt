@@ -7,7 +7,7 @@ use ilp_desk::{Desk, Naming};
 use ilp_http::Buffer;
 use ilp_io::{Narrow, Pieces, WhenFull};
 use ilp_server::answer_connection;
-use ilp_workers::{Clock, EngineLink, Uplink, Worker};
+use ilp_workers::{Clock, EngineLink, Keeper, Uplink, Worker};
 use std::alloc::Allocator;
 use std::io;
 use std::sync::Wait;
@@ -21,11 +21,12 @@ pub(crate) fn answer<
     C: Clock + Drop,
     U: Uplink + Drop,
     E: EngineLink + Drop,
+    K: Keeper<J> + Drop,
     A: Allocator,
 >(
     rt: &(impl Print + Wait),
     desk: &Desk<J>,
-    worker: &mut Worker<J, C, U, E, A>,
+    worker: &mut Worker<J, C, U, E, K, A>,
     buffer: &mut Buffer,
     connection: &Connection<'_>,
 ) -> io::Result<()> {
@@ -57,11 +58,12 @@ pub(crate) fn answer_each<
     C: Clock + Drop,
     U: Uplink + Drop,
     E: EngineLink + Drop,
+    K: Keeper<J> + Drop,
     A: Allocator,
 >(
     rt: &(impl Print + Wait),
     desk: &Desk<J>,
-    worker: &mut Worker<J, C, U, E, A>,
+    worker: &mut Worker<J, C, U, E, K, A>,
     given: &Given<'_>,
 ) -> io::Result<()> {
     let mut buffer = Buffer::new(desk.config().allocator())?;

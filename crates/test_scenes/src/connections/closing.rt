@@ -11,7 +11,7 @@ use crate::workers::gathering::{end_without, end_without_settler, sweeper_end};
 use crate::workers::totals::print_totals;
 use ilp_desk::{Desk, End, Naming, Share};
 use ilp_settler::Settler;
-use ilp_workers::{Clock, EngineLink, Uplink, Worker};
+use ilp_workers::{Clock, EngineLink, Forgetful, Uplink, Worker};
 use std::io;
 use std::sync::Wait;
 
@@ -64,7 +64,16 @@ fn worker_end<J: Naming, R: Print + Wait>(
 ) -> End<J> {
     let alloc = desk.config().allocator();
     let uplink = bob(rt, desk, given);
-    match Worker::new(alloc, share, Still(START), uplink, engine(rt, desk, given)) {
+    let link = engine(rt, desk, given);
+    match Worker::new(
+        alloc,
+        share,
+        desk.receipt(rt),
+        Still(START),
+        uplink,
+        link,
+        Forgetful,
+    ) {
         Ok(worker) => end_of_answers(rt, desk, worker, given),
         Err(back) => end_without(alloc, back),
     }
@@ -73,7 +82,7 @@ fn worker_end<J: Naming, R: Print + Wait>(
 fn end_of_answers<J: Naming, C: Clock + Drop, U: Uplink + Drop, E: EngineLink + Drop>(
     rt: &(impl Print + Wait),
     desk: &Desk<J>,
-    worker: Worker<J, C, U, E>,
+    worker: Worker<J, C, U, E, Forgetful>,
     given: &Given<'_>,
 ) -> End<J> {
     let mut worker = worker;
@@ -88,7 +97,15 @@ fn settler_end<J: Naming, R: Print + Wait>(
     given: &Given<'_>,
 ) -> End<J> {
     let alloc = desk.config().allocator();
-    match Settler::new(alloc, share, Still(START), engine(rt, desk, given)) {
+    let link = engine(rt, desk, given);
+    match Settler::new(
+        alloc,
+        share,
+        desk.receipt(rt),
+        Still(START),
+        link,
+        Forgetful,
+    ) {
         Ok(settler) => end_of_turns(rt, desk, settler, given),
         Err(back) => end_without_settler(alloc, back),
     }
@@ -97,7 +114,7 @@ fn settler_end<J: Naming, R: Print + Wait>(
 fn end_of_turns<J: Naming, C: Clock + Drop, E: EngineLink + Drop>(
     rt: &(impl Print + Wait),
     desk: &Desk<J>,
-    settler: Settler<J, C, E>,
+    settler: Settler<J, C, E, Forgetful>,
     given: &Given<'_>,
 ) -> End<J> {
     let mut settler = settler;

@@ -11,12 +11,12 @@ use ilp_desk::{Desk, Naming, Share};
 use ilp_http::Buffer;
 use ilp_io::{Narrow, Pieces, Recording, Sink, WhenFull};
 use ilp_server::{ConnectionFault, Deed, Handled, Side, answer_connection};
-use ilp_workers::Worker;
+use ilp_workers::{Forgetful, Worker};
 use std::io;
 use std::sync::Wait;
 
 // A worker of whom nothing is printed.
-type SilentWorker<'a, J> = Worker<J, Still, Silent<'a>, NoEngine>;
+type SilentWorker<'a, J> = Worker<J, Still, Silent<'a>, NoEngine, Forgetful>;
 
 /// What comes in at a side.
 #[derive(Clone, Copy)]
@@ -65,7 +65,16 @@ pub(crate) fn cut_each<J: Naming, R: Print + Wait>(
         return println!(rt; "no share");
     };
     let alloc = desk.config().allocator();
-    match Worker::new(alloc, share, Still(START), Silent(given.came), NoEngine) {
+    let (receipt, uplink) = (desk.receipt(rt), Silent(given.came));
+    match Worker::new(
+        alloc,
+        share,
+        receipt,
+        Still(START),
+        uplink,
+        NoEngine,
+        Forgetful,
+    ) {
         Ok(mut worker) => cut_steps(rt, desk, &mut worker, given),
         Err(_) => println!(rt; "no worker"),
     }

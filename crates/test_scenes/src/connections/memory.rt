@@ -10,7 +10,7 @@ use crate::peers::START;
 use crate::told::print_book;
 use ilp_desk::{Desk, Naming, Share};
 use ilp_settler::{NoSettler, Settler};
-use ilp_workers::{EngineLink, Worker};
+use ilp_workers::{EngineLink, Forgetful, Worker};
 use std::alloc::Allocator;
 use std::io;
 use std::sync::Wait;
@@ -54,7 +54,16 @@ fn work_over<J: Naming, R: Print + Wait, A: Allocator + Copy>(
     given: &Given<'_>,
 ) -> io::Result<()> {
     let uplink = bob(rt, desk, given);
-    match Worker::new(heap, share, Still(START), uplink, engine(rt, desk, given)) {
+    let link = engine(rt, desk, given);
+    match Worker::new(
+        heap,
+        share,
+        desk.receipt(rt),
+        Still(START),
+        uplink,
+        link,
+        Forgetful,
+    ) {
         Ok(mut worker) => answer_each(rt, desk, &mut worker, given),
         Err(_) => println!(rt; "no worker"),
     }
@@ -95,20 +104,30 @@ fn deny_each<J: Naming, R: Print + Wait>(
 }
 
 // Denies a settler its first growth. What it hands back is its share.
-fn deny_making<J: Naming, R: Print>(
+fn deny_making<J: Naming, R: Print + Wait>(
     rt: &R,
     desk: &Desk<J>,
     share: Share<J>,
     given: &Given<'_>,
 ) -> Option<Share<J>> {
     let heap = DenyingAllocator::after(desk.config().allocator(), 0);
-    match Settler::new(&heap, share, Still(START), engine(rt, desk, given)) {
+    let link = engine(rt, desk, given);
+    match Settler::new(
+        &heap,
+        share,
+        desk.receipt(rt),
+        Still(START),
+        link,
+        Forgetful,
+    ) {
         Ok(_) => None,
         Err(
             NoSettler {
                 share,
+                receipt: _,
                 clock,
                 engine: _,
+                keeper: _,
             },
         ) => {
             let _ = println!(rt; "no settler; its clock as given: {}", clock.0 == START);
@@ -147,7 +166,7 @@ fn settle_over<J: Naming, B: Allocator, E: EngineLink + Drop>(
     link: E,
     given: &Given<'_>,
 ) -> io::Result<()> {
-    match Settler::new(heap, share, Still(START), link) {
+    match Settler::new(heap, share, desk.receipt(rt), Still(START), link, Forgetful) {
         Ok(mut settler) => settle_each(rt, desk, &mut settler, given),
         Err(_) => println!(rt; "no settler"),
     }

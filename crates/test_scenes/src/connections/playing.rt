@@ -7,6 +7,7 @@ use super::turns::settle;
 use crate::links::bob::Bob;
 use crate::links::clocks::TwoMoments;
 use crate::links::engine::Engine;
+use crate::links::keeper::Keeping;
 use crate::told::{print_actor, print_book};
 use ilp_desk::{Desk, Naming, Share};
 use ilp_http::Buffer;
@@ -43,9 +44,11 @@ fn take_turns_by<J: Naming, R: Print + Wait>(
     match Worker::new(
         alloc,
         share,
+        desk.receipt(rt),
         clock,
         bob(rt, desk, given),
         engine(rt, desk, given),
+        Keeping::new(given.kept),
     ) {
         Ok(mut worker) => take_turns_beside(rt, desk, &mut worker, settler, given),
         Err(_) => println!(rt; "no worker"),
@@ -61,13 +64,15 @@ fn take_turns_beside<
 >(
     rt: &R,
     desk: &Desk<J>,
-    worker: &mut Worker<J, C, U, E>,
+    worker: &mut Worker<J, C, U, E, Keeping>,
     share: Share<J>,
     given: &Given<'_>,
 ) -> io::Result<()> {
     let alloc = desk.config().allocator();
     let clock = TwoMoments::new(rt, alloc, given.turns);
-    match Settler::new(alloc, share, clock, engine(rt, desk, given)) {
+    let link = engine(rt, desk, given);
+    let keeper = Keeping::new(given.kept);
+    match Settler::new(alloc, share, desk.receipt(rt), clock, link, keeper) {
         Ok(mut settler) => {
             take_steps(rt, desk, worker, &mut settler, given)?;
             print_actor(rt, worker.share(), worker.records())?;
@@ -89,8 +94,8 @@ fn take_steps<
 >(
     rt: &R,
     desk: &Desk<J>,
-    worker: &mut Worker<J, C, U, E>,
-    settler: &mut Settler<J, D, F>,
+    worker: &mut Worker<J, C, U, E, Keeping>,
+    settler: &mut Settler<J, D, F, Keeping>,
     given: &Given<'_>,
 ) -> io::Result<()> {
     let mut buffer = Buffer::new(desk.config().allocator())?;

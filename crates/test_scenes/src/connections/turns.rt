@@ -5,16 +5,22 @@ use super::steps::Step;
 use crate::told::print_actor;
 use ilp_desk::{Desk, Naming};
 use ilp_settler::Settler;
-use ilp_workers::{Clock, EngineLink};
+use ilp_workers::{Clock, EngineLink, Keeper};
 use std::alloc::Allocator;
 use std::io;
 use std::sync::Wait;
 
 /// Has a settler take a turn for a peer, and prints what it comes to.
-pub(crate) fn settle<J: Naming, C: Clock + Drop, E: EngineLink + Drop, A: Allocator>(
+pub(crate) fn settle<
+    J: Naming,
+    C: Clock + Drop,
+    E: EngineLink + Drop,
+    K: Keeper<J> + Drop,
+    A: Allocator,
+>(
     rt: &(impl Print + Wait),
     desk: &Desk<J>,
-    settler: &mut Settler<J, C, E, A>,
+    settler: &mut Settler<J, C, E, K, A>,
     peer: u32,
 ) -> io::Result<()> {
     if peer >= desk.config().peers() {
@@ -27,10 +33,16 @@ pub(crate) fn settle<J: Naming, C: Clock + Drop, E: EngineLink + Drop, A: Alloca
 }
 
 /// Has a settler take each turn, and prints what it booked.
-pub(crate) fn settle_each<J: Naming, C: Clock + Drop, E: EngineLink + Drop, A: Allocator>(
+pub(crate) fn settle_each<
+    J: Naming,
+    C: Clock + Drop,
+    E: EngineLink + Drop,
+    K: Keeper<J> + Drop,
+    A: Allocator,
+>(
     rt: &(impl Print + Wait),
     desk: &Desk<J>,
-    settler: &mut Settler<J, C, E, A>,
+    settler: &mut Settler<J, C, E, K, A>,
     given: &Given<'_>,
 ) -> io::Result<()> {
     for step in given.steps.split("-- ").skip(1) {

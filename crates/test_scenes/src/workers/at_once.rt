@@ -13,7 +13,7 @@ use crate::peers::{ALICE, START};
 use crate::told::print_book;
 use ilp_desk::{Desk, End, Naming, Record, Share};
 use ilp_oer::Octets;
-use ilp_workers::{LinkFault, Receipt, Uplink, Worker};
+use ilp_workers::{Forgetful, LinkFault, Receipt, Uplink, Worker};
 use std::alloc::Allocator;
 use std::io;
 use std::sync::Wait;
@@ -106,7 +106,7 @@ fn ends_of_all<J: Naming + Send + Sync, R: Print + Threads + Wait + Sync>(
     }
     if let (Some(sweeper), Some(settler)) = (shares.next(), shares.next()) {
         let _ = ends.push(sweeper_end(rt, desk, sweeper));
-        let _ = ends.push(settler_end(desk, settler));
+        let _ = ends.push(settler_end(rt, desk, settler));
     }
     ends
 }
@@ -188,7 +188,15 @@ fn forward_by<J: Naming, R: Wait, U: Uplink + Drop>(
     given: &Given<'_>,
 ) -> (Option<Forwarded>, End<J>) {
     let alloc = desk.config().allocator();
-    match Worker::new(alloc, share, Still(START), uplink, NoEngine) {
+    match Worker::new(
+        alloc,
+        share,
+        desk.receipt(rt),
+        Still(START),
+        uplink,
+        NoEngine,
+        Forgetful,
+    ) {
         Ok(mut worker) => {
             let receipt = forward(rt, &mut worker, desk, ALICE, given.packet);
             let forwarded = what_came(&worker, receipt, given);
@@ -199,7 +207,7 @@ fn forward_by<J: Naming, R: Wait, U: Uplink + Drop>(
 }
 
 fn what_came<J: Naming, U: Uplink + Drop>(
-    worker: &Worker<J, Still, U, NoEngine>,
+    worker: &Worker<J, Still, U, NoEngine, Forgetful>,
     receipt: Option<Receipt>,
     given: &Given<'_>,
 ) -> Forwarded {

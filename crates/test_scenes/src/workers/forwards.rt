@@ -8,7 +8,7 @@ use crate::links::noting::Noting;
 use crate::peers::ALICE;
 use crate::told::{print_actor, print_book, print_octets};
 use ilp_desk::{Desk, Naming, Share};
-use ilp_workers::{Clock, Receipt, Uplink, Worker};
+use ilp_workers::{Clock, Forgetful, Receipt, Uplink, Worker};
 use std::alloc::{Allocator, Global};
 use std::io;
 use std::sync::Wait;
@@ -31,7 +31,15 @@ pub(crate) fn forward_one<J: Naming, R: Print + Wait>(
         came: given.came,
     };
     let uplink = Noting::new(alloc, uplink);
-    match Worker::new(alloc, share, clock, uplink, NoEngine) {
+    match Worker::new(
+        alloc,
+        share,
+        desk.receipt(rt),
+        clock,
+        uplink,
+        NoEngine,
+        Forgetful,
+    ) {
         Ok(mut worker) => print_forward(rt, desk, &mut worker, given),
         Err(_) => println!(rt; "no worker"),
     }
@@ -41,7 +49,7 @@ pub(crate) fn forward_one<J: Naming, R: Print + Wait>(
 pub(crate) fn print_forward<J: Naming, C: Clock + Drop, U: Uplink + Drop>(
     rt: &(impl Print + Wait),
     desk: &Desk<J>,
-    worker: &mut Worker<J, C, U, NoEngine>,
+    worker: &mut Worker<J, C, U, NoEngine, Forgetful>,
     given: &Given<'_>,
 ) -> io::Result<()> {
     print_answer(rt, desk, worker, given)?;
@@ -52,7 +60,7 @@ pub(crate) fn print_forward<J: Naming, C: Clock + Drop, U: Uplink + Drop>(
 pub(crate) fn print_answer<J: Naming, C: Clock + Drop, U: Uplink + Drop, A: Allocator>(
     rt: &(impl Print + Wait),
     desk: &Desk<J>,
-    worker: &mut Worker<J, C, U, NoEngine, A>,
+    worker: &mut Worker<J, C, U, NoEngine, Forgetful, A>,
     given: &Given<'_>,
 ) -> io::Result<()> {
     if ALICE >= desk.config().peers() {
@@ -83,7 +91,7 @@ fn print_reply(
 /// Has the worker forward what a peer sent, if that is a Prepare and there is such a peer.
 pub(crate) fn forward<J: Naming, C: Clock + Drop, U: Uplink + Drop>(
     rt: &impl Wait,
-    worker: &mut Worker<J, C, U, NoEngine>,
+    worker: &mut Worker<J, C, U, NoEngine, Forgetful>,
     desk: &Desk<J>,
     from: u32,
     packet: &[u8],

@@ -11,7 +11,7 @@ use ilp_book::{Book, PeerReply};
 use ilp_desk::{Closed, Desk, End, Naming, NotGathered, Share, WhyNotGathered, gather};
 use ilp_packet::Packet;
 use ilp_settler::{NoSettler, Settler, Sweeper};
-use ilp_workers::{EngineLink, NoWorker, Uplink, Worker};
+use ilp_workers::{EngineLink, Forgetful, NoWorker, Uplink, Worker};
 use std::alloc::Global;
 use std::io;
 use std::sync::Wait;
@@ -88,7 +88,7 @@ fn end_of<J: Naming>(
         0 if missing == Missing::Record => forward_beside(rt, desk, share, given),
         0 => worker_end(rt, desk, share, given),
         1 => sweeper_end(rt, desk, share),
-        _ => settler_end(desk, share),
+        _ => settler_end(rt, desk, share),
     }
 }
 
@@ -114,7 +114,15 @@ fn end_over<J: Naming, U: Uplink + Drop>(
     packet: &[u8],
 ) -> End<J> {
     let alloc = desk.config().allocator();
-    match Worker::new(alloc, share, Still(START), uplink, NoEngine) {
+    match Worker::new(
+        alloc,
+        share,
+        desk.receipt(rt),
+        Still(START),
+        uplink,
+        NoEngine,
+        Forgetful,
+    ) {
         Ok(worker) => end_after(rt, desk, worker, packet),
         Err(back) => end_without(alloc, back),
     }
@@ -123,13 +131,15 @@ fn end_over<J: Naming, U: Uplink + Drop>(
 /// What is handed in for a worker that there is no memory for.
 pub(crate) fn end_without<J: Naming, U: Uplink + Drop, E: EngineLink + Drop>(
     alloc: Global,
-    back: NoWorker<J, Still, U, E>,
+    back: NoWorker<J, Still, U, E, Forgetful>,
 ) -> End<J> {
     let NoWorker {
         share,
+        receipt: _,
         clock: _,
         uplink: _,
         engine: _,
+        keeper: _,
     } = back;
     End::new(share, Vec::new(alloc))
 }
@@ -137,7 +147,7 @@ pub(crate) fn end_without<J: Naming, U: Uplink + Drop, E: EngineLink + Drop>(
 fn end_after<J: Naming, U: Uplink + Drop>(
     rt: &impl Wait,
     desk: &Desk<J>,
-    worker: Worker<J, Still, U, NoEngine>,
+    worker: Worker<J, Still, U, NoEngine, Forgetful>,
     packet: &[u8],
 ) -> End<J> {
     let mut worker = worker;
@@ -153,9 +163,16 @@ pub(crate) fn sweeper_end<J: Naming>(rt: &impl Wait, desk: &Desk<J>, share: Shar
 }
 
 /// The end of a settler that had no turn.
-pub(crate) fn settler_end<J: Naming>(desk: &Desk<J>, share: Share<J>) -> End<J> {
+pub(crate) fn settler_end<J: Naming>(rt: &impl Wait, desk: &Desk<J>, share: Share<J>) -> End<J> {
     let alloc = desk.config().allocator();
-    match Settler::new(alloc, share, Still(START), NoEngine) {
+    match Settler::new(
+        alloc,
+        share,
+        desk.receipt(rt),
+        Still(START),
+        NoEngine,
+        Forgetful,
+    ) {
         Ok(settler) => settler.into_end(),
         Err(back) => end_without_settler(alloc, back),
     }
@@ -164,12 +181,14 @@ pub(crate) fn settler_end<J: Naming>(desk: &Desk<J>, share: Share<J>) -> End<J> 
 /// What is handed in for a settler that there is no memory for.
 pub(crate) fn end_without_settler<J: Naming, E: EngineLink + Drop>(
     alloc: Global,
-    back: NoSettler<J, Still, E>,
+    back: NoSettler<J, Still, E, Forgetful>,
 ) -> End<J> {
     let NoSettler {
         share,
+        receipt: _,
         clock: _,
         engine: _,
+        keeper: _,
     } = back;
     End::new(share, Vec::new(alloc))
 }

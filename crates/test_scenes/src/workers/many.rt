@@ -10,7 +10,7 @@ use crate::links::engine::NoEngine;
 use crate::peers::{ALICE, BOB, START};
 use ilp_desk::{Desk, End, Naming, Share};
 use ilp_oer::Octets;
-use ilp_workers::{LinkFault, Uplink, Worker};
+use ilp_workers::{Forgetful, LinkFault, Uplink, Worker};
 use std::alloc::Allocator;
 use std::sync::Wait;
 use std::sync::atomic::{AtomicU64, Ordering};
@@ -114,7 +114,7 @@ fn work<J: Naming>(
     match share.actor().cmp(&workers) {
         cmp::Ordering::Less => worker_end(rt, desk, share, given, fulfilled),
         cmp::Ordering::Equal => sweeper_end(rt, desk, share),
-        cmp::Ordering::Greater => settler_end(desk, share),
+        cmp::Ordering::Greater => settler_end(rt, desk, share),
     }
 }
 
@@ -127,7 +127,16 @@ fn worker_end<J: Naming>(
 ) -> End<J> {
     let alloc = desk.config().allocator();
     let dice = Dice::of_worker(share.actor());
-    match Worker::new(alloc, share, Still(START), Fickle(dice), NoEngine) {
+    let (receipt, uplink) = (desk.receipt(rt), Fickle(dice));
+    match Worker::new(
+        alloc,
+        share,
+        receipt,
+        Still(START),
+        uplink,
+        NoEngine,
+        Forgetful,
+    ) {
         Ok(worker) => end_after(rt, desk, worker, given, fulfilled),
         Err(back) => end_without(alloc, back),
     }
@@ -136,7 +145,7 @@ fn worker_end<J: Naming>(
 fn end_after<J: Naming>(
     rt: &impl Wait,
     desk: &Desk<J>,
-    worker: Worker<J, Still, Fickle, NoEngine>,
+    worker: Worker<J, Still, Fickle, NoEngine, Forgetful>,
     given: &Given<'_>,
     fulfilled: &AtomicU64,
 ) -> End<J> {
@@ -151,7 +160,7 @@ fn end_after<J: Naming>(
 fn forward_many<J: Naming>(
     rt: &impl Wait,
     desk: &Desk<J>,
-    worker: &mut Worker<J, Still, Fickle, NoEngine>,
+    worker: &mut Worker<J, Still, Fickle, NoEngine, Forgetful>,
     given: &Given<'_>,
     dice: Dice,
 ) -> u64 {
@@ -170,7 +179,7 @@ fn forward_many<J: Naming>(
 fn is_fulfilled<J: Naming>(
     rt: &impl Wait,
     desk: &Desk<J>,
-    worker: &mut Worker<J, Still, Fickle, NoEngine>,
+    worker: &mut Worker<J, Still, Fickle, NoEngine, Forgetful>,
     given: &Given<'_>,
     amount: u64,
 ) -> bool {

@@ -8,7 +8,7 @@ use crate::links::engine::NoEngine;
 use crate::peers::START;
 use crate::told::print_book;
 use ilp_desk::{Desk, Naming, Share};
-use ilp_workers::{NoWorker, Worker};
+use ilp_workers::{Forgetful, NoWorker, Worker};
 use std::alloc::Allocator;
 use std::io;
 use std::sync::Wait;
@@ -57,7 +57,15 @@ fn forward_over<J: Naming, B: Allocator>(
     given: &Given<'_>,
 ) -> io::Result<()> {
     let actor = share.actor();
-    match Worker::new(heap, share, Still(START), uplink, NoEngine) {
+    match Worker::new(
+        heap,
+        share,
+        desk.receipt(rt),
+        Still(START),
+        uplink,
+        NoEngine,
+        Forgetful,
+    ) {
         Ok(mut worker) => print_answer(rt, desk, &mut worker, given),
         Err(back) => print_back(rt, back, actor, given),
     }
@@ -66,7 +74,7 @@ fn forward_over<J: Naming, B: Allocator>(
 // Prints whether what was given for a worker came back as it was.
 fn print_back<J: Naming>(
     rt: &impl Print,
-    back: NoWorker<J, Still, Quiet<'_, '_>, NoEngine>,
+    back: NoWorker<J, Still, Quiet<'_, '_>, NoEngine, Forgetful>,
     actor: u32,
     given: &Given<'_>,
 ) -> io::Result<()> {
@@ -74,7 +82,7 @@ fn print_back<J: Naming>(
         share,
         clock: Still(moment),
         uplink,
-        engine: _,
+        ..
     } = back;
     let is_share = share.actor() == actor && share.entries() == 0;
     let is_uplink = uplink.is_for(given);

@@ -10,7 +10,7 @@ use crate::told::print_actor;
 use ilp_desk::{Desk, Naming, Share};
 use ilp_oer::Octets;
 use ilp_settler::Sweeper;
-use ilp_workers::{Clock, LinkFault, Uplink, Worker};
+use ilp_workers::{Clock, Forgetful, LinkFault, Uplink, Worker};
 use std::alloc::Allocator;
 use std::io;
 use std::sync::Wait;
@@ -88,7 +88,15 @@ fn forward_beside<J: Naming, R: Print + Wait>(
         sweeper: Sweeper::new(alloc, sweeper, clock),
         came: given.came,
     };
-    match Worker::new(alloc, share, Still(START), uplink, NoEngine) {
+    match Worker::new(
+        alloc,
+        share,
+        desk.receipt(rt),
+        Still(START),
+        uplink,
+        NoEngine,
+        Forgetful,
+    ) {
         Ok(mut worker) => print_forward(rt, desk, &mut worker, given),
         Err(_) => println!(rt; "no worker"),
     }

@@ -11,7 +11,7 @@ use ilp_desk::{Desk, Naming, Share};
 use ilp_http::Buffer;
 use ilp_io::{Pieces, Sink};
 use ilp_server::{Handled, Side, answer_connection};
-use ilp_workers::Worker;
+use ilp_workers::{Forgetful, Worker};
 use std::io;
 use std::io::ErrorKind;
 use std::sync::Wait;
@@ -90,7 +90,16 @@ fn report<J: Naming, R: Wait>(
     answered: &AtomicBool,
 ) -> Option<(Handled, Vec<u8>)> {
     let alloc = desk.config().allocator();
-    let Ok(mut worker) = Worker::new(alloc, share, Still(START), Silent(None), NoEngine) else {
+    let (receipt, uplink) = (desk.receipt(rt), Silent(None));
+    let Ok(mut worker) = Worker::new(
+        alloc,
+        share,
+        receipt,
+        Still(START),
+        uplink,
+        NoEngine,
+        Forgetful,
+    ) else {
         return None;
     };
     let mut buffer = Buffer::new(alloc).ok()?;
