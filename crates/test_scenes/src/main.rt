@@ -16,13 +16,14 @@
 //!   client takes nothing until then: no lock is held meanwhile. 64 workers with 200 packets each,
 //!   whose ends and book add up to what the script reckons. A desk that is closed; one without an
 //!   end or a record of an actor, which is refused.
-//! - 130 connections and 49 turns of a settler, in 38 scenes: each status, most at each side where
+//! - 133 connections and 51 turns of a settler, in 39 scenes: each status, most at each side where
 //!   it is given; messages to the engine and each of their refusals; a settlement told again,
 //!   another under its key, that key with another peer; keys of 128 octets and of 129; a full
 //!   journal; a read and a write that fail before each octet of an exchange, after which the next
 //!   connection is answered; engines without an account, that refuse after a silence, and that
-//!   accept. A settlement that a carried journal left open is asked for again under its old key,
-//!   and closed. An engine that answers each fourth request is asked for settlements in parts, up
+//!   accept. Where the journal is not kept a Fulfill is told all the same, a Prepare is rejected, a
+//!   credit is answered 503, and no engine is asked. A settlement that a carried journal left open
+//!   is asked for again under its old key, and closed. An engine that answers each fourth request is asked for settlements in parts, up
 //!   to four at a time and one behind the other, until each is closed once and the desk is closed.
 //! - Each growth denied of `Worker::new`, `forward` (T00, and inside of the uplink T01 with the
 //!   hold and its release), `credit` (503), `message` (503 with nobody asked, inside of the uplink
@@ -45,6 +46,8 @@
 //! - `replies`, `says`: what the engine answers a message; what it says of an account (`account`,
 //!   `no-account`) and of a settlement (`accepted`, `refused`, `unknown`), and behind each comma
 //!   what it says the next time, the last from then on
+//! - `kept`: how often the worker's keeper keeps the journal, and how often the settler's; without the
+//!   line always
 //!
 //! Scenes of connections go on with steps. `-- ilp` or `-- engine` is a connection: the lines of a
 //! head, an empty line, and the body behind `text` or `hex`. `failing N` has a read fail after N
