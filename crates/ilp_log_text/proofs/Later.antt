@@ -5,7 +5,7 @@ use Rattle.ilp_line_file.proofs.Whole.{are_lines, recovered-text_of, text_of-app
 use Rattle.ilp_log_text.specs.Text.{PlainLogText, IsIn}
 use Rattle.ilp_log_text.proofs.Plain.{word_plain, plain_line}
 
-first_is_line : IsLine (codes "ilp-journal 1")
+pub first_is_line : IsLine (codes "ilp-journal 1")
 first_is_line = plain_line (codes "ilp-journal 1") (word_plain (codes "ilp-journal 1") refl)
 
 module _ (text entries : List ℕ) (found : text ≡ codes "ilp-journal 1\n" ++ entries) where

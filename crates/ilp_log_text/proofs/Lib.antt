@@ -5,4 +5,5 @@ mod Origins
 mod OneLog
 mod Later
 mod SameText
+mod Entries
 mod RowProofs

@@ -17,11 +17,11 @@ use Rattle.ilp_log_text.proofs.Plain.{word_plain, plain_line, plain_run, plain_p
 
 -- ---- they are lines
 
-line_append : (xs ys : List ℕ) → IsLine xs → IsLine ys → IsLine (xs ++ ys)
+pub line_append : (xs ys : List ℕ) → IsLine xs → IsLine ys → IsLine (xs ++ ys)
 line_append [] ys x y = y
 line_append (b ∷ xs) ys x y = (x.0, x.1, line_append xs ys x.2 y)
 
-ink_line : (xs : List ℕ) → All IsInk xs → IsLine xs
+pub ink_line : (xs : List ℕ) → All IsInk xs → IsLine xs
 ink_line [] ink = tt
 ink_line (b ∷ xs) ink =
     let above : IsInk b = All-head IsInk b xs ink in
