@@ -23,8 +23,9 @@
 //!   connection is answered; engines without an account, that refuse after a silence, and that
 //!   accept. Where the journal is not kept a Fulfill is told all the same, a Prepare is rejected, a
 //!   credit is answered 503, and no engine is asked. A settlement that a carried journal left open
-//!   is asked for again under its old key, and closed. An engine that answers each fourth request is asked for settlements in parts, up
-//!   to four at a time and one behind the other, until each is closed once and the desk is closed.
+//!   is asked for again under its old key, and closed. An engine that answers each fourth request is
+//!   asked for settlements in parts, up to four at a time and one behind the other, until each is
+//!   closed once and the desk is closed.
 //! - Each growth denied of `Worker::new`, `forward` (T00, and inside of the uplink T01 with the
 //!   hold and its release), `credit` (503), `message` (503 with nobody asked, inside of the uplink
 //!   502), a message for the engine (T00, inside of its link T01), `Settler::new` and `turn`.
