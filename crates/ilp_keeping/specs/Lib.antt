@@ -1,0 +1,2 @@
+pub mod Keeping
+pub use Rattle.ilp_journal.specs.Journal
