@@ -3,13 +3,13 @@ use Rattle.std.proofs.Common.{◌≡◌, ◌≢◌, ℕ, ◌≤◌, ℤ, Bool, t
 use Rattle.std.specs.Prelude.{◌<◌, ◌^◌, Result, Ok, Err, slice_get, nat_lt, ◌==◌, ◌&&◌, not, option_and_then, option_map, unwrap_or, IfOk}
 use Rattle.std.specs.Str.{bytes_eq}
 use Rattle.std.proofs.lemmas.Bool.{eqb-true, le-ltb}
+use Rattle.std.proofs.lemmas.Slice.Eq.{bytes_eq-Decides}
 use Rattle.ilp_assets.specs.Quote.{most}
 use Rattle.ilp_settlement.specs.declared.quantity.Quantity.{Quantity}
 use Rattle.ilp_settlement.specs.Quantity.{credited_at}
 use Rattle.ilp_accounts.specs.Configuration.{Configuration}
 use Rattle.ilp_journal.specs.declared.entry.Entry.{Entry}
 use Rattle.ilp_journal.specs.declared.entry.What.{What}
-use Rattle.ilp_journal.specs.declared.entry.What.TheVariants as what
 use Rattle.ilp_journal.specs.declared.entry.Credited.{Credited}
 use Rattle.ilp_journal.specs.Places.{Each}
 use Rattle.ilp_journal.specs.Journal.{Entries}
@@ -28,8 +28,8 @@ use Rattle.ilp_book.specs.SettleStep.{kept, credit_kept, Payment, amount_of, cre
 use Rattle.ilp_rules.proofs.Standing.{first_found}
 use Rattle.ilp_rules.proofs.Rules.{rule_credits}
 use Rattle.ilp_desk.specs.Desk.{PlainDesk}
-use Rattle.ilp_desk.specs.Portion.{Holding}
 use Rattle.ilp_link_traits.specs.Links.{Tells}
+use Rattle.ilp_workers.specs.Worker.{Seat}
 use Rattle.ilp_workers.specs.Crediting.{IsCreditedAt, kept_of, IsCredited}
 use Rattle.ilp_desk.proofs.Raising.{raised_by, count_in, booked_more}
 
@@ -54,21 +54,23 @@ all_rounded book = by_push (λ j. Each (KeepsRuleOf book) j → (n : ℕ) (c : C
         of false at parts = before parts.0 n c at
 
 -- the credit that is kept under a peer's key is the peer's
-kept_is_its : (j : Entries) (peer : ℕ) (key : List ℕ) (n : ℕ) (c : Credited) → kept j peer key ≡ Some (n, c) → (credit_at j n ≡ Some c) × (c.peer ≡ peer)
+pub kept_is_its : (j : Entries) (peer : ℕ) (key : List ℕ) (n : ℕ) (c : Credited) → kept j peer key ≡ Some (n, c) → (credit_at j n ≡ Some c) × (c.peer ≡ peer) × (c.key ≡ key)
 kept_is_its j peer key n c e = of (kept_at j peer key) refl e
   where
-    its : (w : What) → as_credit w ≡ Some c → has_key peer key w ≡ true → c.peer ≡ peer
-    its w is has = eqb-true c.peer peer (first (c.peer == peer) (bytes_eq c.key key) (sym (ap (λ o. unwrap_or (option_map (λ (d : Credited). (d.peer == peer) && bytes_eq d.key key) o) false) is) ∙ has))
-      where
-        first : (a b : Bool) → (a && b) ≡ true → a ≡ true
-        first true b e = refl
-        first false b e = cc
+    both : (a b : Bool) → (a && b) ≡ true → (a ≡ true) × (b ≡ true)
+    both true b e = (refl, e)
+    both false b e = absurd cc
+
+    its : (w : What) → as_credit w ≡ Some c → has_key peer key w ≡ true → (c.peer ≡ peer) × (c.key ≡ key)
+    its w is has =
+        let same = both (c.peer == peer) (bytes_eq c.key key) (sym (ap (λ o. unwrap_or (option_map (λ (d : Credited). (d.peer == peer) && bytes_eq d.key key) o) false) is) ∙ has) in
+        (eqb-true c.peer peer same.0, (bytes_eq-Decides c.key key).0 same.1)
 
     numbered : (k : ℕ) (o : Option Credited) → option_map {U = ℕ × Credited} (λ (d : Credited). (k, d)) o ≡ Some (n, c) → (k ≡ n) × (o ≡ Some c)
     numbered k None e = absurd cc
     numbered k (Some d) e = let same = some_same (k, d) (n, c) e in (ap (λ x. x.0) same, ap (λ x. Some x.1) same)
 
-    of : (o : Option ℕ) → kept_at j peer key ≡ o → option_and_then {U = ℕ × Credited} (λ k. option_map (λ (d : Credited). (k, d)) (credit_at j k)) o ≡ Some (n, c) → (credit_at j n ≡ Some c) × (c.peer ≡ peer)
+    of : (o : Option ℕ) → kept_at j peer key ≡ o → option_and_then {U = ℕ × Credited} (λ k. option_map (λ (d : Credited). (k, d)) (credit_at j k)) o ≡ Some (n, c) → (credit_at j n ≡ Some c) × (c.peer ≡ peer) × (c.key ≡ key)
     of None is e = absurd cc
     of (Some k) is e =
         let named = numbered k (credit_at j k) e in
@@ -76,7 +78,8 @@ kept_is_its j peer key n c e = of (kept_at j peer key) refl e
         let place : f.0 ≡ k = omega (arith, f.2) in
         let stands : slice_get j k ≡ Some f.1 = subst (λ i. slice_get j i ≡ Some f.1) place f.3 in
         let credit : as_credit f.1.what ≡ Some c = sym (ap (option_and_then (λ (x : Entry). as_credit x.what)) stands) ∙ named.1 in
-        (subst (λ i. credit_at j i ≡ Some c) named.0 named.1, its f.1.what credit f.4)
+        let same = its f.1.what credit f.4 in
+        (subst (λ i. credit_at j i ≡ Some c) named.0 named.1, same.0, same.1)
 
 -- ---- steps
 
@@ -92,7 +95,7 @@ by_kept : (book : PlainBook) (caller : By) (p : Payment) (growth : Growth) (n : 
     → IsCreditStep book.config p (credit_booked book caller growth (Err (credit_kept p.quantity (n, c))))
 by_kept book caller p growth n c lawful is = of (c.named == p.quantity.amount) (c.scale == p.quantity.scale) refl refl
   where
-    its : (credit_at book.entries n ≡ Some c) × (c.peer ≡ p.peer)
+    its : (credit_at book.entries n ≡ Some c) × (c.peer ≡ p.peer) × (c.key ≡ p.key)
     its = kept_is_its book.entries p.peer p.key n c is
 
     amount : c.named ≡ p.quantity.amount → c.scale ≡ p.quantity.scale → c.credited ≡ amount_of book.config p
@@ -129,10 +132,10 @@ credit_step_is book caller p growth lawful fits =
 -- ---- sessions
 
 -- A session with a payment that is not too large, at a moment that the clock gave, and what is kept of it.
-pub credited_by : (desk : PlainDesk) (p : Payment) (moments moments' : Option (List ℤ)) (before after : Holding) (now : ℤ) (reply : Result Kept CreditFault)
-    → amount_of desk.config p ≤ most → Tells moments now moments' → IsCreditedAt desk p now before.share after.share reply
-    → after.records ≡ before.records ++ kept_of p reply → IsCredited desk p moments moments' before after reply
-credited_by desk p moments moments' before after now reply fits asked at is =
+pub credited_by : (desk : PlainDesk) (p : Payment) (before after : Seat) (now : ℤ) (reply : Result Kept CreditFault)
+    → amount_of desk.config p ≤ most → Tells before.moments now after.moments → IsCreditedAt desk p now before.seen after.seen before.share after.share reply
+    → after.records ≡ before.records ++ kept_of p reply → after.kept ≡ before.kept → IsCredited desk p before after reply
+credited_by desk p before after now reply fits asked at is unkept =
     let old = at.0 in
     let made = credit_step old (by before.share.actor now) p (credit_growth reply) in
     let does : Does old at.1 reply made = at.3 in
@@ -148,6 +151,7 @@ credited_by desk p moments moments' before after now reply fits asked at is =
       records = is;
       amount = subst (λ r. IfOk r (λ told. told.amount ≡ amount_of desk.config p)) (sym does.reply) (subst (λ C. IfOk made.reply (λ told. told.amount ≡ amount_of C p)) at.2.found.config step.amount);
       allowed = λ e. step.allowed (sym does.reply ∙ e);
+      unkept = unkept;
     }
 
 -- a payment whose amount is told at the scale of its peer's balance is not too large

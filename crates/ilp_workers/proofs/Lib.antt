@@ -4,5 +4,7 @@ pub mod Sending
 pub mod Passing
 pub mod Outcomes
 pub mod Standing
+pub mod Behind
 pub mod CreditSessions
 pub mod EngineMessages
+pub mod CreditBehind

@@ -8,7 +8,6 @@ use Rattle.ilp_packet.specs.declared.fault.PacketFault.{PacketFault}
 use Rattle.ilp_packet.specs.Packet.{PlainPacket, PlainPrepare, PlainFulfill, prepare, fulfill, reject, Spells}
 use Rattle.ilp_packet.specs.Reading.{reading}
 use Rattle.ilp_packet.proofs.ReadingLemmas.{reading_spelled}
-use Rattle.ilp_accounts.specs.Configuration.{Configuration}
 use Rattle.ilp_journal.specs.declared.entry.Cause.{Cause}
 use Rattle.ilp_journal.specs.declared.entry.Cause.TheVariants as cause
 use Rattle.ilp_book.specs.declared.calls.PeerReply.TheVariants as peer_reply
@@ -22,15 +21,14 @@ use Rattle.ilp_desk.specs.Totals.{packets, of_packet}
 use Rattle.ilp_workers.specs.declared.reply.Receipt.{Receipt}
 use Rattle.ilp_workers.specs.declared.rejects.LocalReject.{LocalReject}
 use Rattle.ilp_workers.specs.declared.rejects.LocalReject.TheVariants as local
-use Rattle.ilp_workers.specs.declared.rejects.ToldReject.{ToldReject}
 use Rattle.ilp_workers.specs.declared.rejects.ToldReject.TheVariants.{Own, Peer}
 use Rattle.ilp_workers.specs.declared.reply_effect.ReplyEffect.{ReplyEffect}
 use Rattle.ilp_workers.specs.declared.reply_effect.Told.{Told}
 use Rattle.ilp_workers.specs.declared.reply_effect.Told.TheVariants.{Fulfill, Reject}
 use Rattle.ilp_workers.specs.Rejects.{local_reject}
-use Rattle.ilp_workers.specs.Worker.{PlainWorker}
+use Rattle.ilp_workers.specs.Worker.{PlainWorker, Seat, seat_of}
 use Rattle.ilp_workers.specs.Arrivals.{Arrival, IsForPeers, Forwards}
-use Rattle.ilp_workers.specs.Forwarding.{Order, order, IsTold, reject_told, late, Ends, EndsLate, end_of, entry_of, count_of, IsSent, IsForwardedBy, effect, effect_of, effect_of_packet, record_of_end}
+use Rattle.ilp_workers.specs.Forwarding.{Order, order, KeepsFirst, IsTold, reject_told, Ends, EndsLate, end_of, entry_of, count_of, IsSent, IsForwardedBy, effect, effect_of, effect_of_packet, record_of_end}
 use Rattle.ilp_workers.specs.Outcome.{IsFulfilled, IsRejected}
 
 -- ---- packets
@@ -110,10 +108,24 @@ over : (o : Order) (before after : PlainWorker) (receipt : Receipt) (answer : Op
     → EndsLate before.records after.records told → IsRejected before after receipt
 over o before after receipt answer told is_told named ends = own o before after receipt answer told local.TransferTimedOut is_told named ends.0 (ap packets ends.1)
 
+-- what is kept before the sender is told changes neither the share nor the records
+kept_first_stays : (told : Told) (before after : Seat) → KeepsFirst told before after → (after.share ≡ before.share) × (after.records ≡ before.records)
+kept_first_stays Fulfill before after kept = (kept.1.share, kept.1.records)
+kept_first_stays (Reject r) before after same = (ap (λ (s : Seat). s.share) same, ap (λ (s : Seat). s.records) same)
+
 sent_outcome : (a : Arrival) (packet : PlainPrepare) (before after : PlainWorker) (receipt : Receipt) (hold : ℕ) (answer : Option ℕ) → AreOctets after.reply → Spells a.octets (prepare packet)
     → receipt.hold ≡ Some hold → receipt.answer ≡ answer → IsSent (order a.desk a.from packet) before after hold answer receipt.rejected → IsFulfilled a before after receipt ⊎ IsRejected before after receipt
-sent_outcome a packet before after receipt hold answer are came holds answers sent = of sent.ended.reply sent.ended.ends sent.ended.entry_is
+sent_outcome a packet before after receipt hold answer are came holds answers sent = of sent.ended.reply ends sent.ended.entry_is
   where
+    stays : (after.share ≡ sent.left.share) × (after.records ≡ sent.left.records)
+    stays = kept_first_stays sent.told sent.left (seat_of after) sent.kept_first
+
+    EndsBy : List Record → List Record → Type 0
+    EndsBy kept kept' = Ends (order a.desk a.from packet) sent.held (effect_of packet.condition sent.came) sent.ended.reply kept kept' sent.told
+
+    ends : EndsBy before.records after.records
+    ends = subst (λ kept. EndsBy kept after.records) sent.booked.records (subst (λ kept. EndsBy sent.between.records kept) (sym stays.1) sent.ended.ends)
+
     raised_by_two : (first last mid : Portion) → mid ≡ portion first.actor (first.entries + 1) → last ≡ portion mid.actor (mid.entries + 1) → last ≡ portion first.actor (first.entries + 2)
     raised_by_two first last mid one two =
         let sum : first.entries + 1 + 1 ≡ first.entries + 2 = omega arith in
@@ -125,7 +137,7 @@ sent_outcome a packet before after receipt hold answer are came holds answers se
     of (Ok outcome) ends is =
         elim ends [
           | inl counted ↦ in_time a packet before after receipt sent.held (end_of outcome).0 sent.told came (holds ∙ ap Some (sym sent.number)) (answers ∙ sym is)
-              (raised_by_two before.share after.share sent.share sent.booked.raised (sent.ended.raised ∙ ap (λ x. portion sent.share.actor (sent.share.entries + count_of x)) (sym is))) sent.named are sent.came sent.reply counted.1
+              (raised_by_two before.share after.share sent.between.share sent.booked.raised (stays.0 ∙ (sent.ended.raised ∙ ap (λ x. portion sent.between.share.actor (sent.between.share.entries + count_of x)) (sym is)))) sent.named are sent.came sent.reply counted.1
           | inr ended ↦ inr (over (order a.desk a.from packet) before after receipt sent.came sent.told sent.reply sent.named ended.1)
         ]
 

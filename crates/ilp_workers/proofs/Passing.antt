@@ -6,7 +6,8 @@ use Rattle.ilp_book.specs.declared.calls.Held.{Held}
 use Rattle.ilp_book.specs.declared.calls.Outcome.{Outcome}
 use Rattle.ilp_book.specs.declared.fault.NotOpen.{NotOpen}
 use Rattle.ilp_desk.specs.declared.record.Record.{Record}
-use Rattle.ilp_desk.specs.Portion.{Portion, holding}
+use Rattle.ilp_journal.specs.Journal.{Entries}
+use Rattle.ilp_desk.specs.Portion.{Portion}
 use Rattle.ilp_link_traits.specs.declared.links.LinkFault.{LinkFault}
 use Rattle.ilp_workers.specs.declared.rejects.ToldReject.{ToldReject}
 use Rattle.ilp_workers.specs.declared.rejects.ToldReject.TheVariants.{Own, Peer}
@@ -14,8 +15,9 @@ use Rattle.ilp_workers.specs.declared.reply_effect.ReplyEffect.{ReplyEffect}
 use Rattle.ilp_workers.specs.declared.reply_effect.Told.{Told}
 use Rattle.ilp_workers.specs.declared.reply_effect.Told.TheVariants.{Fulfill, Reject}
 use Rattle.ilp_link_traits.specs.Links.{Sending, ToEngine, came_of}
-use Rattle.ilp_workers.specs.Worker.{PlainWorker, worker}
-use Rattle.ilp_workers.specs.Forwarding.{Order, IsHolding, IsSentOn, IsEnded, IsSent, IsTold, Ends, late, reject_told, effect_of}
+use Rattle.ilp_keeping.specs.Keeping.{ToKeeper}
+use Rattle.ilp_workers.specs.Worker.{PlainWorker, worker, Seat, seat, seat_of}
+use Rattle.ilp_workers.specs.Forwarding.{Order, IsHolding, IsSentOn, IsEnded, KeepsFirst, IsSent, IsTold, Ends, late, reject_told, effect_of}
 
 -- ---- what the sender is told
 
@@ -42,47 +44,54 @@ passed_came C condition (Err fault) incoming Fulfill octets by is = absurd (no_f
 passed_came C condition (Err fault) incoming (Reject (Peer code)) octets by is = absurd (no_reject condition code by)
 passed_came C condition (Err fault) incoming (Reject (Own why)) octets by is = is
 
--- ---- the three parts
+-- ---- the four parts
 
--- a hold, a peer that was asked, and an end of the hold are a Prepare that was passed on
-pub sent_by : (o : Order) (before after : PlainWorker) (held : Held) (share share' : Portion) (moments moments' : Option (List ℤ)) (kept : List Record) (sent sent' : Option (List Sending))
+-- a hold, a peer that was asked, an end of the hold, and what was kept then are a Prepare that was passed on
+pub sent_by : (o : Order) (before after : PlainWorker) (held : Held) (between asked left : Seat) (sent sent' : Option (List Sending))
     (answer : Result (Unit {0}) LinkFault) (incoming : List ℕ) (c : ReplyEffect) (told : Told) (entry : Option ℕ) (rejected : Option ToldReject)
-    → IsHolding o before.moments moments before.share share held
+    → IsHolding o (seat_of before) between held
     → sent ≡ before.sent → IsSentOn o.packet held sent sent' (came_of answer incoming) → after.sent ≡ sent'
     → c ≡ effect_of o.packet.condition (came_of answer incoming)
-    → moments' ≡ moments → share' ≡ share → kept ≡ before.records
-    → IsEnded o held c moments' after.moments (holding share' kept) (holding after.share after.records) told entry
+    → asked ≡ between → IsEnded o held c asked left told entry → KeepsFirst told left (seat_of after)
     → after.engine ≡ before.engine → IsTold o.desk.config (Some incoming) told after.reply
     → rejected ≡ reject_told told → IsSent o before after held.number entry rejected
-sent_by o before after held share share' moments moments' kept sent sent' answer incoming c told entry rejected booked sent_is asked sent_now effect moments_are share_is kept_is ended engine told_is named =
+sent_by o before after held between asked left sent sent' answer incoming c told entry rejected booked sent_is handed sent_now effect same ended kept_first engine told_is named =
     let came = came_of answer incoming in
-    let closed = subst (λ k. IsEnded o held k moments' after.moments (holding share' kept) (holding after.share after.records) told entry) effect ended in
-    let timed = subst (λ m. IsEnded o held (effect_of o.packet.condition came) m after.moments (holding share' kept) (holding after.share after.records) told entry) moments_are closed in
-    let shared = subst (λ s. IsEnded o held (effect_of o.packet.condition came) moments after.moments (holding s kept) (holding after.share after.records) told entry) share_is timed in
-    let whole = subst (λ k. IsEnded o held (effect_of o.packet.condition came) moments after.moments (holding share k) (holding after.share after.records) told entry) kept_is shared in
+    let closed = subst (λ k. IsEnded o held k asked left told entry) effect ended in
+    let whole = subst (λ s. IsEnded o held (effect_of o.packet.condition came) s left told entry) same closed in
     record {
       held = held;
       number = refl;
-      share = share;
-      moments = moments;
+      between = between;
       booked = booked;
       came = came;
-      asked = subst (λ s. IsSentOn o.packet held before.sent s came) (sym sent_now) (subst (λ s. IsSentOn o.packet held s sent' came) sent_is asked);
+      asked = subst (λ s. IsSentOn o.packet held before.sent s came) (sym sent_now) (subst (λ s. IsSentOn o.packet held s sent' came) sent_is handed);
       told = told;
+      left = left;
       ended = whole;
+      kept_first = kept_first;
       engine = engine;
-      reply = passed_came o.desk.config o.packet.condition answer incoming told after.reply (told_by_end o held (effect_of o.packet.condition came) whole.reply before.records after.records told whole.ends) told_is;
+      reply = passed_came o.desk.config o.packet.condition answer incoming told after.reply (told_by_end o held (effect_of o.packet.condition came) whole.reply between.records left.records told whole.ends) told_is;
       named = named;
     }
 
--- ---- workers that are one
+-- ---- seats and workers that are one
 
--- a worker with equal parts is the same
-pub same_worker : (share share' : Portion) (kept kept' : List Record) (moments moments' : Option (List ℤ)) (sent sent' : Option (List Sending)) (engine engine' : Option (List ToEngine)) (reply : List ℕ)
-    → share' ≡ share → kept' ≡ kept → moments' ≡ moments → sent' ≡ sent → engine' ≡ engine
-    → worker share' kept' moments' sent' engine' reply ≡ worker share kept moments sent engine reply
-same_worker share share' kept kept' moments moments' sent sent' engine engine' reply a b c d e =
-    ap (λ s. worker s kept' moments' sent' engine' reply) a
-    ∙ (ap (λ k. worker share k moments' sent' engine' reply) b
-    ∙ (ap (λ m. worker share kept m sent' engine' reply) c
-    ∙ (ap (λ s. worker share kept moments s engine' reply) d ∙ ap (λ x. worker share kept moments sent x reply) e)))
+-- a seat with equal parts is the same
+pub same_seat : (share share' : Portion) (records records' : List Record) (moments moments' : Option (List ℤ)) (seen seen' : Entries) (kept kept' : Option (List ToKeeper))
+    → share' ≡ share → records' ≡ records → moments' ≡ moments → seen' ≡ seen → kept' ≡ kept
+    → seat share' records' moments' seen' kept' ≡ seat share records moments seen kept
+same_seat share share' records records' moments moments' seen seen' kept kept' a b c d e =
+    ap (λ s. seat s records' moments' seen' kept') a
+    ∙ (ap (λ r. seat share r moments' seen' kept') b
+    ∙ (ap (λ m. seat share records m seen' kept') c
+    ∙ (ap (λ j. seat share records moments j kept') d ∙ ap (λ k. seat share records moments seen k) e)))
+
+-- and so is a worker
+pub same_worker : (share share' : Portion) (records records' : List Record) (moments moments' : Option (List ℤ)) (sent sent' : Option (List Sending)) (engine engine' : Option (List ToEngine))
+    (seen seen' : Entries) (kept kept' : Option (List ToKeeper)) (reply : List ℕ)
+    → share' ≡ share → records' ≡ records → moments' ≡ moments → sent' ≡ sent → engine' ≡ engine → seen' ≡ seen → kept' ≡ kept
+    → worker share' records' moments' sent' engine' seen' kept' reply ≡ worker share records moments sent engine seen kept reply
+same_worker share share' records records' moments moments' sent sent' engine engine' seen seen' kept kept' reply a b c d e f g =
+    ap (λ (s : Seat). worker s.share s.records s.moments sent' engine' s.seen s.kept reply) (same_seat share share' records records' moments moments' seen seen' kept kept' a b c f g)
+    ∙ (ap (λ s. worker share records moments s engine' seen kept reply) d ∙ ap (λ x. worker share records moments sent x seen kept reply) e)

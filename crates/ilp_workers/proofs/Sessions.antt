@@ -1,8 +1,9 @@
 -- What a worker learns of its sessions: how many entries each booked, and what a hold that was accepted is.
-use Rattle.std.proofs.Common.{◌≡◌, ℕ, ◌+◌, ℤ, pos, ◌+ℤ◌, List, Option, Some, None, refl, sym, ap, ◌∙◌, subst, arith}
+use Rattle.std.proofs.Common.{◌≡◌, ℕ, ◌+◌, ℤ, pos, ◌+ℤ◌, Option, sym, ap, ◌∙◌, subst, arith}
 use Rattle.std.specs.Prelude.{Result, Ok, Err, ◌≤ℤ◌, int_le, false}
 use Rattle.std.specs.Int.{int_min}
 use Rattle.std.proofs.lemmas.Int.{ints, clamps}
+use Rattle.ilp_journal.specs.Journal.{Entries}
 use Rattle.ilp_book.specs.declared.calls.Held.{Held}
 use Rattle.ilp_book.specs.declared.calls.Outcome.{Outcome}
 use Rattle.ilp_book.specs.declared.calls.PeerReply.{PeerReply}
@@ -13,19 +14,20 @@ use Rattle.ilp_book.specs.HoldStep.{incoming, hold_step, growth_of, latest_answe
 use Rattle.ilp_book.specs.AnswerStep.{answer_step}
 use Rattle.ilp_book.proofs.HoldSteps.{TermsFacts, Accepts, accepted, refusal_books_nothing}
 use Rattle.ilp_book.proofs.AnswerSteps.{outcome_books_one, not_open_books_nothing}
-use Rattle.ilp_desk.specs.Desk.{PlainDesk, IsBookOf}
-use Rattle.ilp_desk.specs.Portion.{Portion, portion, Holding}
+use Rattle.ilp_desk.specs.Desk.{IsBookOf}
+use Rattle.ilp_desk.specs.Portion.{Portion, portion}
 use Rattle.ilp_desk.proofs.Raising.{raised_by, one_more, no_more, raised_by_none}
 use Rattle.ilp_workers.specs.declared.reply_effect.ReplyEffect.{ReplyEffect}
 use Rattle.ilp_workers.specs.declared.reply_effect.Told.{Told}
 use Rattle.ilp_link_traits.specs.Links.{Tells}
+use Rattle.ilp_workers.specs.Worker.{Seat}
 use Rattle.ilp_workers.specs.Forwarding.{Order, IsHeldAt, IsAnsweredAt, IsOnItsWay, within_years, entry_of, count_of, Ends, IsEnded}
 
 -- ---- how many entries were booked
 
 -- a hold that is accepted is one entry
-pub held_raises : (o : Order) (now : ℤ) (before after : Portion) (held : Held) → IsHeldAt o now before after (Ok held) → after ≡ portion before.actor (before.entries + 1)
-held_raises o now before after held at =
+pub held_raises : (o : Order) (now : ℤ) (seen seen' : Entries) (before after : Portion) (held : Held) → IsHeldAt o now seen seen' before after (Ok held) → after ≡ portion before.actor (before.entries + 1)
+held_raises o now seen seen' before after held at =
     let old = at.0 in
     let caller = by before.actor now in
     let sent = incoming old.config o.from o.packet in
@@ -35,8 +37,8 @@ held_raises o now before after held at =
     (one_more old at.1 (Ok held) made _ does (accepted old caller sent (growth_of (Ok held)) held (sym does.reply)).entry)
 
 -- a hold that is refused is none
-pub refused_raises_none : (o : Order) (now : ℤ) (before after : Portion) (fault : HoldFault) → IsHeldAt o now before after (Err fault) → after ≡ before
-refused_raises_none o now before after fault at =
+pub refused_raises_none : (o : Order) (now : ℤ) (seen seen' : Entries) (before after : Portion) (fault : HoldFault) → IsHeldAt o now seen seen' before after (Err fault) → after ≡ before
+refused_raises_none o now seen seen' before after fault at =
     let old = at.0 in
     let caller = by before.actor now in
     let sent = incoming old.config o.from o.packet in
@@ -47,16 +49,16 @@ refused_raises_none o now before after fault at =
     (no_more old at.1 (Err fault) made does (refusal_books_nothing old caller sent growth fault (sym does.reply))))
 
 -- an answer is one entry where it has an outcome, else none
-pub answered_raises : (o : Order) (now : ℤ) (hold : ℕ) (answer : PeerReply) (before after : Portion) (reply : Result Outcome NotOpen) → IsAnsweredAt o now hold answer before after reply
+pub answered_raises : (o : Order) (now : ℤ) (hold : ℕ) (answer : PeerReply) (seen seen' : Entries) (before after : Portion) (reply : Result Outcome NotOpen) → IsAnsweredAt o now hold answer seen seen' before after reply
     → after ≡ portion before.actor (before.entries + count_of (entry_of reply))
-answered_raises o now hold answer before after (Ok told) at =
+answered_raises o now hold answer seen seen' before after (Ok told) at =
     let old = at.0 in
     let caller = by before.actor now in
     let made = answer_step old caller hold answer in
     let does : Does old at.1 (Ok told) made = at.3 in
     let one = outcome_books_one old caller hold answer told (sym does.reply) in
     raised_by o.desk old at.1 before after 1 at.2 (one_more old at.1 (Ok told) made one.0 does one.1)
-answered_raises o now hold answer before after (Err fault) at =
+answered_raises o now hold answer seen seen' before after (Err fault) at =
     let old = at.0 in
     let caller = by before.actor now in
     let made = answer_step old caller hold answer in
@@ -97,23 +99,24 @@ on_its_way o book actor now growth held of_desk replied =
       soonest = subst (λ d. int_min (latest_answer C o.packet) (within_years now +ℤ pos C.settings.max_hold_ms) ≤ℤ d) (sym t.deadline) b.soonest;
     })
 
-pub held_on_its_way : (o : Order) (now : ℤ) (before after : Portion) (held : Held) → IsHeldAt o now before after (Ok held) → IsOnItsWay o now held
-held_on_its_way o now before after held at =
+pub held_on_its_way : (o : Order) (now : ℤ) (seen seen' : Entries) (before after : Portion) (held : Held) → IsHeldAt o now seen seen' before after (Ok held) → IsOnItsWay o now held
+held_on_its_way o now seen seen' before after held at =
     let does : Does at.0 at.1 (Ok held) (hold_step at.0 (by before.actor now) (incoming at.0.config o.from o.packet) (growth_of (Ok held))) = at.3 in
     on_its_way o at.0 before.actor now (growth_of (Ok held)) held at.2.found (sym does.reply)
 
 -- ---- what was told to a book
 
 -- what came back was told to a book, and how the hold ended follows from its reply
-pub ended_by : (o : Order) (held : Held) (c : ReplyEffect) (moments moments' : Option (List ℤ)) (before after : Holding) (told : Told) (entry : Option ℕ) (later : ℤ) (reply : Result Outcome NotOpen)
-    → Tells moments later moments' → IsAnsweredAt o later held.number c.answer before.share after.share reply → entry_of reply ≡ entry → Ends o held c reply before.records after.records told
-    → IsEnded o held c moments moments' before after told entry
-ended_by o held c moments moments' before after told entry later reply asked at is ends = record {
+pub ended_by : (o : Order) (held : Held) (c : ReplyEffect) (before after : Seat) (told : Told) (entry : Option ℕ) (later : ℤ) (reply : Result Outcome NotOpen)
+    → Tells before.moments later after.moments → IsAnsweredAt o later held.number c.answer before.seen after.seen before.share after.share reply → entry_of reply ≡ entry
+    → Ends o held c reply before.records after.records told → after.kept ≡ before.kept → IsEnded o held c before after told entry
+ended_by o held c before after told entry later reply asked at is ends unkept = record {
   later = later;
   reply = reply;
   asked = asked;
   booked = at;
   entry_is = is;
-  raised = answered_raises o later held.number c.answer before.share after.share reply at ∙ ap (λ e. portion before.share.actor (before.share.entries + count_of e)) is;
+  raised = answered_raises o later held.number c.answer before.seen after.seen before.share after.share reply at ∙ ap (λ e. portion before.share.actor (before.share.entries + count_of e)) is;
   ends = ends;
+  unkept = unkept;
 }

@@ -2,10 +2,11 @@
 use Rattle.std.proofs.Common.{◌≡◌, ℕ, ℤ, Bool, true, false, ◌==◌, Option, Some, None, inl, inr, refl, sym, ap, ◌∙◌, subst}
 use Rattle.std.specs.Prelude.{Result, Ok, Err, nat_lt, if◌then◌else◌}
 use Rattle.ilp_order.specs.Refusals.{◌>>=◌, refuse_if, found_or}
-use Rattle.ilp_packet.specs.Packet.{PlainPrepare, prepare, reject, Spells}
+use Rattle.ilp_packet.specs.Packet.{PlainPrepare, prepare, Spells}
 use Rattle.ilp_packet.proofs.ReadingLemmas.{one_packet}
 use Rattle.ilp_accounts.specs.Configuration.{Configuration, peer_at}
 use Rattle.ilp_journal.specs.declared.entry.Hold.{Hold}
+use Rattle.ilp_journal.specs.Journal.{Entries}
 use Rattle.ilp_book.specs.declared.calls.Held.{Held}
 use Rattle.ilp_book.specs.declared.fault.HoldFault.{HoldFault}
 use Rattle.ilp_book.specs.declared.fault.HoldFault.TheVariants as hold_fault
@@ -14,7 +15,8 @@ use Rattle.ilp_book.specs.HoldStep.{Incoming, incoming, hold_terms, hold_step, g
 use Rattle.ilp_book.proofs.HoldSteps.{hold_refused}
 use Rattle.ilp_desk.specs.Portion.{Portion}
 use Rattle.ilp_workers.specs.declared.reply.Receipt.{Receipt}
-use Rattle.ilp_workers.specs.Rejects.{local_reject, reject_of_fault}
+use Rattle.ilp_workers.specs.declared.rejects.LocalReject.TheVariants as local
+use Rattle.ilp_workers.specs.Rejects.{reject_of_fault}
 use Rattle.ilp_workers.specs.Worker.{PlainWorker}
 use Rattle.ilp_workers.specs.Forwarding.{Order, order, IsHeldAt, IsForwardedBy}
 use Rattle.ilp_workers.specs.Messaging.{IsForEngine}
@@ -43,8 +45,8 @@ refused_terms C m sent fault e = refuses (nat_lt (peer_at C sent.from).max_packe
 
 module _ (o : Order) (fault : HoldFault) (standing : standing_refusal o.desk.config (incoming o.desk.config o.from o.packet) ≡ Some fault) where
   -- and every book of the desk replies that
-  replies : (now : ℤ) (before after : Portion) (reply : Result Held HoldFault) → IsHeldAt o now before after reply → reply ≡ Err fault
-  replies now before after reply at =
+  replies : (now : ℤ) (seen seen' : Entries) (before after : Portion) (reply : Result Held HoldFault) → IsHeldAt o now seen seen' before after reply → reply ≡ Err fault
+  replies now seen seen' before after reply at =
       let book = at.0 in
       let caller = by before.actor now in
       let stands : standing_refusal book.config (incoming book.config o.from o.packet) ≡ Some fault =
@@ -58,21 +60,28 @@ module _ (o : Order) (fault : HoldFault) (standing : standing_refusal o.desk.con
       → IsRefusedAs o.desk after receipt (reject_of_fault o.packet.amount fault)
   told before after receipt None None holds answers refused =
       elim refused.reason [
-        | inl short ↦ record { reply = inr (subst (λ w. IsToldOwn o.desk after receipt w) short.0 (refused.told, refused.named)); holds = holds; answers = answers }
-        | inr by_book ↦
-            let same : by_book.fault ≡ fault = err_is (replies by_book.now before.share after.share (Err by_book.fault) by_book.refused) in
-            record {
-              reply = inl (subst (λ w. IsToldOwn o.desk after receipt w) (by_book.named ∙ ap (reject_of_fault o.packet.amount) same) (refused.told, refused.named));
-              holds = holds;
-              answers = answers;
-            }
+        | inl unkept ↦ as_denied unkept.named
+        | inr asked ↦
+            elim asked [
+              | inl denied ↦ as_denied denied.named
+              | inr by_book ↦
+                  let same : by_book.fault ≡ fault = err_is (replies by_book.now before.seen after.seen before.share after.share (Err by_book.fault) by_book.refused) in
+                  record {
+                    reply = inl (subst (λ w. IsToldOwn o.desk after receipt w) (by_book.named ∙ ap (reject_of_fault o.packet.amount) same) (refused.told, refused.named));
+                    holds = holds;
+                    answers = answers;
+                  }
+            ]
       ]
     where
+      as_denied : refused.why ≡ local.InternalError → IsRefusedAs o.desk after receipt (reject_of_fault o.packet.amount fault)
+      as_denied is = record { reply = inr (subst (λ w. IsToldOwn o.desk after receipt w) is (refused.told, refused.named)); holds = holds; answers = answers }
+
       err_is : {x y : HoldFault} → ◌≡◌ {A = Result Held HoldFault} (Err x) (Err y) → x ≡ y
       err_is e = cc
   told before after receipt None (Some n) holds answers none = absurd none
   told before after receipt (Some hold) answer holds answers sent =
-      absurd (never (replies sent.booked.now before.share sent.share (Ok sent.held) sent.booked.booked))
+      absurd (never (replies sent.booked.now before.seen sent.between.seen before.share sent.between.share (Ok sent.held) sent.booked.booked))
     where
       never : {x : Held} → ◌≡◌ {A = Result Held HoldFault} (Ok x) (Err fault) → ⊥
       never e = cc

@@ -1,24 +1,35 @@
 -- What becomes of a settlement from a peer, which the peer's engine tells a worker of.
-use Rattle.std.specs.Prelude.{◌≡◌, ◌≢◌, ◌+◌, ◌<◌, ◌≤◌, ℤ, ◌⊎◌, List, [], ◌∷◌, ◌++◌, length, Option, Result, Ok, Err, IfOk, if◌then◌else◌}
+use Rattle.std.specs.Prelude.{◌≡◌, ◌≢◌, ◌+◌, ◌<◌, ◌≤◌, ℤ, ◌⊎◌, List, [], ◌∷◌, ◌++◌, length, Some, Result, Ok, Err, IfOk, if◌then◌else◌}
 use Rattle.ilp_assets.specs.Quote.{most}
 use Rattle.ilp_accounts.specs.Configuration.{Configuration}
+use Rattle.ilp_journal.specs.declared.entry.Credited.{Credited}
+use Rattle.ilp_journal.specs.Journal.{Entries}
 use Rattle.ilp_book.specs.declared.calls.Kept.{Kept}
 use Rattle.ilp_book.specs.declared.fault.CreditFault.{CreditFault}
 use Rattle.ilp_book.specs.declared.fault.CreditFault.TheVariants as credit_fault
 use Rattle.ilp_book.specs.Book.{by}
+use Rattle.ilp_book.specs.Open.{credit_at}
 use Rattle.ilp_book.specs.SettleStep.{Payment, amount_of, credit_growth, credit_step}
 use Rattle.ilp_desk.specs.declared.record.Record.{Record}
 use Rattle.ilp_desk.specs.declared.record.Recorded.TheVariants as recorded
 use Rattle.ilp_desk.specs.Desk.{PlainDesk}
-use Rattle.ilp_desk.specs.Portion.{Portion, portion, Holding, holding}
-use Rattle.ilp_desk.specs.Session.{IsReplyAt}
+use Rattle.ilp_desk.specs.Portion.{Portion, portion}
+use Rattle.ilp_desk.specs.Session.{IsShownAt}
 use Rattle.ilp_link_traits.specs.Links.{Tells}
-use Rattle.ilp_workers.specs.Worker.{PlainWorker}
+use Rattle.ilp_keeping.specs.declared.keeper.NotKept.{NotKept}
+use Rattle.ilp_keeping.specs.Keeping.{ToKeeper}
+use Rattle.ilp_keeping.specs.Keeping as keeper
+use Rattle.ilp_workers.specs.declared.crediting.NotCredited.{NotCredited}
+use Rattle.ilp_workers.specs.declared.crediting.NotCredited.TheVariants as not_credited
+use Rattle.ilp_workers.specs.Worker.{PlainWorker, Seat, seat_of, IsKept}
 
--- A book of the desk was asked at a moment to credit the payment, and this was its reply.
-abbrev pub IsCreditedAt : PlainDesk → Payment → ℤ → Portion → Portion → Result Kept CreditFault → Type 0
-IsCreditedAt desk p now before after reply =
-    IsReplyAt desk (λ book. credit_step book (by before.actor now) p (credit_growth reply)) before after reply
+-- ---- booking
+
+-- A book of the desk was asked at a moment to credit the payment, and this was its reply. Before it the worker had seen a beginning of
+-- that book's journal, and then all of it.
+abbrev pub IsCreditedAt : PlainDesk → Payment → ℤ → Entries → Entries → Portion → Portion → Result Kept CreditFault → Type 0
+IsCreditedAt desk p now seen seen' before after reply =
+    IsShownAt desk (λ book. credit_step book (by before.actor now) p (credit_growth reply)) seen seen' before after reply
 
 -- what the books say of a payment that was credited
 abbrev pub record_of_credit : Payment → Kept → Record
@@ -30,16 +41,17 @@ kept_of p (Ok kept) = if kept.fresh then record_of_credit p kept ∷ [] else []
 kept_of p (Err fault) = []
 
 -- A payment that is not too large is told to a book, at a moment that the clock gives. Share and records are raised by the credit
--- that this made, if it made one; the amount that is answered is what the payment comes to, also where an earlier credit is kept.
-pub record IsCredited (desk : PlainDesk) (p : Payment) (moments moments' : Option (List ℤ)) (before after : Holding) (reply : Result Kept CreditFault) : Type 0 where
+-- that this made, if it made one; the amount of the reply is what the payment comes to, also where an earlier credit is kept.
+pub record IsCredited (desk : PlainDesk) (p : Payment) (before after : Seat) (reply : Result Kept CreditFault) : Type 0 where
   pub fits : amount_of desk.config p ≤ most
   pub now : ℤ
-  pub asked : Tells moments now moments'
-  pub booked : IsCreditedAt desk p now before.share after.share reply
+  pub asked : Tells before.moments now after.moments
+  pub booked : IsCreditedAt desk p now before.seen after.seen before.share after.share reply
   pub raised : after.share ≡ portion before.share.actor (before.share.entries + length (kept_of p reply))
   pub records : after.records ≡ before.records ++ kept_of p reply
   pub amount : IfOk reply (λ told. told.amount ≡ amount_of desk.config p)
   pub allowed : reply ≢ Err credit_fault.TooLarge
+  pub unkept : after.kept ≡ before.kept
 
 -- why no book is asked: the payment is too large, or there is no room for the record
 abbrev pub IsWhyUnasked : Configuration → Payment → Result Kept CreditFault → Type 0
@@ -48,18 +60,48 @@ IsWhyUnasked C p reply =
     ⊎ ((reply ≡ Err credit_fault.Memory) × (amount_of C p ≤ most))
 
 -- No book is asked, and all is as it was.
-pub record IsUncredited (desk : PlainDesk) (p : Payment) (moments moments' : Option (List ℤ)) (before after : Holding) (reply : Result Kept CreditFault) : Type 0 where
+pub record IsUncredited (desk : PlainDesk) (p : Payment) (before after : Seat) (reply : Result Kept CreditFault) : Type 0 where
   pub why : IsWhyUnasked desk.config p reply
-  pub asked : moments' ≡ moments
   pub same : after ≡ before
 
 -- one of the two
-abbrev pub CreditsAt : PlainDesk → Payment → Option (List ℤ) → Option (List ℤ) → Holding → Holding → Result Kept CreditFault → Type 0
-CreditsAt desk p moments moments' before after reply =
-    IsUncredited desk p moments moments' before after reply ⊎ IsCredited desk p moments moments' before after reply
+abbrev pub CreditsAt : PlainDesk → Payment → Seat → Seat → Result Kept CreditFault → Type 0
+CreditsAt desk p before after reply = IsUncredited desk p before after reply ⊎ IsCredited desk p before after reply
+
+-- ---- answering
+
+-- what is answered of a credit, by what the keeper says of the journal that has it
+abbrev pub answer_kept : Kept → Result (Unit {0}) NotKept → Result Kept NotCredited
+answer_kept credit (Ok x) = Ok credit
+answer_kept credit (Err fault) = Err not_credited.NotKept
+
+-- Of a credit, a new one or one from before, the keeper is handed the journal that has it, and what it says is answered; the credit
+-- stays either way. A refusal is answered as it is, and nothing is kept.
+abbrev pub IsAnswered : Result Kept CreditFault → Seat → Seat → Result Kept NotCredited → Type 0
+IsAnswered (Ok credit) before after answer = (said : Result (Unit {0}) NotKept) × IsKept said before after × (answer ≡ answer_kept credit said)
+IsAnswered (Err fault) before after answer = (answer ≡ Err (not_credited.Refused fault)) × (after ≡ before)
+
+-- The payment is booked or refused, and then kept and answered.
+pub record IsPaid (desk : PlainDesk) (p : Payment) (before after : Seat) (answer : Result Kept NotCredited) : Type 0 where
+  pub reply : Result Kept CreditFault
+  pub left : Seat
+  pub told : CreditsAt desk p before left reply
+  pub answered : IsAnswered reply left after answer
 
 -- What a worker makes of a payment. No peer and no engine is handed anything.
-pub record Credits (desk : PlainDesk) (p : Payment) (before after : PlainWorker) (reply : Result Kept CreditFault) : Type 0 where
-  pub told : CreditsAt desk p before.moments after.moments (holding before.share before.records) (holding after.share after.records) reply
+pub record Credits (desk : PlainDesk) (p : Payment) (before after : PlainWorker) (answer : Result Kept NotCredited) : Type 0 where
+  pub paid : IsPaid desk p (seat_of before) (seat_of after) answer
   pub links : (after.sent ≡ before.sent) × (after.engine ≡ before.engine)
   pub reply_stays : after.reply ≡ before.reply
+
+-- The last that the keeper was asked is to keep a journal, of which it said that it is kept, and whose entry of this number credits
+-- the peer under its key what is answered.
+pub record IsCreditBehind (told : List ToKeeper) (p : Payment) (credit : Kept) : Type 0 where
+  pub earlier : List ToKeeper
+  pub journal : Entries
+  pub last : told ≡ earlier ++ keeper.kept (keeper.keeping journal (Ok tt)) ∷ []
+  pub entry : Credited
+  pub stands : credit_at journal credit.number ≡ Some entry
+  pub peer : entry.peer ≡ p.peer
+  pub key : entry.key ≡ p.key
+  pub amount : entry.credited ≡ credit.amount

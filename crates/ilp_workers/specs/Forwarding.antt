@@ -1,5 +1,5 @@
 -- What becomes of a Prepare that a worker forwards: what is booked, what the next peer is handed, and what the sender is answered.
-use Rattle.std.specs.Prelude.{◌≡◌, ◌≢◌, ℕ, ◌+◌, ℤ, pos, ◌+ℤ◌, ◌≤ℤ◌, ◌⊎◌, List, [], ◌∷◌, ◌++◌, Option, Some, None, Result, Ok, Err, if◌then◌else◌}
+use Rattle.std.specs.Prelude.{◌≡◌, ◌≢◌, ℕ, ◌+◌, ℤ, pos, ◌+ℤ◌, ◌≤ℤ◌, ◌⊎◌, List, [], ◌∷◌, ◌++◌, Option, Some, None, Bool, true, false, Result, Ok, Err, if◌then◌else◌}
 use Rattle.std.specs.Int.{int_min, int_max}
 use Rattle.ilp_terms.specs.Condition.{meets}
 use Rattle.ilp_terms.specs.Expiry.{last_of_all}
@@ -9,6 +9,7 @@ use Rattle.ilp_packet.specs.Reading.{reading}
 use Rattle.ilp_assets.specs.declared.quote.Quote.{Quote}
 use Rattle.ilp_accounts.specs.Configuration.{Configuration}
 use Rattle.ilp_journal.specs.declared.entry.Cause.TheVariants as cause
+use Rattle.ilp_journal.specs.Journal.{Entries}
 use Rattle.ilp_book.specs.declared.calls.Held.{Held}
 use Rattle.ilp_book.specs.declared.calls.PeerReply.{PeerReply}
 use Rattle.ilp_book.specs.declared.calls.PeerReply.TheVariants as peer_reply
@@ -25,8 +26,10 @@ use Rattle.ilp_desk.specs.declared.record.Recorded.TheVariants as recorded
 use Rattle.ilp_desk.specs.declared.record.HoldEnd.{HoldEnd}
 use Rattle.ilp_desk.specs.declared.record.HoldEnd.TheVariants.{Fulfilled, Released}
 use Rattle.ilp_desk.specs.Desk.{PlainDesk}
-use Rattle.ilp_desk.specs.Portion.{Portion, portion, Holding, holding}
-use Rattle.ilp_desk.specs.Session.{IsReplyAt}
+use Rattle.ilp_desk.specs.Portion.{Portion, portion}
+use Rattle.ilp_desk.specs.Session.{IsShownAt}
+use Rattle.ilp_keeping.specs.declared.keeper.NotKept.{NotKept}
+use Rattle.ilp_keeping.specs.Keeping as keeper
 use Rattle.ilp_workers.specs.declared.rejects.LocalReject.{LocalReject}
 use Rattle.ilp_workers.specs.declared.rejects.LocalReject.TheVariants as local
 use Rattle.ilp_workers.specs.declared.rejects.ToldReject.{ToldReject}
@@ -38,7 +41,7 @@ use Rattle.ilp_link_traits.specs.declared.links.ReplyKind.{ReplyKind}
 use Rattle.ilp_link_traits.specs.declared.links.ReplyKind.TheVariants.{Answer, NoAnswer}
 use Rattle.ilp_link_traits.specs.Links.{Tells, Sending, sending}
 use Rattle.ilp_workers.specs.Rejects.{local_reject, reject_of_fault}
-use Rattle.ilp_workers.specs.Worker.{PlainWorker}
+use Rattle.ilp_workers.specs.Worker.{PlainWorker, Seat, seat_of, IsKept}
 
 -- ---- what is forwarded
 
@@ -53,10 +56,11 @@ order desk from packet = record { desk = desk; from = from; packet = packet }
 
 -- ---- holding
 
--- A book of the desk was asked at a moment to hold the Prepare, and this was its reply.
-abbrev pub IsHeldAt : Order → ℤ → Portion → Portion → Result Held HoldFault → Type 0
-IsHeldAt o now before after reply =
-    IsReplyAt o.desk (λ book. hold_step book (by before.actor now) (incoming book.config o.from o.packet) (growth_of reply)) before after reply
+-- A book of the desk was asked at a moment to hold the Prepare, and this was its reply. Before it the worker had seen a beginning of
+-- that book's journal, and then all of it.
+abbrev pub IsHeldAt : Order → ℤ → Entries → Entries → Portion → Portion → Result Held HoldFault → Type 0
+IsHeldAt o now seen seen' before after reply =
+    IsShownAt o.desk (λ book. hold_step book (by before.actor now) (incoming book.config o.from o.packet) (growth_of reply)) seen seen' before after reply
 
 -- a time, brought to the years 1970 to 9999
 abbrev pub within_years : ℤ → ℤ
@@ -71,26 +75,37 @@ pub record IsOnItsWay (o : Order) (now : ℤ) (held : Held) : Type 0 where
   pub latest : held.deadline ≤ℤ latest_answer o.desk.config o.packet
   pub soonest : int_min (latest_answer o.desk.config o.packet) (within_years now +ℤ pos o.desk.config.settings.max_hold_ms) ≤ℤ held.deadline
 
--- A hold is booked at a moment that the clock gives.
-pub record IsHolding (o : Order) (moments moments' : Option (List ℤ)) (before after : Portion) (held : Held) : Type 0 where
+-- The keeper says that entries are kept, and a hold is booked at a moment that the clock gives.
+pub record IsHolding (o : Order) (before after : Seat) (held : Held) : Type 0 where
+  pub keeps : Tells before.kept (keeper.asked true) after.kept
   pub now : ℤ
-  pub asked : Tells moments now moments'
-  pub booked : IsHeldAt o now before after (Ok held)
-  pub raised : after ≡ portion before.actor (before.entries + 1)
+  pub asked : Tells before.moments now after.moments
+  pub booked : IsHeldAt o now before.seen after.seen before.share after.share (Ok held)
+  pub raised : after.share ≡ portion before.share.actor (before.share.entries + 1)
   pub terms : IsOnItsWay o now held
+  pub records : after.records ≡ before.records
 
--- A book refused the hold at a moment that the clock gives, and this is the Reject of its refusal.
-pub record IsRefusedByBook (o : Order) (moments moments' : Option (List ℤ)) (before after : Portion) (why : LocalReject) : Type 0 where
+-- No book was asked. The keeper was asked whether entries are kept, and said this; the Reject is T00.
+pub record IsUnasked (said : Bool) (before after : Seat) (why : LocalReject) : Type 0 where
+  pub keeps : Tells before.kept (keeper.asked said) after.kept
+  pub moments : after.moments ≡ before.moments
+  pub seen : after.seen ≡ before.seen
+  pub named : why ≡ local.InternalError
+
+-- The keeper says that entries are kept, and a book refused the hold at a moment that the clock gives. This is the Reject of its
+-- refusal.
+pub record IsRefusedByBook (o : Order) (before after : Seat) (why : LocalReject) : Type 0 where
+  pub keeps : Tells before.kept (keeper.asked true) after.kept
   pub now : ℤ
   pub fault : HoldFault
-  pub asked : Tells moments now moments'
-  pub refused : IsHeldAt o now before after (Err fault)
+  pub asked : Tells before.moments now after.moments
+  pub refused : IsHeldAt o now before.seen after.seen before.share after.share (Err fault)
   pub named : why ≡ reject_of_fault o.packet.amount fault
 
--- No hold is booked: memory was denied before a book was asked, or a book refused it.
-abbrev pub IsHoldRefusal : Order → Option (List ℤ) → Option (List ℤ) → Portion → Portion → LocalReject → Type 0
-IsHoldRefusal o moments moments' before after why =
-    ((why ≡ local.InternalError) × (moments' ≡ moments)) ⊎ IsRefusedByBook o moments moments' before after why
+-- No hold is booked: entries are not kept; or they are, and memory was denied before a book was asked; or a book refused it.
+abbrev pub IsHoldRefusal : Order → Seat → Seat → LocalReject → Type 0
+IsHoldRefusal o before after why =
+    IsUnasked false before after why ⊎ (IsUnasked true before after why ⊎ IsRefusedByBook o before after why)
 
 -- ---- handing on
 
@@ -140,10 +155,11 @@ kind_of peer_reply.NoReply = NoAnswer
 
 -- ---- ending
 
--- A book of the desk was told at a moment what came for a hold, and this was its reply.
-abbrev pub IsAnsweredAt : Order → ℤ → ℕ → PeerReply → Portion → Portion → Result Outcome NotOpen → Type 0
-IsAnsweredAt o now hold answer before after reply =
-    IsReplyAt o.desk (λ book. answer_step book (by before.actor now) hold answer) before after reply
+-- A book of the desk was told at a moment what came for a hold, and this was its reply. Before it the worker had seen a beginning of
+-- that book's journal, and then all of it.
+abbrev pub IsAnsweredAt : Order → ℤ → ℕ → PeerReply → Entries → Entries → Portion → Portion → Result Outcome NotOpen → Type 0
+IsAnsweredAt o now hold answer seen seen' before after reply =
+    IsShownAt o.desk (λ book. answer_step book (by before.actor now) hold answer) seen seen' before after reply
 
 -- how a hold ended, and the number of the entry that says so
 abbrev pub end_of : Outcome → ℕ × HoldEnd
@@ -184,15 +200,23 @@ Ends o held c (Ok outcome) kept kept' told =
     (((end_of outcome).1 ≡ c.ended) × EndsInTime o held c (end_of outcome).0 kept kept' told)
     ⊎ (((end_of outcome).1 ≢ c.ended) × EndsLate kept kept' told)
 
--- What came back is told to a book at a moment that the clock gives, and the worker's share and records are raised by that.
-pub record IsEnded (o : Order) (held : Held) (c : ReplyEffect) (moments moments' : Option (List ℤ)) (before after : Holding) (told : Told) (entry : Option ℕ) : Type 0 where
+-- What came back is told to a book at a moment that the clock gives, and the worker's share and records are raised by that. The
+-- keeper is asked nothing yet.
+pub record IsEnded (o : Order) (held : Held) (c : ReplyEffect) (before after : Seat) (told : Told) (entry : Option ℕ) : Type 0 where
   pub later : ℤ
   pub reply : Result Outcome NotOpen
-  pub asked : Tells moments later moments'
-  pub booked : IsAnsweredAt o later held.number c.answer before.share after.share reply
+  pub asked : Tells before.moments later after.moments
+  pub booked : IsAnsweredAt o later held.number c.answer before.seen after.seen before.share after.share reply
   pub entry_is : entry_of reply ≡ entry
   pub raised : after.share ≡ portion before.share.actor (before.share.entries + count_of entry)
   pub ends : Ends o held c reply before.records after.records told
+  pub unkept : after.kept ≡ before.kept
+
+-- Before the sender is told a Fulfill, the keeper is handed the journal that has its entry. Whatever it says, the sender is owed the
+-- Fulfill. Before a Reject nothing is kept.
+abbrev pub KeepsFirst : Told → Seat → Seat → Type 0
+KeepsFirst Fulfill before after = (said : Result (Unit {0}) NotKept) × IsKept said before after
+KeepsFirst (Reject r) before after = after ≡ before
 
 -- ---- a Prepare that is forwarded
 
@@ -210,25 +234,26 @@ reject_told (Reject r) = Some r
 -- Nothing is booked, and no peer is handed anything.
 pub record IsRefused (o : Order) (before after : PlainWorker) (rejected : Option ToldReject) : Type 0 where
   pub why : LocalReject
-  pub reason : IsHoldRefusal o before.moments after.moments before.share after.share why
+  pub reason : IsHoldRefusal o (seat_of before) (seat_of after) why
   pub told : Spells after.reply (reject (local_reject o.desk.config why))
   pub named : rejected ≡ Some (Own why)
   pub share : after.share ≡ before.share
   pub records : after.records ≡ before.records
   pub links : (after.sent ≡ before.sent) × (after.engine ≡ before.engine)
 
--- A hold is booked, then the next peer is asked, then what came back is booked. Between the two sessions nothing is known of the
--- book.
+-- A hold is booked, then the next peer is asked, then what came back is booked, and a Fulfill is kept before the sender is told it.
+-- What the answer's session finds begins with what the hold's left, the hold among it, since the worker has seen that.
 pub record IsSent (o : Order) (before after : PlainWorker) (hold : ℕ) (answer : Option ℕ) (rejected : Option ToldReject) : Type 0 where
   pub held : Held
   pub number : held.number ≡ hold
-  pub share : Portion
-  pub moments : Option (List ℤ)
-  pub booked : IsHolding o before.moments moments before.share share held
+  pub between : Seat
+  pub booked : IsHolding o (seat_of before) between held
   pub came : Option (List ℕ)
   pub asked : IsSentOn o.packet held before.sent after.sent came
   pub told : Told
-  pub ended : IsEnded o held (effect_of o.packet.condition came) moments after.moments (holding share before.records) (holding after.share after.records) told answer
+  pub left : Seat
+  pub ended : IsEnded o held (effect_of o.packet.condition came) between left told answer
+  pub kept_first : KeepsFirst told left (seat_of after)
   pub engine : after.engine ≡ before.engine
   pub reply : IsTold o.desk.config came told after.reply
   pub named : rejected ≡ reject_told told

@@ -1,4 +1,5 @@
 pub use Rattle.ilp_link_traits.specs.Links
+pub use Rattle.ilp_keeping.specs.Keeping
 pub mod Rejects
 pub mod Rows
 pub mod Worker

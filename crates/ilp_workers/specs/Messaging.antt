@@ -1,4 +1,5 @@
--- Messages between settlement engines (RFC 0038): Prepares of amount 0 to `peer.settle`. None of them touches the book.
+-- Messages between settlement engines (RFC 0038): Prepares of amount 0 to `peer.settle`. None of them touches the book,
+-- nor asks a keeper.
 use Rattle.std.specs.Prelude.{◌≡◌, ℕ, ◌<◌, ◌≤◌, ◌==◌, nat_le, ℤ, pos, ◌+ℤ◌, int_le, ◌⊎◌, not, if◌then◌else◌, List, [], ◌∷◌, length, replicate, codes, bytes_eq, Option, Some, None, is_none, IsSome, Result, Ok, Err}
 use Rattle.std.specs.Int.{int_min}
 use Rattle.ilp_order.specs.Checks.{first_of, when}
@@ -110,6 +111,8 @@ pub record IsMessaged (C : Configuration) (from : ℕ) (packet : PlainPrepare) (
   pub share : after.share ≡ before.share
   pub records : after.records ≡ before.records
   pub sent : after.sent ≡ before.sent
+  pub seen : after.seen ≡ before.seen
+  pub kept : after.kept ≡ before.kept
 
 -- ---- a message of the engine here for a peer's engine
 
@@ -165,6 +168,8 @@ pub record IsTried (C : Configuration) (peer : ℕ) (octets : List ℕ) (before 
   pub share : after.share ≡ before.share
   pub records : after.records ≡ before.records
   pub engine : after.engine ≡ before.engine
+  pub seen : after.seen ≡ before.seen
+  pub kept : after.kept ≡ before.kept
 
 -- A message that is too long leaves all as it was.
 abbrev pub Messages : Configuration → ℕ → List ℕ → PlainWorker → PlainWorker → Result (Unit {0}) MessageFault → Type 0

@@ -1,8 +1,10 @@
 -- What a forward comes to for its sender: a Fulfill, or a Reject.
-use Rattle.std.specs.Prelude.{◌≡◌, ℕ, ◌+◌, ◌⊎◌, ◌==◌, nat_lt, [], ◌∷◌, ◌++◌, Option, Some, None, true, if◌then◌else◌}
+use Rattle.std.specs.Prelude.{◌≡◌, ℕ, ◌+◌, ◌⊎◌, ◌==◌, nat_lt, List, [], ◌∷◌, ◌++◌, slice_get, Option, Some, None, option_and_then, Result, true, if◌then◌else◌}
 use Rattle.ilp_terms.specs.Condition.{meets}
 use Rattle.ilp_packet.specs.Packet.{PlainPrepare, PlainFulfill, PlainReject, prepare, fulfill, reject, Spells}
 use Rattle.ilp_accounts.specs.Configuration.{Configuration, peer_at}
+use Rattle.ilp_journal.specs.declared.entry.Entry.{Entry}
+use Rattle.ilp_journal.specs.Journal.{Entries, fulfilled}
 use Rattle.ilp_book.specs.declared.calls.Held.{Held}
 use Rattle.ilp_book.specs.declared.fault.HoldFault.{HoldFault}
 use Rattle.ilp_book.specs.declared.fault.HoldFault.TheVariants as hold_fault
@@ -11,6 +13,8 @@ use Rattle.ilp_desk.specs.declared.record.HoldEnd.TheVariants.{Fulfilled}
 use Rattle.ilp_desk.specs.Desk.{PlainDesk}
 use Rattle.ilp_desk.specs.Portion.{portion}
 use Rattle.ilp_desk.specs.Totals.{packets}
+use Rattle.ilp_keeping.specs.declared.keeper.NotKept.{NotKept}
+use Rattle.ilp_keeping.specs.Keeping.{ToKeeper, keeping, kept}
 use Rattle.ilp_workers.specs.declared.reply.Receipt.{Receipt}
 use Rattle.ilp_workers.specs.declared.rejects.LocalReject.{LocalReject}
 use Rattle.ilp_workers.specs.declared.rejects.LocalReject.TheVariants as local
@@ -45,6 +49,18 @@ pub record IsRejected (before after : PlainWorker) (receipt : Receipt) : Type 0 
   pub named : receipt.rejected ≡ Some told
   pub code : answer.code ≡ told_code told
   pub records : packets after.records ≡ packets before.records
+
+-- The last that the keeper was asked is to keep a journal, whatever it said of it, in which the receipt's answer fulfills its hold.
+pub record IsToldBehind (told : List ToKeeper) (receipt : Receipt) : Type 0 where
+  pub earlier : List ToKeeper
+  pub journal : Entries
+  pub said : Result (Unit {0}) NotKept
+  pub last : told ≡ earlier ++ kept (keeping journal said) ∷ []
+  pub hold : ℕ
+  pub entry : ℕ
+  pub holds : receipt.hold ≡ Some hold
+  pub answers : receipt.answer ≡ Some entry
+  pub fulfills : option_and_then (λ (e : Entry). fulfilled e.what) (slice_get journal entry) ≡ Some hold
 
 -- ---- refusals that no moment changes
 

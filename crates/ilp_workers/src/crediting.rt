@@ -2,27 +2,71 @@
 ghost use Rattle.std.specs.Prelude.{◌≡◌};
 ghost use Rattle.ilp_book.specs.Configured.{IsKnown};
 ghost use Rattle.ilp_book.specs.SettleStep.{Payment, payment};
-ghost use Rattle.ilp_desk.specs.Portion.{holding};
-ghost use Rattle.ilp_workers.specs.Crediting.{record_of_credit, CreditsAt};
+ghost use Rattle.ilp_workers.specs.Worker.{seat};
+ghost use Rattle.ilp_workers.specs.Crediting.{record_of_credit, CreditsAt, IsPaid};
 
 use crate::parts::Parts;
 use ilp_book::{CreditFault, Kept};
 use ilp_desk::{Desk, Naming, Record, Recorded};
 use ilp_journal::Key;
+use ilp_keeping::{Keeper, NotKept};
 use ilp_link_traits::{Clock, EngineLink, Uplink};
 use ilp_settlement::{Quantity, credited};
 use std::alloc::Allocator;
 use std::sync::Wait;
+use thiserror::Error;
 
-impl<J: Naming, C: Clock + Drop, U: Uplink + Drop, E: EngineLink + Drop, A: Allocator> Parts<
-    J,
-    C,
-    U,
-    E,
-    A,
-> {
-    // Makes room for the record, and then has the desk credit the settlement at the clock's moment.
+/// Why a settlement is not answered as credited.
+#[derive(Clone, Copy, Debug, PartialEq, Eq, Error)]
+pub enum NotCredited {
+    /// It is not credited, for this reason.
+    #[error("{0}")]
+    Refused(CreditFault),
+    /// It is credited and stays so, now or from before, but nothing says that its entry is kept. Told
+    /// again under its key, it is kept then or refused so again.
+    #[error("the journal is not kept")]
+    NotKept,
+}
+
+impl<
+    J: Naming,
+    C: Clock + Drop,
+    U: Uplink + Drop,
+    E: EngineLink + Drop,
+    K: Keeper<J> + Drop,
+    A: Allocator,
+> Parts<J, C, U, E, K, A> {
+    // Books the settlement, and answers a credit only once the journal that has it is kept.
     pub(crate) fn credit(
+        &mut self,
+        rt: &impl Wait,
+        desk: &Desk<J>,
+        peer: u32,
+        key: Key,
+        quantity: &Quantity,
+    ) -> Result<Kept, NotCredited>
+        requires known { IsKnown J.desk.config peer }
+        ensures paid { IsPaid J.desk (payment peer key quantity.now)
+            (seat self.old.share self.old.records.items (C.told self.old.clock) self.old.receipt
+            (K.told self.old.keeper))
+            (seat self.new.share self.new.records.items (C.told self.new.clock) self.new.receipt
+            (K.told self.new.keeper)) result }
+        ensures links { (self.new.uplink ≡ self.old.uplink) × (self.new.engine ≡ self.old.engine) }
+        ensures reply_in { self.new.reply_in ≡ self.old.reply_in }
+        ensures buffers { (self.new.incoming ≡ self.old.incoming)
+            × (self.new.outgoing ≡ self.old.outgoing) × (self.new.rejected ≡ self.old.rejected) }
+    {
+        match self.book_credit(rt, desk, peer, key, quantity) {
+            Ok(kept) => match self.keep() {
+                Ok(()) => Ok(kept),
+                Err(NotKept) => Err(NotCredited::NotKept),
+            },
+            Err(fault) => Err(NotCredited::Refused(fault)),
+        }
+    }
+
+    // Makes room for the record, and then has the desk credit the settlement at the clock's moment.
+    fn book_credit(
         &mut self,
         rt: &impl Wait,
         desk: &Desk<J>,
@@ -31,9 +75,11 @@ impl<J: Naming, C: Clock + Drop, U: Uplink + Drop, E: EngineLink + Drop, A: Allo
         quantity: &Quantity,
     ) -> Result<Kept, CreditFault>
         requires known { IsKnown J.desk.config peer }
-        ensures told { CreditsAt J.desk (payment peer key quantity.now) (C.told self.old.clock)
-            (C.told self.new.clock) (holding self.old.share self.old.records.items)
-            (holding self.new.share self.new.records.items) result }
+        ensures told { CreditsAt J.desk (payment peer key quantity.now)
+            (seat self.old.share self.old.records.items (C.told self.old.clock) self.old.receipt
+            (K.told self.old.keeper))
+            (seat self.new.share self.new.records.items (C.told self.new.clock) self.new.receipt
+            (K.told self.new.keeper)) result }
         ensures links { (self.new.uplink ≡ self.old.uplink) × (self.new.engine ≡ self.old.engine) }
         ensures reply_in { self.new.reply_in ≡ self.old.reply_in }
         ensures buffers { (self.new.incoming ≡ self.old.incoming)
@@ -46,7 +92,15 @@ impl<J: Naming, C: Clock + Drop, U: Uplink + Drop, E: EngineLink + Drop, A: Allo
             return Err(CreditFault::Memory);
         };
         let now = self.clock.now();
-        match desk.credit(rt, &mut self.share, peer, key, quantity, now) {
+        match desk.credit_shown(
+            rt,
+            &mut self.share,
+            &mut self.receipt,
+            peer,
+            key,
+            quantity,
+            now,
+        ) {
             Ok(kept) => {
                 if kept.fresh {
                     self.records.push_reserved(record_of(peer, kept));

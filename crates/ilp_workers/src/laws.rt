@@ -1,6 +1,6 @@
 //! What holds of the definitions. These functions do nothing: their contracts are the laws. A law
 //! tells whoever reads the definitions what follows from them; no code needs to call it.
-ghost use Rattle.std.specs.Prelude.{◌≡◌, ◌⊎◌, ℕ, ◌≤◌, true, List, length, codes, Some, Ok};
+ghost use Rattle.std.specs.Prelude.{◌≡◌, ◌⊎◌, ℕ, ◌≤◌, true, List, length, codes, Some, None, Ok};
 ghost use Rattle.ilp_oer.specs.Octets.{AreOctets};
 ghost use Rattle.ilp_terms.specs.Condition.{meets};
 ghost use Rattle.ilp_packet.specs.Address.{most_address};
@@ -9,6 +9,10 @@ ghost use Rattle.ilp_packet.specs.Writing.{size};
 ghost use Rattle.ilp_accounts.specs.Configuration.{Configuration};
 ghost use Rattle.ilp_book.specs.declared.fault.HoldFault.{HoldFault};
 ghost use Rattle.ilp_book.specs.HoldStep.{incoming};
+ghost use Rattle.ilp_book.specs.declared.calls.Kept.{Kept};
+ghost use Rattle.ilp_book.specs.SettleStep.{Payment};
+ghost use Rattle.ilp_desk.specs.Desk.{PlainDesk};
+ghost use Rattle.ilp_keeping.specs.Keeping.{ToKeeper};
 ghost use Rattle.ilp_workers.specs.declared.rejects.LocalReject.{LocalReject};
 ghost use Rattle.ilp_workers.specs.Rejects.{local_reject, longest_local_reject, reject_of_fault};
 ghost use Rattle.ilp_workers.specs.Rows.{RejectRows};
@@ -16,7 +20,8 @@ ghost use Rattle.ilp_workers.specs.declared.reply.Receipt.{Receipt};
 ghost use Rattle.ilp_workers.specs.Worker.{PlainWorker};
 ghost use Rattle.ilp_workers.specs.Messaging.{IsForEngine, zero_condition, zero_preimage, zero_fulfill, peer_answer_of};
 ghost use Rattle.ilp_workers.specs.Arrivals.{Arrival, IsForPeers, Forwards};
-ghost use Rattle.ilp_workers.specs.Outcome.{IsFulfilled, IsRejected, IsRefusedAs, standing_refusal};
+ghost use Rattle.ilp_workers.specs.Crediting.{Credits, IsCreditBehind};
+ghost use Rattle.ilp_workers.specs.Outcome.{IsFulfilled, IsRejected, IsToldBehind, IsRefusedAs, standing_refusal};
 
 use crate::rejects::{LONGEST_LOCAL_REJECT, LocalReject};
 
@@ -45,6 +50,22 @@ pub fn fulfills_are_kept()
     ensures { (a : Arrival) (before after : PlainWorker) (receipt : Receipt)
         → AreOctets after.reply → IsForPeers a → Forwards a before after (Ok receipt)
         → IsFulfilled a before after receipt ⊎ IsRejected before after receipt }
+{}
+
+/// Whoever sends a Prepare to another address than `peer.settle` is told a Fulfill only behind its
+/// entry: where the worker's keeper tells, the last that it was asked is to keep a journal that has it.
+pub fn fulfills_are_told_behind_their_entries()
+    ensures { (a : Arrival) (before after : PlainWorker) (receipt : Receipt) (told : List ToKeeper)
+        → IsForPeers a → Forwards a before after (Ok receipt) → receipt.rejected ≡ None
+        → after.kept ≡ Some told → IsToldBehind told receipt }
+{}
+
+/// An engine is told of a credit only behind its entry: where the worker's keeper tells, the last that
+/// it was asked is to keep a journal that has it, and it said that this is kept.
+pub fn credits_are_told_behind_their_entries()
+    ensures { (desk : PlainDesk) (p : Payment) (before after : PlainWorker) (credit : Kept)
+        (told : List ToKeeper) → Credits desk p before after (Ok credit) → after.kept ≡ Some told
+        → IsCreditBehind told p credit }
 {}
 
 /// A Prepare of too great an amount, without a route or with one back to its sender is refused as

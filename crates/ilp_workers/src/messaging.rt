@@ -14,6 +14,7 @@ use crate::reply::Buffer;
 use crate::reply_effect::Told;
 use ilp_accounts::Config;
 use ilp_desk::Naming;
+use ilp_keeping::Keeper;
 use ilp_link_traits::{Clock, EngineLink, LinkFault, ReplyKind, Uplink};
 use ilp_oer::Octets;
 use ilp_packet::{Fulfill, Packet, Prepare, write_fulfill, write_prepare};
@@ -160,13 +161,14 @@ pub(crate) fn peer_answer_in(octets: &[u8]) -> Option<&[u8]>
     }
 }
 
-impl<J: Naming, C: Clock + Drop, U: Uplink + Drop, E: EngineLink + Drop, A: Allocator> Parts<
-    J,
-    C,
-    U,
-    E,
-    A,
-> {
+impl<
+    J: Naming,
+    C: Clock + Drop,
+    U: Uplink + Drop,
+    E: EngineLink + Drop,
+    K: Keeper<J> + Drop,
+    A: Allocator,
+> Parts<J, C, U, E, K, A> {
     // Hands the data of a Prepare for the engine here to it, and has the sender answered with what
     // that answers, or with the first refusal. Tells which Reject that was.
     pub(crate) fn hand_over(
@@ -178,10 +180,12 @@ impl<J: Naming, C: Clock + Drop, U: Uplink + Drop, E: EngineLink + Drop, A: Allo
         requires known { IsKnown config.now from }
         ensures { IsMessaged config.now from (plain_prepare packet.now)
             (worker self.old.share self.old.records.items (C.told self.old.clock) (U.told self.old.uplink)
-            (E.told self.old.engine) (reply_of self.old.reply_in self.old.incoming.octets
+            (E.told self.old.engine) self.old.receipt (K.told self.old.keeper)
+            (reply_of self.old.reply_in self.old.incoming.octets
             self.old.outgoing.octets self.old.rejected.octets))
             (worker self.new.share self.new.records.items (C.told self.new.clock) (U.told self.new.uplink)
-            (E.told self.new.engine) (reply_of self.new.reply_in self.new.incoming.octets
+            (E.told self.new.engine) self.new.receipt (K.told self.new.keeper)
+            (reply_of self.new.reply_in self.new.incoming.octets
             self.new.outgoing.octets self.new.rejected.octets)) result }
     {
         let now = self.clock.now();
@@ -211,6 +215,7 @@ impl<J: Naming, C: Clock + Drop, U: Uplink + Drop, E: EngineLink + Drop, A: Allo
         ensures share { self.new.share ≡ self.old.share }
         ensures records { self.new.records ≡ self.old.records }
         ensures links { (self.new.clock ≡ self.old.clock) × (self.new.uplink ≡ self.old.uplink) }
+        ensures kept { (self.new.receipt ≡ self.old.receipt) × (self.new.keeper ≡ self.old.keeper) }
         ensures answered { IsEngineAnswer (message_refusal config.now from now (plain_prepare packet.now))
             from (plain_prepare packet.now) (E.told self.old.engine) (E.told self.new.engine)
             (answered_with result self.new.incoming.octets) }
@@ -241,10 +246,12 @@ impl<J: Naming, C: Clock + Drop, U: Uplink + Drop, E: EngineLink + Drop, A: Allo
     ) -> Result<(), MessageFault>
         ensures { Messages config.now peer octets.now
             (worker self.old.share self.old.records.items (C.told self.old.clock) (U.told self.old.uplink)
-            (E.told self.old.engine) (reply_of self.old.reply_in self.old.incoming.octets
+            (E.told self.old.engine) self.old.receipt (K.told self.old.keeper)
+            (reply_of self.old.reply_in self.old.incoming.octets
             self.old.outgoing.octets self.old.rejected.octets))
             (worker self.new.share self.new.records.items (C.told self.new.clock) (U.told self.new.uplink)
-            (E.told self.new.engine) (reply_of self.new.reply_in self.new.incoming.octets
+            (E.told self.new.engine) self.new.receipt (K.told self.new.keeper)
+            (reply_of self.new.reply_in self.new.incoming.octets
             self.new.outgoing.octets self.new.rejected.octets)) result }
     {
         if octets.len() > MAX_MESSAGE {

@@ -8,35 +8,41 @@ ghost use Rattle.ilp_desk.specs.Desk.{PlainDesk};
 ghost use Rattle.ilp_desk.specs.Portion.{holding};
 ghost use Rattle.ilp_link_traits.specs.declared.links.LinkFault.{LinkFault};
 ghost use Rattle.ilp_link_traits.specs.Links.{came_of};
-ghost use Rattle.ilp_workers.specs.Worker.{reply_of};
-ghost use Rattle.ilp_workers.specs.Forwarding.{order, onward, IsHoldRefusal, IsHolding, IsSentOn, IsEnded, IsTold, late, effect_of, end_of, record_of_end};
+ghost use Rattle.ilp_workers.specs.Worker.{seat, reply_of, IsKept};
+ghost use Rattle.ilp_workers.specs.Forwarding.{order, onward, IsHoldRefusal, IsHolding, IsSentOn, IsEnded, KeepsFirst, IsTold, late, effect_of, end_of, record_of_end};
 
 use crate::rejects::{LONGEST_LOCAL_REJECT, LocalReject, ToldReject, put_local_reject};
 use crate::reply::Buffer;
 use crate::reply_effect::{ReplyEffect, Told, effect_by};
 use ilp_accounts::Config;
 use ilp_book::{Held, Outcome};
-use ilp_desk::{AnsweredHold, Desk, End, HoldEnd, Naming, Record, Recorded, Share};
+use ilp_desk::{AnsweredHold, Desk, End, HoldEnd, JournalReceipt, Naming, Record, Recorded, Share};
+use ilp_keeping::{Keeper, NotKept};
 use ilp_link_traits::{Clock, EngineLink, LinkFault, ReplyKind, Uplink};
 use ilp_oer::Octets;
 use ilp_packet::{Prepare, write_prepare};
 use std::alloc::{AllocError, Allocator, Global};
 use std::sync::Wait;
 
-// What a worker has: its share and its records, its links, and room for octets.
+// What a worker has: its share and its records, what it has seen of the journal, its links, and room
+// for octets.
 #[derive(Drop)]
 pub(crate) struct Parts<
     J: Naming,
     C: Clock + Drop,
     U: Uplink + Drop,
     E: EngineLink + Drop,
+    K: Keeper<J> + Drop,
     A: Allocator,
 > {
     pub(crate) share: Share<J>,
     pub(crate) records: Vec<Record, A>,
+    // Has seen the journal as the worker's last session left it, or more.
+    pub(crate) receipt: JournalReceipt<J>,
     pub(crate) clock: C,
     pub(crate) uplink: U,
     pub(crate) engine: E,
+    pub(crate) keeper: K,
     // The Prepare that a peer is handed, or the Fulfill of what an engine answered.
     pub(crate) outgoing: Octets<A>,
     // What comes back for it, or what an engine answers.
@@ -48,15 +54,16 @@ pub(crate) struct Parts<
     ghost room: { longest_local_reject ≤ length rejected.octets + rejected.spare },
 }
 
-impl<J: Naming, C: Clock + Drop, U: Uplink + Drop, E: EngineLink + Drop, A: Allocator> Parts<
-    J,
-    C,
-    U,
-    E,
-    A,
-> {
+impl<
+    J: Naming,
+    C: Clock + Drop,
+    U: Uplink + Drop,
+    E: EngineLink + Drop,
+    K: Keeper<J> + Drop,
+    A: Allocator,
+> Parts<J, C, U, E, K, A> {
     // Makes room for all that may come of the Prepare, and then has the desk hold it at the clock's
-    // moment.
+    // moment. Where entries aren't kept none is taken on.
     pub(crate) fn hold(
         &mut self,
         rt: &impl Wait,
@@ -66,22 +73,31 @@ impl<J: Naming, C: Clock + Drop, U: Uplink + Drop, E: EngineLink + Drop, A: Allo
         len: usize,
     ) -> Result<Held, LocalReject>
         requires known { IsKnown J.desk.config from }
-        ensures records { self.new.records.items ≡ self.old.records.items }
         ensures links { (self.new.uplink ≡ self.old.uplink) × (self.new.engine ≡ self.old.engine) }
         ensures held { IfOk result (λ held. IsHolding (order J.desk from (plain_prepare packet.now))
-            (C.told self.old.clock) (C.told self.new.clock) self.old.share self.new.share held) }
+            (seat self.old.share self.old.records.items (C.told self.old.clock) self.old.receipt
+            (K.told self.old.keeper))
+            (seat self.new.share self.new.records.items (C.told self.new.clock) self.new.receipt
+            (K.told self.new.keeper)) held) }
         ensures record { OnOk result (vec_len self.new.records < vec_capacity self.new.records) }
         ensures cleared { OnOk result (self.new.outgoing.octets ≡ []) }
         ensures room { OnOk result (len ≤ self.new.outgoing.spare) }
         ensures refused { IfErr result (λ why. IsHoldRefusal (order J.desk from (plain_prepare packet.now))
-            (C.told self.old.clock) (C.told self.new.clock) self.old.share self.new.share why) }
+            (seat self.old.share self.old.records.items (C.told self.old.clock) self.old.receipt
+            (K.told self.old.keeper))
+            (seat self.new.share self.new.records.items (C.told self.new.clock) self.new.receipt
+            (K.told self.new.keeper)) why) }
         ensures share { IfErr result (λ why. self.new.share ≡ self.old.share) }
+        ensures records { IfErr result (λ why. self.new.records.items ≡ self.old.records.items) }
     {
+        if !self.keeper.keeps() {
+            return Err(LocalReject::InternalError);
+        }
         let Ok(()) = self.make_room(len) else {
             return Err(LocalReject::InternalError);
         };
         let now = self.clock.now();
-        match desk.hold(rt, &mut self.share, from, packet, now) {
+        match desk.hold_shown(rt, &mut self.share, &mut self.receipt, from, packet, now) {
             Ok(held) => Ok(held),
             Err(fault) => Err(LocalReject::of_fault(fault, packet.amount)),
         }
@@ -93,6 +109,7 @@ impl<J: Naming, C: Clock + Drop, U: Uplink + Drop, E: EngineLink + Drop, A: Allo
         ensures records { self.new.records.items ≡ self.old.records.items }
         ensures clock { self.new.clock ≡ self.old.clock }
         ensures links { (self.new.uplink ≡ self.old.uplink) × (self.new.engine ≡ self.old.engine) }
+        ensures kept { (self.new.receipt ≡ self.old.receipt) × (self.new.keeper ≡ self.old.keeper) }
         ensures record { OnOk result (vec_len self.new.records < vec_capacity self.new.records) }
         ensures cleared { OnOk result (self.new.outgoing.octets ≡ []) }
         ensures room { OnOk result (len ≤ self.new.outgoing.spare) }
@@ -112,6 +129,7 @@ impl<J: Naming, C: Clock + Drop, U: Uplink + Drop, E: EngineLink + Drop, A: Allo
         ensures records { self.new.records ≡ self.old.records }
         ensures clock { self.new.clock ≡ self.old.clock }
         ensures engine { self.new.engine ≡ self.old.engine }
+        ensures kept { (self.new.receipt ≡ self.old.receipt) × (self.new.keeper ≡ self.old.keeper) }
         ensures asked { (answer : Result (Unit {0}) LinkFault)
             × IsSentOn (plain_prepare packet.now) held.now (U.told self.old.uplink)
             (U.told self.new.uplink) (came_of answer self.new.incoming.octets)
@@ -155,12 +173,22 @@ impl<J: Naming, C: Clock + Drop, U: Uplink + Drop, E: EngineLink + Drop, A: Allo
         ensures incoming { self.new.incoming ≡ self.old.incoming }
         ensures links { (self.new.uplink ≡ self.old.uplink) × (self.new.engine ≡ self.old.engine) }
         ensures ended { IsEnded (order J.desk from (plain_prepare packet.now)) held.now effect.now
-            (C.told self.old.clock) (C.told self.new.clock) (holding self.old.share self.old.records.items)
-            (holding self.new.share self.new.records.items) result.told result.entry }
+            (seat self.old.share self.old.records.items (C.told self.old.clock) self.old.receipt
+            (K.told self.old.keeper))
+            (seat self.new.share self.new.records.items (C.told self.new.clock) self.new.receipt
+            (K.told self.new.keeper)) result.told result.entry }
     {
         let later = self.clock.now();
         let answer = effect.answer;
-        let Ok(outcome) = desk.answer(rt, &mut self.share, held.number, answer, later) else {
+        let reply = desk.answer_shown(
+            rt,
+            &mut self.share,
+            &mut self.receipt,
+            held.number,
+            answer,
+            later,
+        );
+        let Ok(outcome) = reply else {
             return Answered::late(None);
         };
         let (entry, ended) = end_of(outcome);
@@ -175,6 +203,40 @@ impl<J: Naming, C: Clock + Drop, U: Uplink + Drop, E: EngineLink + Drop, A: Allo
         }
     }
 
+    // Before the sender is told a Fulfill, has the journal kept, which has its entry. Whatever the
+    // keeper says, the peer has fulfilled, so the sender is told it.
+    pub(crate) fn keep_first(&mut self, told: Told)
+        ensures kept { KeepsFirst told
+            (seat self.old.share self.old.records.items (C.told self.old.clock) self.old.receipt
+            (K.told self.old.keeper))
+            (seat self.new.share self.new.records.items (C.told self.new.clock) self.new.receipt
+            (K.told self.new.keeper)) }
+        ensures links { (self.new.uplink ≡ self.old.uplink) × (self.new.engine ≡ self.old.engine) }
+        ensures incoming { self.new.incoming ≡ self.old.incoming }
+    {
+        match told {
+            Told::Fulfill => {
+                let _said = self.keep();
+            }
+            Told::Reject(_) => {}
+        }
+    }
+
+    // Has the journal kept that the worker has seen.
+    pub(crate) fn keep(&mut self) -> Result<(), NotKept>
+        ensures kept { IsKept result
+            (seat self.old.share self.old.records.items (C.told self.old.clock) self.old.receipt
+            (K.told self.old.keeper))
+            (seat self.new.share self.new.records.items (C.told self.new.clock) self.new.receipt
+            (K.told self.new.keeper)) }
+        ensures links { (self.new.uplink ≡ self.old.uplink) × (self.new.engine ≡ self.old.engine) }
+        ensures reply_in { self.new.reply_in ≡ self.old.reply_in }
+        ensures buffers { (self.new.incoming ≡ self.old.incoming)
+            × (self.new.outgoing ≡ self.old.outgoing) × (self.new.rejected ≡ self.old.rejected) }
+    {
+        self.keeper.keep(&mut self.receipt)
+    }
+
     // Has the sender answered so.
     pub(crate) fn tell(&mut self, config: &Config, told: Told)
         ensures told { IsTold config.now (Some self.old.incoming.octets) told
@@ -184,6 +246,7 @@ impl<J: Naming, C: Clock + Drop, U: Uplink + Drop, E: EngineLink + Drop, A: Allo
         ensures records { self.new.records ≡ self.old.records }
         ensures clock { self.new.clock ≡ self.old.clock }
         ensures links { (self.new.uplink ≡ self.old.uplink) × (self.new.engine ≡ self.old.engine) }
+        ensures kept { (self.new.receipt ≡ self.old.receipt) × (self.new.keeper ≡ self.old.keeper) }
     {
         self.reply_in = match told {
             Told::Fulfill => Buffer::Incoming,
@@ -208,7 +271,14 @@ impl<J: Naming, C: Clock + Drop, U: Uplink + Drop, E: EngineLink + Drop, A: Allo
     }
 }
 
-impl<J: Naming, C: Clock + Drop, U: Uplink + Drop, E: EngineLink + Drop> Parts<J, C, U, E, Global> {
+impl<J: Naming, C: Clock + Drop, U: Uplink + Drop, E: EngineLink + Drop, K: Keeper<J> + Drop> Parts<
+    J,
+    C,
+    U,
+    E,
+    K,
+    Global,
+> {
     // The share and the records; the rest ends here.
     pub(crate) fn into_end(self) -> End<J>
         ensures { result ≡ holding self.share self.records.items }
@@ -216,9 +286,11 @@ impl<J: Naming, C: Clock + Drop, U: Uplink + Drop, E: EngineLink + Drop> Parts<J
         let Parts {
             share,
             records,
+            receipt: _,
             clock: _,
             uplink: _,
             engine: _,
+            keeper: _,
             outgoing: _,
             incoming: _,
             rejected: _,

@@ -11,14 +11,16 @@ ghost use Rattle.ilp_workers.specs.Messaging.{peer_answer_of, Messages};
 ghost use Rattle.ilp_workers.specs.Forwarding.{order, IsForwardedBy};
 ghost use Rattle.ilp_workers.specs.Arrivals.{arrival, IsBad, Forwards};
 
+use crate::crediting::NotCredited;
 use crate::messaging::{MessageFault, is_for_engine, peer_answer_in};
 use crate::parts::Parts;
 use crate::rejects::{LONGEST_LOCAL_REJECT, ToldReject};
 use crate::reply::{BadPacket, Buffer, Receipt};
 use crate::reply_effect::Told;
-use ilp_book::{CreditFault, Kept};
-use ilp_desk::{Desk, End, Naming, Record, Share};
+use ilp_book::Kept;
+use ilp_desk::{Desk, End, JournalReceipt, Naming, Record, Share};
 use ilp_journal::Key;
+use ilp_keeping::Keeper;
 use ilp_link_traits::{Clock, EngineLink, Uplink};
 use ilp_oer::Octets;
 use ilp_packet::{Packet, Prepare};
@@ -27,77 +29,105 @@ use std::alloc::{AllocError, Allocator, Global};
 use std::marker::Model;
 use std::sync::Wait;
 
-/// A worker of a desk: its share, the records of what it booked, its clock and its links.
+/// A worker of a desk: its share, the records of what it booked, what it has seen of the journal, its
+/// clock, its links and its keeper.
 #[derive(Drop)]
 pub struct Worker<
     J: Naming,
     C: Clock + Drop,
     U: Uplink + Drop,
     E: EngineLink + Drop,
+    K: Keeper<J> + Drop,
     A: Allocator = Global,
 > {
-    parts: Parts<J, C, U, E, A>,
+    parts: Parts<J, C, U, E, K, A>,
 }
 
-impl<J: Naming, C: Clock + Drop, U: Uplink + Drop, E: EngineLink + Drop, A: Allocator> Model
-    for Worker<J, C, U, E, A> {
+impl<
+    J: Naming,
+    C: Clock + Drop,
+    U: Uplink + Drop,
+    E: EngineLink + Drop,
+    K: Keeper<J> + Drop,
+    A: Allocator,
+> Model for Worker<J, C, U, E, K, A> {
     ghost use Rattle.ilp_workers.specs.Worker.{PlainWorker, worker, reply_of};
 
     ghost Value = { PlainWorker };
 
-    ghost view = { λ w. worker w.parts.share w.parts.records.items (C.told w.parts.clock) (U.told w.parts.uplink) (E.told w.parts.engine) (reply_of w.parts.reply_in w.parts.incoming.octets w.parts.outgoing.octets w.parts.rejected.octets) };
+    ghost view = { λ w. worker w.parts.share w.parts.records.items (C.told w.parts.clock) (U.told w.parts.uplink) (E.told w.parts.engine) w.parts.receipt (K.told w.parts.keeper) (reply_of w.parts.reply_in w.parts.incoming.octets w.parts.outgoing.octets w.parts.rejected.octets) };
 }
 
 /// What was given for a worker that there is no memory for, as it was given.
 #[derive(Drop)]
-pub struct NoWorker<J: Naming, C: Clock + Drop, U: Uplink + Drop, E: EngineLink + Drop> {
+pub struct NoWorker<
+    J: Naming,
+    C: Clock + Drop,
+    U: Uplink + Drop,
+    E: EngineLink + Drop,
+    K: Keeper<J> + Drop,
+> {
     /// The share of the desk, with which nothing was booked meanwhile.
     pub share: Share<J>,
+    /// The receipt, which was shown nothing.
+    pub receipt: JournalReceipt<J>,
     /// The clock, which was not asked.
     pub clock: C,
     /// The way to the peers, of whom none was handed anything.
     pub uplink: U,
     /// The way to the engines, of which none was handed anything.
     pub engine: E,
+    /// The keeper, which was not asked.
+    pub keeper: K,
 }
 
-impl<J: Naming, C: Clock + Drop, U: Uplink + Drop, E: EngineLink + Drop, A: Allocator> Worker<
-    J,
-    C,
-    U,
-    E,
-    A,
-> {
-    /// A worker with this share and these links, which keeps no record yet. Room is made for any
-    /// Reject of the connector's own; where memory for that is denied, all is handed back.
+impl<
+    J: Naming,
+    C: Clock + Drop,
+    U: Uplink + Drop,
+    E: EngineLink + Drop,
+    K: Keeper<J> + Drop,
+    A: Allocator,
+> Worker<J, C, U, E, K, A> {
+    /// A worker with this share, these links and this keeper, which keeps no record yet and has seen
+    /// of the journal what the receipt has. Room is made for any Reject of the connector's own; where
+    /// memory for that is denied, all is handed back.
     pub fn new(
         alloc: A,
         share: Share<J>,
+        receipt: JournalReceipt<J>,
         clock: C,
         uplink: U,
         engine: E,
-    ) -> Result<Worker<J, C, U, E, A>, NoWorker<J, C, U, E>>
+        keeper: K,
+    ) -> Result<Worker<J, C, U, E, K, A>, NoWorker<J, C, U, E, K>>
     where
         A: Copy,
-        ensures worker { IfOk result (λ w. w ≡ worker share [] (C.told clock) (U.told uplink) (E.told engine) []) }
+        ensures worker { IfOk result (λ w. w ≡ worker share [] (C.told clock) (U.told uplink) (E.told engine)
+            receipt (K.told keeper) []) }
         ensures share { IfErr result (λ e. e.share ≡ share) }
         ensures links { IfErr result (λ e. (e.clock ≡ clock) × (e.uplink ≡ uplink) × (e.engine ≡ engine)) }
+        ensures kept { IfErr result (λ e. (e.receipt ≡ receipt) × (e.keeper ≡ keeper)) }
     {
         let mut rejected = Octets::new(alloc);
         let Ok(()) = rejected.reserve(LONGEST_LOCAL_REJECT) else {
             return Err(NoWorker {
                 share,
+                receipt,
                 clock,
                 uplink,
                 engine,
+                keeper,
             });
         };
         let parts = Parts {
             share,
             records: Vec::new(alloc),
+            receipt,
             clock,
             uplink,
             engine,
+            keeper,
             outgoing: Octets::new(alloc),
             incoming: Octets::new(alloc),
             rejected,
@@ -135,6 +165,10 @@ impl<J: Naming, C: Clock + Drop, U: Uplink + Drop, E: EngineLink + Drop, A: Allo
     /// destination's route, and what that peer replies is booked and passed on in its own octets.
     /// Whatever keeps the Prepare from that is a Reject of the connector's own. No lock is held while
     /// the peer is asked. Octets that are no Prepare are refused, and leave all as it was.
+    ///
+    /// Where the keeper says that entries are not kept, no Prepare is held. Once one is fulfilled, the
+    /// keeper is handed the journal that says so before `forward` returns. Whatever it says of it, the
+    /// sender is answered the Fulfill, which the next peer is owed.
     ///
     /// A Prepare to `peer.settle` carries a message of the peer's settlement engine (RFC 0038), and
     /// books nothing. The engine here is handed its data, and the answer is a Fulfill of 32 zero
@@ -186,6 +220,7 @@ impl<J: Naming, C: Clock + Drop, U: Uplink + Drop, E: EngineLink + Drop, A: Allo
         };
         let effect = self.parts.send_on(packet, &held);
         let ended = self.parts.end(rt, desk, from, packet, &held, &effect);
+        self.parts.keep_first(ended.told);
         self.parts.tell(desk.config(), ended.told);
         Receipt {
             hold: Some(held.number),
@@ -195,9 +230,10 @@ impl<J: Naming, C: Clock + Drop, U: Uplink + Drop, E: EngineLink + Drop, A: Allo
     }
 
     /// Credits a settlement that a peer's engine tells of (RFC 0038), once for each of the peer's
-    /// keys, by `Book::credit`; room for its record is made first. A refusal books nothing and leaves
-    /// share and records as they were: `TooLarge` comes before anything else, and `Memory` may come
-    /// in place of any later one.
+    /// keys, by `Book::credit`; room for its record is made first. What is `Refused` books nothing and
+    /// leaves share and records as they were: `TooLarge` comes before anything else, and `Memory` may
+    /// come in place of any later one. Of a credit, now or under its key from before, the keeper is
+    /// then handed the journal that has it. Where it is `NotKept`, entry and record stay.
     pub fn credit(
         &mut self,
         rt: &impl Wait,
@@ -205,7 +241,7 @@ impl<J: Naming, C: Clock + Drop, U: Uplink + Drop, E: EngineLink + Drop, A: Allo
         peer: u32,
         key: Key,
         quantity: &Quantity,
-    ) -> Result<Kept, CreditFault>
+    ) -> Result<Kept, NotCredited>
         requires known { IsKnown J.desk.config peer }
         ensures { Credits J.desk (payment peer key quantity.now) self.old self.new result }
     {
@@ -231,7 +267,13 @@ impl<J: Naming, C: Clock + Drop, U: Uplink + Drop, E: EngineLink + Drop, A: Allo
     }
 }
 
-impl<J: Naming, C: Clock + Drop, U: Uplink + Drop, E: EngineLink + Drop> Worker<J, C, U, E> {
+impl<
+    J: Naming,
+    C: Clock + Drop,
+    U: Uplink + Drop,
+    E: EngineLink + Drop,
+    K: Keeper<J> + Drop,
+> Worker<J, C, U, E, K> {
     /// What the worker hands back in the end: its share and its records.
     pub fn into_end(self) -> End<J>
         ensures { result ≡ holding self.share self.records }

@@ -31,6 +31,8 @@ returns-then-reply g c =
       share = refl;
       records = refl;
       engine = refl;
+      seen = refl;
+      kept = refl;
     }
 
 -- none came
@@ -57,4 +59,6 @@ returns g c =
       share = refl;
       records = refl;
       engine = refl;
+      seen = refl;
+      kept = refl;
     }
