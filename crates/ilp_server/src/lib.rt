@@ -11,15 +11,17 @@
 //!   (`specs/Serving.antt`). Of a packet with a known token `Worker::forward`'s relation holds of
 //!   the body, from the token's peer.
 //! - Of a settlement with a key and a quantity, 503 for want of memory may come before a book is
-//!   asked. Else `Worker::credit`'s relation holds of the quantity, the key and the path's peer. Of
-//!   a message `Worker::message`'s relation holds.
+//!   asked. Else `Worker::credit`'s relation holds of the quantity, the key and the path's peer; a
+//!   credit of which the worker's keeper said that it is not kept is answered 503. Of a message
+//!   `Worker::message`'s relation holds.
 //! - A report is exactly the report of some book of the desk, or 503 where memory is short. It
 //!   changes nothing; nor does a close.
 //! - `Done`: the response with this status was written whole; `Close`: the same of 200, only for a
 //!   close at the engines' side. `Fault`: a write failed before its end; or nothing that is
 //!   answered was read, nothing was written, and the worker is as it was. `Done` and `Fault` have
-//!   the `Deed` (`specs/Deeds.antt`): the credit that was made now, the settlement that was refused
-//!   since its key is taken, or the Reject that the packet's sender is answered, and nothing else.
+//!   the `Deed` (`specs/Deeds.antt`): the credit that was made now, kept or not, the settlement that
+//!   was refused since its key is taken, or the Reject that the packet's sender is answered, and
+//!   nothing else.
 //! - `target_of` is what a path asks for at a side (`specs/Targets.antt`), `sender_of` the peer
 //!   whose token the one Authorization field shows, `key_of` the octets of the key in the one
 //!   Idempotency-Key field (`specs/Fields.antt`); each is none just where there is none.

@@ -79,7 +79,7 @@ standing_refusal C sent =
 abbrev pub IsToldOwn : PlainDesk → PlainWorker → Receipt → LocalReject → Type 0
 IsToldOwn desk after receipt why = Spells after.reply (reject (local_reject desk.config why)) × (receipt.rejected ≡ Some (Own why))
 
--- The sender is answered this Reject of the connector's own, or that it had no memory. Nothing is booked.
+-- The sender is answered this Reject of the connector's own, or T00: it had no memory, or entries are not kept. Nothing is booked.
 pub record IsRefusedAs (desk : PlainDesk) (after : PlainWorker) (receipt : Receipt) (why : LocalReject) : Type 0 where
   pub reply : IsToldOwn desk after receipt why ⊎ IsToldOwn desk after receipt local.InternalError
   pub holds : receipt.hold ≡ None

@@ -69,8 +69,8 @@ pub fn credits_are_told_behind_their_entries()
 {}
 
 /// A Prepare of too great an amount, without a route or with one back to its sender is refused as
-/// that, or for want of memory, whatever the time is and whatever the book has, unless it is for the
-/// engine here.
+/// that, or as T00 for want of memory or since entries are not kept, whatever the time is and
+/// whatever the book has, unless it is for the engine here.
 pub fn standing_refusals_are_told()
     ensures { (a : Arrival) (before after : PlainWorker) (receipt : Receipt)
         (packet : PlainPrepare) (fault : HoldFault)

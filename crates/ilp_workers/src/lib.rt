@@ -31,7 +31,7 @@
 //!   two entries are booked and the worker keeps one packet more; else a Reject, and it keeps as
 //!   many as before.
 //! - `standing_refusals_are_told`: too great an amount, no route or one back to the sender is
-//!   refused as that, or for want of memory, whatever time and book.
+//!   refused as that, or as T00 as above, whatever time and book.
 //!
 //! `forward` of a Prepare to `peer.settle` (`specs/Messaging.antt`):
 //!
@@ -59,6 +59,8 @@
 //!   to, also where an earlier credit is kept.
 //! - Of either the keeper is first handed the journal that has it. Where it says that this isn't
 //!   kept, the answer is `NotKept`, and entry and record stay. Of a refusal it is handed nothing.
+//! - `credits_are_told_behind_their_entries`: so, over a keeper that tells, the last that it was
+//!   asked before an Ok is to keep a journal that has the credit, and it said that this is kept.
 //! - `Worker::new` holds share, receipt, links, keeper and no record, or hands all back; `into_end`
 //!   hands on share and records.
 //! - `LocalReject` is the table of the connector's own Rejects, code and message, which it prints;
