@@ -98,13 +98,10 @@ where
 {
     let sides = open_sides(rt, config)?;
     let blanks = Blank::new(u64::from(config.workers()) + 2);
-    let list = new_list(config)?;
+    let Ok(list) = EntryList::new(config.allocator()) else {
+        return Err(ServeFault::Unprinted(Unprinted::Memory));
+    };
     serve_desk::<Brand, R, L>(rt, config, book, blanks, list, links, sides)
-}
-
-// What the entries of a desk are told to.
-fn new_list(config: &Config) -> Result<EntryList, Unprinted> {
-    Ok(EntryList::new(config.allocator())?)
 }
 
 // What takes connections in at both sides, and what reaches it.
