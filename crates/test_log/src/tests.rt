@@ -94,8 +94,8 @@ fn logged<
     requires list { list ≡ J.list }
     requires acks { acks ≡ K.table }
     requires form { (K.form.config ≡ J.desk.config) × (K.form.base ≡ 0) }
-    requires settled { IsSettled D.seen D.may_leave file }
-    requires head { recovered (D.seen file.device) ≡ K.form.head }
+    requires settled { D.claims → IsSettled D.seen D.may_leave file }
+    requires head { D.claims → recovered (D.seen file.device) ≡ K.form.head }
 {
     let alloc = config.allocator();
     let (desk, mut shares) = Desk::<J>::open(alloc, config, book, 1, blanks, list).ok()?;
