@@ -71,7 +71,10 @@ where
     R: Runtime + AllocGlobal + Files<File = File> + Copy,
 {
     match book_at(rt, config, journal) {
-        Ok(book) => checked_book(rt, &book),
+        Ok(carried) => {
+            carried.tell(rt, journal, Telling::Line);
+            checked_book(rt, &carried.book)
+        }
         Err(refused) => Err(refused),
     }
 }

@@ -25,6 +25,7 @@ mod line;
 mod notices;
 mod pace;
 mod peers;
+mod recovery;
 mod rejects;
 mod repeated;
 mod seconds;
@@ -33,6 +34,7 @@ mod settlements;
 mod shown_key;
 mod starting;
 mod time_text;
+mod unkept;
 mod waiting;
 mod work;
 mod wrong_tokens;
@@ -46,6 +48,7 @@ pub use journal_file::{
     nothing_to_save, saved_and_marked, stopped_unsaved,
 };
 pub use notices::Notices;
+pub use recovery::{RecoveryNote, recovery_note};
 pub use sent_hold::SentHold;
 pub use settlements::ToldQuantity;
 pub use shown_key::ShownKey;
@@ -53,3 +56,4 @@ pub use starting::{
     closing, configuration_warning, few_files, listening, no_thread, not_listening, one_worker,
     report_follows,
 };
+pub use unkept::log_incomplete;

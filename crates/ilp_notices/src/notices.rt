@@ -4,6 +4,7 @@ use crate::journal::Fullness;
 use crate::peers::OfPeer;
 use crate::rejects::Rejects;
 use crate::repeated::Repeated;
+use crate::unkept::Unkept;
 use crate::work::WaitingWork;
 use crate::wrong_tokens::WrongTokens;
 use ilp_accounts::Config;
@@ -26,6 +27,7 @@ pub struct Notices {
     pub(crate) work: WaitingWork,
     pub(crate) fullness: Fullness,
     pub(crate) clock: Repeated,
+    pub(crate) unkept: Unkept,
     rejects: Rejects,
     wrong_tokens: WrongTokens,
 }
@@ -43,6 +45,7 @@ impl Notices {
             work: WaitingWork::new(),
             fullness: Fullness::new(),
             clock: Repeated::new(),
+            unkept: Unkept::new(),
             rejects: Rejects::new(alloc, config.peers())?,
             wrong_tokens: WrongTokens::new(),
         })
@@ -84,5 +87,6 @@ impl Notices {
         }
         self.work.tell_over(rt);
         self.tell_clock_right(rt);
+        self.unkept.tell_over(rt);
     }
 }

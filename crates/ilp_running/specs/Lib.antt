@@ -1,3 +1,4 @@
+pub mod Logging
 pub mod OpenFiles
 pub mod Pauses
 pub mod Serving

@@ -3,9 +3,10 @@ ghost use Rattle.std.specs.Prelude.{◌≤◌, vec_len};
 
 use crate::pauses::Pauses;
 use crate::turns::PausedSettler;
-use ilp_desk::{Desk, Naming, Share};
+use ilp_desk::{Desk, JournalReceipt, Naming, Share};
 use ilp_http::Buffer;
 use ilp_links::Links;
+use ilp_log_keeper::SharedKeeper;
 use ilp_settler::{Settler, Sweeper};
 use ilp_workers::{Clock, EngineLink, Keeper, Uplink, Worker};
 use std::alloc::AllocError;
@@ -24,13 +25,21 @@ pub(crate) struct Responder<
     pub(crate) buffer: Buffer,
 }
 
-/// The sweeper and the settler, who take turns and rest between them, and the clock of the watcher, who
+/// What the watcher is given: a clock, a keeper, and what was seen of the journal.
+#[derive(Drop)]
+pub(crate) struct WatcherLinks<J: Naming, C: Clock + Drop, K: Keeper<J> + Drop> {
+    pub(crate) clock: C,
+    pub(crate) keeper: K,
+    pub(crate) receipt: JournalReceipt<J>,
+}
+
+/// The sweeper and the settler, who take turns and rest between them, and what the watcher is given, who
 /// does so too.
 #[derive(Drop)]
 pub(crate) struct Turning<J: Naming, C: Clock + Drop, E: EngineLink + Drop, K: Keeper<J> + Drop> {
     pub(crate) sweeper: Sweeper<J, C>,
     pub(crate) settler: PausedSettler<J, C, E, K>,
-    pub(crate) clock: C,
+    pub(crate) watching: WatcherLinks<J, C, K>,
 }
 
 /// The actors of a desk, with all the memory that they are given.
@@ -64,9 +73,9 @@ type ResponderOf<J, L, K> = Responder<
     K,
 >;
 
-/// The actors whose shares these are, the settler's last and the sweeper's before it. Each has a copy of
-/// the keeper. It is refused where memory is denied.
-pub(crate) fn actors_of<J: Naming, L: Links, K: Keeper<J> + Drop + Copy>(
+/// The actors whose shares these are, the settler's last and the sweeper's before it. Each has a keeper of
+/// its own of the same journal. It is refused where memory is denied.
+pub(crate) fn actors_of<J: Naming, L: Links, K: SharedKeeper<J> + Drop>(
     rt: &impl Wait,
     desk: &Desk<J>,
     shares: Vec<Share<J>>,
@@ -81,15 +90,20 @@ pub(crate) fn actors_of<J: Naming, L: Links, K: Keeper<J> + Drop + Copy>(
         unreachable!();
     };
     let settler = PausedSettler {
-        settler: new_settler(rt, desk, settlers, links, keeper)?,
+        settler: new_settler(rt, desk, settlers, links, keeper.another())?,
         pauses: Pauses::new(alloc, desk.config().peers())?,
     };
     let sweeper = Sweeper::new(alloc, sweepers, links.clock());
-    let responders = new_responders(rt, desk, shares, links, keeper)?;
+    let responders = new_responders(rt, desk, shares, links, &keeper)?;
+    let watching = WatcherLinks {
+        clock: links.clock(),
+        keeper,
+        receipt: desk.receipt(rt),
+    };
     let turning = Turning {
         sweeper,
         settler,
-        clock: links.clock(),
+        watching,
     };
     Ok(Actors {
         responders,
@@ -97,16 +111,16 @@ pub(crate) fn actors_of<J: Naming, L: Links, K: Keeper<J> + Drop + Copy>(
     })
 }
 
-fn new_responders<J: Naming, L: Links, K: Keeper<J> + Drop + Copy>(
+fn new_responders<J: Naming, L: Links, K: SharedKeeper<J> + Drop>(
     rt: &impl Wait,
     desk: &Desk<J>,
     shares: Vec<Share<J>>,
     links: &L,
-    keeper: K,
+    keeper: &K,
 ) -> Result<Vec<ResponderOf<J, L, K>>, AllocError> {
     let mut responders = Vec::new(desk.config().allocator());
     for share in shares {
-        responders.push(new_responder(rt, desk, share, links, keeper)?)?;
+        responders.push(new_responder(rt, desk, share, links, keeper.another())?)?;
     }
     Ok(responders)
 }

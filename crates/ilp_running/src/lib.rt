@@ -26,6 +26,7 @@ mod actors;
 mod deeds;
 mod fault;
 mod intakes;
+mod logging;
 mod open_files;
 mod pauses;
 mod places;
@@ -38,4 +39,5 @@ mod turns;
 mod watching;
 
 pub use fault::{ServeFault, Unprinted};
+pub use logging::BegunLog;
 pub use serving::{run_to_close, serve, write_report};

@@ -1,15 +1,18 @@
 //! A connector from its beginning to its end.
-ghost use Rattle.std.specs.Prelude.{◌≡◌, ◌≤◌, length, IfOk, IfErr, vec_len};
+ghost use Rattle.std.specs.Prelude.{◌≡◌, ◌≤◌, length, IfOk, IfErr, IfSome, vec_len};
 ghost use Rattle.std.specs.Io.KnownBytes.{Appends};
 ghost use Rattle.ilp_desk.specs.Desk as desk;
 ghost use Rattle.ilp_desk.specs.Desk.{base_of};
+ghost use Rattle.ilp_line_file.specs.File.{IsSettled};
 ghost use Rattle.ilp_report.specs.Report.{report_text};
+ghost use Rattle.ilp_running.specs.Logging.{IsBegun, IsLogOf};
 ghost use Rattle.ilp_running.specs.Serving.{desk_of, ClosesDesk, IsClosed, Prints, Refuses};
 
 use crate::accepting::Acceptor;
 use crate::actors::actors_of;
 use crate::fault::{ServeFault, Unprinted};
 use crate::intakes::{Intakes, ending_after};
+use crate::logging::{AckList, BegunLog};
 use crate::open_files::{open_files, waiting_by, wanted};
 use crate::places::Places;
 use crate::printing::tell_report;
@@ -17,12 +20,15 @@ use crate::threads::{Acceptors, Shared, run};
 use crate::watching::Seen;
 use ilp_accounts::Config;
 use ilp_book::Book;
-use ilp_desk::{Closed, Desk, End, EntryList, Naming, Share, gather};
+use ilp_desk::{Closed, Desk, End, EntryList, LockedBook, Naming, Share, gather};
 use ilp_http::Buffer;
 use ilp_intake::{Intake, IntakeHandle, MOST_WAITING, listen};
 use ilp_io::Sink;
+use ilp_line_file::{Device, MemoryDevice};
 use ilp_links::Links;
-use ilp_notices::{few_files, listening, no_thread, not_listening, one_worker};
+use ilp_log::{Log, LogNaming, OpenLog};
+use ilp_log_keeper::{KeepingState, LogKeeper, SharedKeeper};
+use ilp_notices::{few_files, listening, log_incomplete, no_thread, not_listening, one_worker};
 use ilp_report::{Snapshot, print};
 use ilp_server::Side;
 use ilp_workers::Forgetful;
@@ -66,7 +72,8 @@ where
     ensures refused { IfErr result (λ fault. Refuses (desk_of config.now book.entries)
         (W.contents writer.old) (W.contents writer.new) fault) }
 {
-    let closed = run_to_close(rt, config, book, links)?;
+    let unlogged: Option<BegunLog<MemoryDevice>> = None;
+    let closed = run_to_close(rt, config, book, links, unlogged)?;
     match write_report(rt, &closed, writer) {
         Ok(()) => Ok(closed),
         Err(fault) => Err(fault),
@@ -74,14 +81,16 @@ where
 }
 
 /// Runs a connector as `serve` does, and gives the book back before its report: so that it can be saved
-/// where there is no memory for that.
+/// where there is no memory for that. Where there is a log, each entry is written to it before a sender
+/// is told a Fulfill by it, an engine that it is booked, or an engine is asked for it.
 ///
 /// A refusal does not give the book back.
-pub fn run_to_close<R, L>(
+pub fn run_to_close<R, L, D>(
     rt: &R,
     config: &Config,
     book: Book,
     links: &L,
+    log: Option<BegunLog<D>>,
 ) -> Result<Book, ServeFault>
 where
     R: Net<Listener = TcpListener, Stream = TcpStream>
@@ -92,8 +101,11 @@ where
         + Files
         + Sync,
     L: Links,
+    D: Device + Drop + Send,
     requires config { book.config ≡ config.now }
     requires opening { length book.entries ≡ book.base }
+    requires count { IfSome log (λ l. l.count ≤ length book.entries) }
+    requires settled { D.claims → IfSome log (λ l. IsSettled D.seen D.may_leave l.file) }
     ensures { ClosesDesk (desk_of config.now book.entries) result }
 {
     let sides = open_sides(rt, config)?;
@@ -101,7 +113,10 @@ where
     let Ok(list) = EntryList::new(config.allocator()) else {
         return Err(ServeFault::Unprinted(Unprinted::Memory));
     };
-    serve_desk::<Brand, R, L>(rt, config, book, blanks, list, links, sides)
+    let Ok(acks) = AckList::new(config.allocator()) else {
+        return Err(ServeFault::Unprinted(Unprinted::Memory));
+    };
+    serve_desk::<Brand, Brand, R, L, D>(rt, config, book, blanks, list, log, acks, links, sides)
 }
 
 // What takes connections in at both sides, and what reaches it.
@@ -180,53 +195,120 @@ where
 }
 
 // Opens a desk over this book, runs it, and closes it.
-fn serve_desk<J, R, L>(
+fn serve_desk<J, K, R, L, D>(
     rt: &R,
     config: &Config,
     book: Book,
     blanks: Blank,
     list: EntryList,
+    log: Option<BegunLog<D>>,
+    acks: AckList<D>,
     links: &L,
     sides: Sides,
 ) -> Result<Book, ServeFault>
 where
     J: Naming + Send + Sync,
+    K: LogNaming + Send + Sync,
     R: Threads + Wait + Clock + Eprint + Sync,
     L: Links,
+    D: Device + Drop + Send,
     requires config { (config.now ≡ J.desk.config) × (book.config ≡ J.desk.config) }
     requires workers { config.now.settings.workers ≡ J.desk.workers }
     requires opening { (book.entries ≡ J.desk.opening) × (book.base ≡ base_of J.desk) }
     requires ledger { (blanks.name ≡ J.name) × (blanks.parts ≡ J.parts) }
     requires parts { J.parts ≡ desk.actors_of J.desk }
     requires list { list ≡ J.list }
+    requires acks { acks ≡ K.table }
+    requires log { IfSome log (λ l. IsLogOf K.form J.desk l.count) }
+    requires file { D.claims → IfSome log (λ l. IsBegun D.seen D.may_leave K.form l.file) }
     ensures { ClosesDesk J.desk result }
 {
     let workers = config.workers();
-    match Desk::<J>::open(config.allocator(), config, book, workers, blanks, list) {
-        Ok((desk, shares)) => {
-            let ends = run_desk(rt, &desk, shares, links, sides);
-            close_desk(desk, ends)
+    let Ok((desk, shares)) = Desk::<J>::open(
+        config.allocator(),
+        config,
+        book,
+        workers,
+        blanks,
+        list,
+    ) else {
+        return Err(ServeFault::Unprinted(Unprinted::Memory));
+    };
+    match log {
+        None => {
+            let ends = run_desk(rt, &desk, shares, links, sides, Forgetful);
+            Ok(close_desk(desk, ends)?.into_book())
         }
-        Err(_) => Err(ServeFault::Unprinted(Unprinted::Memory)),
+        Some(BegunLog { file, count }) => {
+            let receipt = desk.receipt(rt);
+            let log = OpenLog::<J, K, D>::begin(file, receipt, count, acks.named());
+            serve_logged(rt, desk, shares, log, links, sides)
+        }
     }
 }
 
+// Runs a desk whose entries are written to this log, and closes it.
+fn serve_logged<J, K, R, L, D>(
+    rt: &R,
+    desk: Desk<J>,
+    shares: Vec<Share<J>>,
+    log: OpenLog<J, K, D>,
+    links: &L,
+    sides: Sides,
+) -> Result<Book, ServeFault>
+where
+    J: Naming + Send + Sync,
+    K: LogNaming + Send + Sync,
+    R: Threads + Wait + Clock + Eprint + Sync,
+    L: Links,
+    D: Device + Drop + Send,
+    requires { 2 ≤ vec_len shares }
+    ensures { ClosesDesk J.desk result }
+{
+    let log = Log::new(log);
+    let state = KeepingState::new();
+    let keeper = LogKeeper::new(rt, &desk, &log, &state);
+    let ends = run_desk(rt, &desk, shares, links, sides, keeper);
+    let book = close_desk(desk, ends)?;
+    Ok(logged_book(rt, book, log))
+}
+
+// The book of a closed desk, once the log has all that was booked. Where it hasn't, that is told.
+fn logged_book<J, K, R, D>(rt: &R, book: LockedBook<J>, log: Log<J, K, D>) -> Book
+where
+    J: Naming,
+    K: LogNaming,
+    R: Clock + Eprint,
+    D: Device + Drop,
+    ensures { result ≡ book }
+{
+    let mut book = book;
+    let mut log = log.into_inner();
+    let alloc = book.book().config().allocator();
+    if log.commit_all(alloc, &mut book).is_err() {
+        log_incomplete(rt);
+    }
+    book.into_book()
+}
+
 // Runs a desk until it is closed, and gives what its actors hand in.
-fn run_desk<J, R, L>(
+fn run_desk<J, R, L, K>(
     rt: &R,
     desk: &Desk<J>,
     shares: Vec<Share<J>>,
     links: &L,
     sides: Sides,
+    keeper: K,
 ) -> Result<Vec<End<J>>, Unprinted>
 where
     J: Naming + Send + Sync,
     R: Threads + Wait + Clock + Eprint + Sync,
     L: Links,
+    K: SharedKeeper<J> + Drop + Send,
     requires { 2 ≤ vec_len shares }
 {
     let config = desk.config();
-    let actors = actors_of(rt, desk, shares, links, Forgetful)?;
+    let actors = actors_of(rt, desk, shares, links, keeper)?;
     let places = Places::new(config.allocator(), config.workers(), config.peers())?;
     let seen = Seen::new();
     let Sides {
@@ -266,12 +348,12 @@ fn tell_start<R: Clock + Eprint>(rt: &R, config: &Config, open_files: Option<u64
 fn close_desk<J: Naming>(
     desk: Desk<J>,
     ends: Result<Vec<End<J>>, Unprinted>,
-) -> Result<Book, ServeFault>
+) -> Result<LockedBook<J>, ServeFault>
     ensures { ClosesDesk J.desk result }
 {
     match ends {
         Ok(ends) => match gather(desk, ends) {
-            Ok(Closed { book }) => Ok(book.into_book()),
+            Ok(Closed { book }) => Ok(book),
             Err(left) => Err(ServeFault::NotGathered(left.why)),
         },
         Err(why) => Err(ServeFault::Unprinted(why)),

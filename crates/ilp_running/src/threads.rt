@@ -2,7 +2,7 @@
 ghost use denote.Param.Send.{IsSend, IsSync};
 
 use crate::accepting::{Acceptor, Job, accept_all};
-use crate::actors::{Actors, Responder, Turning};
+use crate::actors::{Actors, Responder, Turning, WatcherLinks};
 use crate::fault::Unprinted;
 use crate::intakes::Intakes;
 use crate::places::Places;
@@ -13,6 +13,7 @@ use crate::watching::{Seen, Watcher, watch};
 use crossbeam_channel::{Receiver, Sender, bounded};
 use ilp_desk::{Desk, End, Naming};
 use ilp_links::Hurry;
+use ilp_log_keeper::SharedKeeper;
 use ilp_notices::{Notices, closing};
 use ilp_settler::Sweeper;
 use ilp_workers::{Clock, EngineLink, Keeper, Uplink};
@@ -143,22 +144,23 @@ where
     Ok(scope.spawn(move || settle(shared, settler, shutdown))?)
 }
 
-// Starts the thread of the watcher, who has this clock.
-fn start_watcher<'s, S, J, C, R>(
+// Starts the thread of the watcher, who is given these.
+fn start_watcher<'s, S, J, C, K, R>(
     scope: &'s Scope<'s, S>,
     shared: &Shared<'s, J, R>,
-    clock: C,
+    links: WatcherLinks<J, C, K>,
     shutdown: Shutdown,
 ) -> Result<JoinHandle<()>, Unprinted>
 where
     J: Naming + Send + Sync + 's,
     C: Clock + Drop + Send + 's,
+    K: SharedKeeper<J> + Drop + Send + 's,
     R: Wait + time::Clock + Eprint + Sync + 's,
 {
     let rt = shared.rt;
     let watcher = Watcher {
         desk: shared.desk,
-        clock,
+        links,
         places: shared.places,
         notices: shared.notices,
         seen: shared.seen,
@@ -177,17 +179,17 @@ where
     J: Naming + Send + Sync + 's,
     C: Clock + Drop + Send + 's,
     E: EngineLink + Drop + Send + 's,
-    K: Keeper<J> + Drop + Send + 's,
+    K: SharedKeeper<J> + Drop + Send + 's,
     R: Wait + time::Clock + Eprint + Sync + 's,
 {
     let Turning {
         sweeper,
         settler,
-        clock,
+        watching,
     } = turning;
     let sweeping = start_sweeper(scope, shared, sweeper, shutdown.try_clone()?)?;
     let settling = start_settler(scope, shared, settler, shutdown.try_clone()?)?;
-    let watching = start_watcher(scope, shared, clock, shutdown.try_clone()?)?;
+    let watching = start_watcher(scope, shared, watching, shutdown.try_clone()?)?;
     Ok(TurnThreads {
         sweeping,
         settling,
@@ -278,7 +280,7 @@ where
     C: Clock + Drop + Send + 's,
     U: Uplink + Drop + Send + 's,
     E: EngineLink + Drop + Send + 's,
-    K: Keeper<J> + Drop + Send + 's,
+    K: SharedKeeper<J> + Drop + Send + 's,
     R: Wait + time::Clock + Eprint + Sync + 's,
 {
     let Actors {
@@ -332,7 +334,7 @@ where
     C: Clock + Drop + Send,
     U: Uplink + Drop + Send,
     E: EngineLink + Drop + Send,
-    K: Keeper<J> + Drop + Send,
+    K: SharedKeeper<J> + Drop + Send,
     R: Threads + Wait + time::Clock + Eprint + Sync,
 {
     let alloc = shared.desk.config().allocator();

@@ -1,11 +1,13 @@
 //! What the watcher's thread does: it looks each second at what an operator is to know.
 
+use crate::actors::WatcherLinks;
 use crate::places::Places;
 use crate::shutdown::Shutdown;
 use ilp_book::Book;
 use ilp_desk::{Desk, Naming};
+use ilp_log_keeper::SharedKeeper;
 use ilp_notices::Notices;
-use ilp_workers::Clock;
+use ilp_workers::{Clock, Keeper};
 use std::io::Eprint;
 use std::sync::Wait;
 use std::sync::atomic::{AtomicBool, Ordering};
@@ -40,19 +42,20 @@ impl Seen {
 
 /// What the watcher looks at.
 #[derive(Drop)]
-pub(crate) struct Watcher<'a, J: Naming, C> {
+pub(crate) struct Watcher<'a, J: Naming, C: Clock + Drop, K: Keeper<J> + Drop> {
     pub(crate) desk: &'a Desk<J>,
-    pub(crate) clock: C,
+    pub(crate) links: WatcherLinks<J, C, K>,
     pub(crate) places: &'a Places,
     pub(crate) notices: &'a Notices,
     pub(crate) seen: &'a Seen,
 }
 
 /// Has the watcher look each second until the connector ends, and once more then.
-pub(crate) fn watch<J, C, R>(rt: &R, watcher: Watcher<'_, J, C>, shutdown: Shutdown)
+pub(crate) fn watch<J, C, K, R>(rt: &R, watcher: Watcher<'_, J, C, K>, shutdown: Shutdown)
 where
     J: Naming,
     C: Clock + Drop,
+    K: SharedKeeper<J> + Drop,
     R: Wait + time::Clock + Eprint,
 {
     let mut watcher = watcher;
@@ -102,18 +105,19 @@ fn open_holds(book: &Book) -> u64 {
     count
 }
 
-impl<J: Naming, C: Clock> Watcher<'_, J, C> {
+impl<J: Naming, C: Clock + Drop, K: SharedKeeper<J> + Drop> Watcher<'_, J, C, K> {
     fn look<R: Wait + time::Clock + Eprint>(&mut self, rt: &R) {
         // The lock is free again before the clock is asked and anything is told.
         let state = BookState::of(self.desk.lock(rt).book());
         self.look_at_clock(rt, state.last);
         self.look_at_journal(rt, state);
         self.look_at_work(rt);
+        self.look_at_keeper(rt);
     }
 
     // No entry was booked after the clock's moment, unless it was set back.
     fn look_at_clock<R: time::Clock + Eprint>(&mut self, rt: &R, last: i64) {
-        let now = self.clock.now();
+        let now = self.links.clock.now();
         let behind = if now < last { last.abs_diff(now) } else { 0 };
         if behind < SLACK_MS {
             self.notices.clock_right();
@@ -141,6 +145,16 @@ impl<J: Naming, C: Clock> Watcher<'_, J, C> {
             self.notices.work_goes_on();
         } else {
             self.notices.work_waits(rt, self.desk.config(), seconds);
+        }
+    }
+
+    // Where entries were not kept it is tried again.
+    fn look_at_keeper<R: time::Clock + Eprint>(&mut self, rt: &R) {
+        let links = &mut self.links;
+        if links.keeper.keeps() || links.keeper.mend(&mut links.receipt) {
+            self.notices.journal_kept();
+        } else {
+            self.notices.journal_unkept(rt);
         }
     }
 }

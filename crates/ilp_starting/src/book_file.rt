@@ -1,22 +1,25 @@
-//! The book that lies in a journal's file: how a run begins with it, and how it is kept in the end.
-ghost use Rattle.std.specs.Prelude.{◌≡◌, length, IfOk};
+//! The book that lies in a journal's file and in the log beside it: how a run begins with it, and how it
+//! is kept in the end.
+ghost use Rattle.std.specs.Prelude.{◌≡◌, ◌≤◌, length, IfOk};
 
-use crate::carrying::book_of;
+use crate::carrying::Carried;
+use crate::finding::found_book;
 use crate::refused::{Refused, RunFault};
-use crate::remembering::expect_unchanged;
 use crate::report::print_report;
 use crate::saved::Saved;
 use crate::warning::{JournalWarnings, Telling};
 use ilp_accounts::Config;
 use ilp_book::Book;
 use ilp_io::Recording;
-use ilp_journal_file::JournalFile;
-use ilp_link_traits::Clock;
-use ilp_links::SystemClock;
+use ilp_journal_file::{FileFault, Found, JournalFile, LogDevice};
+use ilp_line_file::{Device, LineFile};
+use ilp_log_text::head_text;
 use ilp_notices::{journal_absent, journal_carried, nothing_to_save};
+use ilp_refusals::Refusal;
 use ilp_remembered::remembered_text;
-use ilp_running::{ServeFault, Unprinted};
-use std::io::{Eprint, Print};
+use ilp_running::{BegunLog, ServeFault, Unprinted};
+use std::fs::OpenFile;
+use std::io::{Eprint, Print, Read, Seek, Write};
 use std::rt::Files;
 
 /// A journal's file, which no other connector has, and the configuration by which its book is read.
@@ -29,46 +32,103 @@ pub struct BookFile<'r, R, F> {
     pub path: &'r str,
 }
 
-impl<R, F> BookFile<'_, R, F>
+/// A book with which a run begins, and the log that goes on from it.
+#[derive(Drop)]
+pub struct Begun<D: Device + Drop> {
+    pub book: Book,
+    pub log: BegunLog<D>,
+}
+
+impl<'r, R, F> BookFile<'r, R, F>
 where
     R: AllocGlobal + Files<File = F> + std::time::Clock + Print + Eprint + Copy,
+    F: Read + Write + Seek + OpenFile + Drop,
 {
-    /// The book that the file has. It is told how many entries that begins with. Beside the file the
-    /// configuration is remembered, and there is a mark from here on until the journal is saved.
+    /// The book that the file and its log have. It is told how many entries that begins with, and what
+    /// there is to say of a sudden stop. The configuration is remembered beside the file, which is saved
+    /// anew where it has not just these entries. A log goes on from there.
+    ///
+    /// A sudden stop of the machine in between leaves what a start finds the same book in.
     ///
     /// Refusals: those of `book_of`; `JournalUnread` and `WriteFault`, of which a line on standard error
     /// says more.
-    pub fn begin(&self) -> Result<Book, Refused>
-        ensures config { IfOk result (λ b. b.config ≡ self.now.config.now) }
-        ensures opening { IfOk result (λ b. length b.entries ≡ b.base) }
+    pub fn begin(&self) -> Result<Begun<LogDevice<'r, R, F>>, Refused>
+        ensures config { IfOk result (λ b. b.book.config ≡ self.now.config.now) }
+        ensures opening { IfOk result (λ b. length b.book.entries ≡ b.book.base) }
+        ensures count { IfOk result (λ b. b.log.count ≤ length b.book.entries) }
     {
         let book = self.carried()?;
         let (rt, config) = (self.rt, self.config);
         let text = remembered_text(rt.alloc(), config)?;
         self.file.remember(rt, rt.alloc(), text.as_bytes())?;
-        self.file.mark(rt, rt.alloc(), config.run(), book.len())?;
-        Ok(book)
+        let log = self.begin_log(&book)?;
+        Ok(Begun { book, log })
     }
 
-    // The book of the text that the file has, or a new one, and which of both it is told.
+    // The book of what is found, of which what there is to say is told.
     fn carried(&self) -> Result<Book, Refused>
         ensures config { IfOk result (λ b. b.config ≡ self.now.config.now) }
         ensures opening { IfOk result (λ b. length b.entries ≡ b.base) }
     {
         let rt = self.rt;
-        let text = self.file.read(rt, rt.alloc())?;
-        let is_there = text.is_some();
-        let now = SystemClock::new(*rt).now();
-        let book = book_of(rt.alloc(), self.config, self.path, text, now)?;
-        let remembered = self.file.remembered(rt, rt.alloc())?;
-        expect_unchanged(rt, self.path, &book, &remembered)?;
-        if is_there {
+        let found = self.found()?;
+        let carried = found_book(rt, self.config, self.path, &found)?;
+        carried.tell(rt, self.path, Telling::Notice);
+        let Carried { book, source: _ } = carried;
+        if found.text.is_none() && book.len() == 0 {
+            journal_absent(rt, self.path);
+        } else {
             journal_carried(rt, self.path, book.len());
             JournalWarnings::of(rt, &book).tell(rt, self.path, Telling::Notice);
-        } else {
-            journal_absent(rt, self.path);
         }
         Ok(book)
+    }
+
+    fn found(&self) -> Result<Found, FileFault> {
+        let rt = self.rt;
+        Ok(Found {
+            text: self.file.read(rt, rt.alloc())?,
+            log: self.file.read_log(rt, rt.alloc())?,
+            remembered: self.file.remembered(rt, rt.alloc())?,
+        })
+    }
+
+    // Begins a log that goes on from this book, of which the file has the text then.
+    fn begin_log(&self, book: &Book) -> Result<BegunLog<LogDevice<'r, R, F>>, Refused>
+        requires { book.now.config ≡ self.now.config.now }
+        ensures { IfOk result (λ log. log.count ≤ length book.now.entries) }
+    {
+        let (rt, count) = (self.rt, book.len());
+        let text = self.saved_text(book)?;
+        let head = head_text(rt.alloc(), self.config, count, &text)?;
+        let device = self.file.begin_log(rt, rt.alloc(), head.as_bytes())?;
+        let file = LineFile {
+            device,
+            end: head.len(),
+        };
+        Ok(BegunLog { file, count })
+    }
+
+    // The text of the file, once it is that of the book. It is saved where it isn't; a book in which
+    // nothing was booked needs no file.
+    fn saved_text(&self, book: &Book) -> Result<Vec<u8>, Refused>
+        requires { book.now.config ≡ self.now.config.now }
+    {
+        let rt = self.rt;
+        let saved = Saved {
+            book,
+            config: self.config,
+        };
+        match self.file.read(rt, rt.alloc())? {
+            Some(text) if saved.is_text(&text) => return Ok(text),
+            None if book.len() == 0 => return Ok(Vec::new(rt.alloc())),
+            _ => {}
+        }
+        self.file.save_at_start(rt, rt.alloc(), &saved)?;
+        match self.file.read(rt, rt.alloc())? {
+            Some(text) => Ok(text),
+            None => Err(Refused::from(Refusal::JournalUnread)),
+        }
     }
 
     /// Prints the report of a book that was closed, and saves its journal, whatever became of the report:
@@ -88,12 +148,12 @@ where
         }
     }
 
-    /// What becomes of the mark where a connector gave no book back. One that could not listen has booked
-    /// nothing, so its mark goes. Any other may have booked something, and the mark stays.
+    /// What becomes of the log where a connector gave no book back. One that could not listen has booked
+    /// nothing, so its log goes. Any other may have booked something, and the log stays.
     pub fn leave_unsaved(&self, fault: ServeFault) -> RunFault {
         match fault {
-            ServeFault::Unprinted(Unprinted::Listen(_)) => self.file.withdraw(self.rt),
-            _ => nothing_to_save(self.rt, self.path),
+            ServeFault::Unprinted(Unprinted::Listen(_)) => self.file.remove_log(self.rt),
+            _ => nothing_to_save(self.rt, self.path, self.file.log_path()),
         }
         RunFault::from(fault)
     }

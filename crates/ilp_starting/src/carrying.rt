@@ -1,67 +1,165 @@
 //! The book that a connector begins with.
 ghost use Rattle.std.specs.Prelude.{◌≡◌, length, option_map, IfOk, IfErr};
 ghost use Rattle.ilp_book.specs.Book.{new_book};
-ghost use Rattle.ilp_refusals.specs.Refusals.{carry_refusal};
+ghost use Rattle.ilp_book.specs.Recover.{IsRecovered};
 ghost use Rattle.ilp_refusals.specs.declared.refusal.Refusal.TheVariants as refusals;
-ghost use Rattle.ilp_starting.specs.Beginning.{BeginsWith, IsWhyNotBegun};
+ghost use Rattle.ilp_starting.specs.Beginning.{
+  BeginsBy,
+  BeginsWith,
+  BeginsWithLog,
+  IsWhyNotBegun,
+  IsWhyNotBegunBy,
+  IsWhyNotBegunWithLog,
+  IsWhyNotRecoveredBy,
+  saved_or_none,
+};
+ghost use Rattle.ilp_line_file.specs.Text.{text_of};
 
-use crate::expecting::expected_at;
+use crate::not_carried::{bad_head, not_carried, not_recovered, of_another_text};
 use crate::refused::Refused;
-use crate::remembering::expect_unchanged;
 use ilp_accounts::Config;
-use ilp_book::{Book, CarryFault};
-use ilp_journal_file::look_at;
-use ilp_link_traits::Clock;
-use ilp_links::SystemClock;
-use ilp_refusals::Refusal;
+use ilp_book::Book;
+use ilp_log_text::LogText;
 use std::alloc::Global;
-use std::fs::File;
-use std::rt::{Files, Runtime};
 
-/// The book with which a connector would begin from the journal at this path now. No file is made or
-/// changed.
-///
-/// Refusals: those of `book_of`; `JournalUnread` or `WriteFault` where the journal's file could not be
-/// used, or the configuration has another run or other assets than what the journal has open, of which a
-/// line on standard error says more.
-pub fn book_at<R>(rt: &R, config: &Config, path: &str) -> Result<Book, Refused>
-where
-    R: Runtime + AllocGlobal + Files<File = File> + Copy,
-    ensures config { IfOk result (λ b. b.config ≡ config.now) }
-    ensures opening { IfOk result (λ b. length b.entries ≡ b.base) }
-{
-    let found = look_at(rt, rt.alloc(), path)?;
-    let now = SystemClock::new(*rt).now();
-    let book = book_of(rt.alloc(), config, path, found.text, now)?;
-    expect_unchanged(rt, path, &book, &found.remembered)?;
-    Ok(book)
+// The text of a journal in which nothing was booked.
+const NO_ENTRIES: &[u8] = b"ilp-journal 1\nend 0\n";
+
+/// Where the entries come from with which a book begins.
+#[derive(Clone, Copy, Debug, PartialEq, Eq)]
+pub enum Source {
+    /// The journal's text, where there is one.
+    Saved,
+    /// It has all that a log has which lies beside it.
+    OlderLog,
+    /// So many come from the text, and behind these so many from the log.
+    Logged { saved: u32, logged: u32 },
 }
 
-/// The book of a journal's text, carried over at this time, in milliseconds since 1970, or a new one
-/// where there is none. The path is that of the text.
+/// A book with which a connector begins, and where its entries come from.
+#[derive(Drop)]
+pub struct Carried {
+    pub book: Book,
+    pub source: Source,
+}
+
+/// The book of a journal's text and of the log beside it, as they are found, at this time in milliseconds
+/// since 1970. Where there is no log it is that of the text, and a new one where there is none. A log that
+/// goes on from this text has the entries behind it, and holds that are open end as `Book::carry_over`
+/// says. A log of an older text, all of which the journal has, is passed over.
 ///
-/// Refusals: `BadJournalText` and `Unlawful`, with the line of the file at which that shows, and
-/// `Memory`.
+/// Refusals: `BadJournalText` and `Unlawful`, with the line of the file at which that shows, the journal's
+/// or the log's; `JournalUnread` where the log is neither; `Memory`.
 pub fn book_of(
     alloc: Global,
     config: &Config,
     path: &str,
-    text: Option<Vec<u8>>,
+    text: Option<&[u8]>,
+    log: Option<&[u8]>,
     now: i64,
-) -> Result<Book, Refused>
-    ensures begins { IfOk result (BeginsWith config.now (option_map (λ t. t.items) text) now) }
-    ensures refused { IfErr result
-        (λ r. IsWhyNotBegun config.now (option_map (λ t. t.items) text) r.refusal) }
-    ensures config { IfOk result (λ b. b.config ≡ config.now) }
-    ensures opening { IfOk result (λ b. length b.entries ≡ b.base) }
+) -> Result<Carried, Refused>
+    ensures begins { IfOk result (λ c. BeginsBy config.now (option_map (λ t. t.now) text)
+        (option_map (λ t. t.now) log) now c.book) }
+    ensures refused { IfErr result (λ r. IsWhyNotBegunBy config.now (option_map (λ t. t.now) text)
+        (option_map (λ t. t.now) log) r.refusal) }
+    ensures config { IfOk result (λ c. c.book.config ≡ config.now) }
+    ensures opening { IfOk result (λ c. length c.book.entries ≡ c.book.base) }
+{
+    let Some(octets) = log else {
+        return saved_book(alloc, config, path, text, Source::Saved, now);
+    };
+    match LogText::read(octets) {
+        Ok(log) => logged_book(alloc, config, path, text, &log, now),
+        Err(bad) => Err(bad_head(alloc, path, bad)),
+    }
+}
+
+// The book of a journal's text and of a log that was read.
+fn logged_book(
+    alloc: Global,
+    config: &Config,
+    path: &str,
+    text: Option<&[u8]>,
+    log: &LogText<'_>,
+    now: i64,
+) -> Result<Carried, Refused>
+    ensures begins { IfOk result (λ c. BeginsWithLog config.now (option_map (λ t. t.now) text)
+        log.now now c.book) }
+    ensures refused { IfErr result (λ r. IsWhyNotBegunWithLog config.now
+        (option_map (λ t. t.now) text) log.now r.refusal) }
+    ensures config { IfOk result (λ c. c.book.config ≡ config.now) }
+    ensures opening { IfOk result (λ c. length c.book.entries ≡ c.book.base) }
+{
+    if log.is_of(text.unwrap_or(&[])) {
+        return recovered_book(alloc, config, path, text, log, now);
+    }
+    match text {
+        Some(later) if log.is_in(later) => {
+            saved_book(alloc, config, path, text, Source::OlderLog, now)
+        }
+        _ => Err(of_another_text(alloc, path)),
+    }
+}
+
+// The book of a journal's text, or a new one where there is none.
+fn saved_book(
+    alloc: Global,
+    config: &Config,
+    path: &str,
+    text: Option<&[u8]>,
+    source: Source,
+    now: i64,
+) -> Result<Carried, Refused>
+    ensures begins { IfOk result (λ c. BeginsWith config.now (option_map (λ t. t.now) text) now
+        c.book) }
+    ensures refused { IfErr result (λ r. IsWhyNotBegun config.now (option_map (λ t. t.now) text)
+        r.refusal) }
+    ensures config { IfOk result (λ c. c.book.config ≡ config.now) }
+    ensures opening { IfOk result (λ c. length c.book.entries ≡ c.book.base) }
 {
     let Some(text) = text else {
-        return new_book(alloc, config);
+        let book = new_book(alloc, config)?;
+        return Ok(Carried { book, source });
     };
-    match Book::carry_over(alloc, config, &text, now) {
-        Ok(book) => Ok(book),
-        Err(fault) => Err(not_carried(alloc, path, &text, fault)),
+    match Book::carry_over(alloc, config, text, now) {
+        Ok(book) => Ok(Carried { book, source }),
+        Err(fault) => Err(not_carried(alloc, path, text, fault)),
     }
+}
+
+// The book of a journal's text, and behind it the entries of a log that goes on from there.
+fn recovered_book(
+    alloc: Global,
+    config: &Config,
+    path: &str,
+    text: Option<&[u8]>,
+    log: &LogText<'_>,
+    now: i64,
+) -> Result<Carried, Refused>
+    ensures begins { IfOk result (λ c. IsRecovered config.now
+        (saved_or_none (option_map (λ t. t.now) text)) (text_of log.now.lines) now c.book) }
+    ensures refused { IfErr result (λ r. IsWhyNotRecoveredBy config.now
+        (option_map (λ t. t.now) text) (text_of log.now.lines) r.refusal) }
+    ensures config { IfOk result (λ c. c.book.config ≡ config.now) }
+    ensures opening { IfOk result (λ c. length c.book.entries ≡ c.book.base) }
+{
+    let saved = text.unwrap_or(NO_ENTRIES);
+    match Book::recover(alloc, config, saved, log.lines(), now) {
+        Ok(book) => {
+            let source = Source::Logged {
+                saved: log.count(),
+                logged: lines_in(log.lines()),
+            };
+            Ok(Carried { book, source })
+        }
+        Err(fault) => Err(not_recovered(alloc, path, saved, log, fault)),
+    }
+}
+
+// How many lines a text has.
+fn lines_in(text: &[u8]) -> u32 {
+    let count = text.iter().filter(|octet| **octet == b'\n').count();
+    u32::try_from(count).unwrap_or(u32::MAX)
 }
 
 /// A book in which nothing was booked.
@@ -73,23 +171,4 @@ pub(crate) fn new_book(alloc: Global, config: &Config) -> Result<Book, Refused>
         Ok(book) => Ok(book),
         Err(denied) => Err(Refused::from(denied)),
     }
-}
-
-// Why a journal is not carried over, with the line of the file at which that shows. The first line of a
-// journal is none of an entry.
-fn not_carried(alloc: Global, path: &str, text: &[u8], fault: CarryFault) -> Refused
-    ensures { result.refusal ≡ carry_refusal fault }
-{
-    let why = match fault {
-        CarryFault::BadJournalText { line } => match expected_at(alloc, text, line) {
-            Ok(expected) => format!(in alloc; "{path:?} line {line}: expected {expected}"),
-            Err(denied) => Err(denied),
-        },
-        CarryFault::Unlawful { entry, rule } => {
-            let line = u64::from(entry) + 2;
-            format!(in alloc; "{path:?} line {line}: the entry {entry} is not lawful: {rule}")
-        }
-        CarryFault::Memory => return Refused::from(Refusal::Memory),
-    };
-    Refused::because(Refusal::from(&fault), why)
 }

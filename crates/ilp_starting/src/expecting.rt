@@ -35,16 +35,35 @@ pub(crate) fn expected_at(alloc: Global, text: &[u8], number: u64) -> Result<Str
     match lines.next() {
         None | Some([]) => format!(in alloc; "an entry, or `end {entries}` as the last line"),
         Some(line) => match form_of(line) {
-            Some(form) => {
-                format!(in alloc;
-                    "`MOMENT ACTOR {form}` with peers of the configuration, ended by LF"
-                )
-            }
+            Some(form) => entry_of(alloc, form),
             None => {
                 format!(in alloc; "an entry, or `end {entries}`, ended by LF, as the last line")
             }
         },
     }
+}
+
+/// What was expected at the line of this number, counted from 1, of a text that has lines of entries
+/// alone.
+pub(crate) fn expected_of_entry(
+    alloc: Global,
+    text: &[u8],
+    number: u64,
+) -> Result<String, AllocError> {
+    let before = number.saturating_sub(1);
+    let line = text
+        .split(|octet| *octet == b'\n')
+        .nth(before as usize)
+        .unwrap_or(&[]);
+    match form_of(line) {
+        Some(form) => entry_of(alloc, form),
+        None => format!(in alloc; "an entry, ended by LF"),
+    }
+}
+
+// An entry of this form.
+fn entry_of(alloc: Global, form: &str) -> Result<String, AllocError> {
+    format!(in alloc; "`MOMENT ACTOR {form}` with peers of the configuration, ended by LF")
 }
 
 // The form of the entry that a line seems to be meant for.

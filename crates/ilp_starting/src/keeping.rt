@@ -1,14 +1,13 @@
 //! A run that keeps its journal in a file.
-ghost use Rattle.std.specs.Prelude.{◌≡◌, length};
+ghost use Rattle.std.specs.Prelude.{◌≡◌, ◌≤◌, length};
 
-use crate::book_file::BookFile;
+use crate::book_file::{Begun, BookFile};
 use crate::host::Host;
 use crate::refused::RunFault;
 use crate::report::room_for_report;
 use crate::run::Run;
-use ilp_book::Book;
 use ilp_io::Recording;
-use ilp_journal_file::JournalFile;
+use ilp_journal_file::{JournalFile, LogDevice};
 use std::fs::File;
 use std::net::{Net, TcpListener, TcpStream};
 use std::rt::Files;
@@ -28,23 +27,25 @@ where
         };
         let mut report = room_for_report(self.rt.alloc())?;
         match file.begin() {
-            Ok(book) => self.serve_marked(&file, book, &mut report),
+            Ok(begun) => self.serve_logged(&file, begun, &mut report),
             Err(refused) => Err(RunFault::Refused(refused)),
         }
     }
 
-    // Runs a connector from this book on, beside whose file there is a mark.
-    fn serve_marked(
+    // Runs a connector from this book on, whose entries are written to the log beside the file.
+    fn serve_logged(
         &self,
         file: &BookFile<'_, R, File>,
-        book: Book,
+        begun: Begun<LogDevice<'_, R, File>>,
         report: &mut Recording,
     ) -> Result<(), RunFault>
         requires same { file.now.config.now ≡ self.now.config.now }
-        requires config { book.config ≡ self.now.config.now }
-        requires opening { length book.entries ≡ book.base }
+        requires config { begun.book.config ≡ self.now.config.now }
+        requires opening { length begun.book.entries ≡ begun.book.base }
+        requires count { begun.log.count ≤ length begun.book.entries }
     {
-        match self.serve(book) {
+        let Begun { book, log } = begun;
+        match self.serve(book, Some(log)) {
             Ok(book) => file.end(&book, report),
             Err(fault) => Err(file.leave_unsaved(fault)),
         }

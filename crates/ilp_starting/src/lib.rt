@@ -7,8 +7,10 @@
 //! # What is proved
 //!
 //! - `book_of`: where there is no text of a journal a connector begins with a new book, else with
-//!   the one as which that text is carried over at a time; where it is refused, the refusal names why
-//!   the text is not carried over (`specs/Beginning.antt`, `BeginsWith`, `IsWhyNotBegun`).
+//!   the one as which that text is carried over at a time. Behind a text that a log beside it goes on
+//!   from, the log's lines are recovered with it; a log of another text is passed over only where the
+//!   journal has all that it has. Where it is refused, the refusal names why
+//!   (`specs/Beginning.antt`, `BeginsBy`, `IsWhyNotBegunBy`).
 //! - `config_of`: the configuration of the octets, or the refusal by their first fault or for want of
 //!   memory (`specs/Configuring.antt`).
 //! - Of a private function, `Run::serve`: the book that is given back is a closed one of a desk
@@ -21,8 +23,11 @@ mod book_file;
 mod carrying;
 mod configuring;
 mod expecting;
+mod finding;
 mod host;
 mod keeping;
+mod not_carried;
+mod recovered;
 mod refused;
 mod remembering;
 mod report;
@@ -31,9 +36,10 @@ mod saved;
 mod serving;
 mod warning;
 
-pub use book_file::BookFile;
-pub use carrying::{book_at, book_of};
+pub use book_file::{Begun, BookFile};
+pub use carrying::{Carried, Source, book_of};
 pub use configuring::{config_octets, config_of, configured};
+pub use finding::book_at;
 pub use host::Host;
 pub use refused::{Refused, RunFault};
 pub use serving::serve;

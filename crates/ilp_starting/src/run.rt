@@ -1,5 +1,6 @@
 //! A run of a connector: from a book on until it is asked to close.
-ghost use Rattle.std.specs.Prelude.{◌≡◌, length};
+ghost use Rattle.std.specs.Prelude.{◌≡◌, ◌≤◌, length, IfSome};
+ghost use Rattle.ilp_line_file.specs.File.{IsSettled};
 ghost use Rattle.ilp_running.specs.Serving.{desk_of, ClosesDesk};
 
 use crate::carrying::new_book;
@@ -8,9 +9,10 @@ use crate::refused::RunFault;
 use crate::report::{print_report, room_for_report};
 use ilp_accounts::Config;
 use ilp_book::Book;
+use ilp_line_file::{Device, MemoryDevice};
 use ilp_links::{Hurry, SystemClock, TcpLinks};
 use ilp_notices::{Notices, no_journal};
-use ilp_running::{ServeFault, run_to_close};
+use ilp_running::{BegunLog, ServeFault, run_to_close};
 use std::fs::File;
 use std::net::{Net, TcpListener, TcpStream};
 use std::rt::Files;
@@ -42,21 +44,29 @@ where
     {
         no_journal(self.rt);
         let mut report = room_for_report(self.rt.alloc())?;
-        match self.serve(book) {
+        let unlogged: Option<BegunLog<MemoryDevice>> = None;
+        match self.serve(book, unlogged) {
             Ok(book) => print_report(self.rt, &book, &mut report),
             Err(fault) => Err(RunFault::from(fault)),
         }
     }
 
-    /// Runs a connector from this book on, and gives the book back that it closed.
-    pub(crate) fn serve(&self, book: Book) -> Result<Book, ServeFault>
+    /// Runs a connector from this book on, with a log where there is one, and gives the book back that it
+    /// closed.
+    pub(crate) fn serve<D: Device + Drop + Send>(
+        &self,
+        book: Book,
+        log: Option<BegunLog<D>>,
+    ) -> Result<Book, ServeFault>
         requires config { book.config ≡ self.now.config.now }
         requires opening { length book.entries ≡ book.base }
+        requires count { IfSome log (λ l. l.count ≤ length book.entries) }
+        requires settled { D.claims → IfSome log (λ l. IsSettled D.seen D.may_leave l.file) }
         ensures { ClosesDesk (desk_of self.now.config.now book.entries) result }
     {
         let hurry = Hurry::new();
         let clock = SystemClock::new(*self.rt);
         let links = TcpLinks::new(*self.rt, self.config, clock, self.notices, &hurry);
-        run_to_close(self.rt, self.config, book, &links)
+        run_to_close(self.rt, self.config, book, &links, log)
     }
 }

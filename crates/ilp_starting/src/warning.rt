@@ -5,7 +5,9 @@ use ilp_accounts::Config;
 use ilp_book::Book;
 use ilp_link_traits::Clock;
 use ilp_links::SystemClock;
-use ilp_notices::{JournalWarning, configuration_warning, journal_warning};
+use ilp_notices::{
+    JournalWarning, RecoveryNote, configuration_warning, journal_warning, recovery_note,
+};
 use ilp_warnings::{Warning, warnings};
 use std::alloc::AllocError;
 use std::io::Eprint;
@@ -46,6 +48,21 @@ impl Telling {
             }
             (Telling::Notice, JournalWarning::Ahead { .. }) => journal_warning(rt, path, warning),
             (Telling::Notice, JournalWarning::NearlyFull { .. }) => {}
+        }
+    }
+
+    /// Tells one thing of how the journal at this path goes on behind a sudden stop.
+    pub(crate) fn tell_recovery<R: time::Clock + Eprint>(
+        self,
+        rt: &R,
+        path: &str,
+        note: RecoveryNote<'_>,
+    ) {
+        match self {
+            Telling::Line => {
+                let _ = eprintln!(rt; "journal {path:?}: {note}");
+            }
+            Telling::Notice => recovery_note(rt, path, note),
         }
     }
 

@@ -1,0 +1,70 @@
+//! The book of what a start finds.
+ghost use Rattle.std.specs.Prelude.{◌≡◌, length, IfOk};
+
+use crate::carrying::{Carried, Source, book_of};
+use crate::refused::Refused;
+use crate::remembering::expect_unchanged;
+use ilp_accounts::Config;
+use ilp_journal_file::{Found, look_at};
+use ilp_link_traits::Clock;
+use ilp_links::SystemClock;
+use ilp_log_text::{LogText, remembered_in};
+use std::alloc::{AllocError, Global};
+use std::fs::File;
+use std::io::Eprint;
+use std::rt::{Files, Runtime};
+use std::time;
+
+/// The book with which a connector would begin from the journal at this path now. No file is made or
+/// changed.
+///
+/// Refusals: those of `book_of`; `JournalUnread` or `WriteFault` where the journal's file could not be
+/// used, or the configuration has another run or other assets than what the journal has open, of which a
+/// line on standard error says more.
+pub fn book_at<R>(rt: &R, config: &Config, path: &str) -> Result<Carried, Refused>
+where
+    R: Runtime + AllocGlobal + Files<File = File> + Copy,
+    ensures config { IfOk result (λ c. c.book.config ≡ config.now) }
+    ensures opening { IfOk result (λ c. length c.book.entries ≡ c.book.base) }
+{
+    let found = look_at(rt, rt.alloc(), path)?;
+    found_book(rt, config, path, &found)
+}
+
+/// The book of what was found of the journal at this path, as of now, by a configuration that has the run
+/// and the assets which are remembered.
+pub(crate) fn found_book<R>(
+    rt: &R,
+    config: &Config,
+    path: &str,
+    found: &Found,
+) -> Result<Carried, Refused>
+where
+    R: AllocGlobal + time::Clock + Eprint + Copy,
+    ensures config { IfOk result (λ c. c.book.config ≡ config.now) }
+    ensures opening { IfOk result (λ c. length c.book.entries ≡ c.book.base) }
+{
+    let now = SystemClock::new(*rt).now();
+    let (text, log) = (octets_of(&found.text), octets_of(&found.log));
+    let carried = book_of(rt.alloc(), config, path, text, log, now)?;
+    let remembered = remembered_of(rt.alloc(), found, carried.source)?;
+    expect_unchanged(rt, path, &carried.book, &remembered)?;
+    Ok(carried)
+}
+
+fn octets_of(text: &Option<Vec<u8>>) -> Option<&[u8]> {
+    match text {
+        Some(octets) => Some(octets.as_slice()),
+        None => None,
+    }
+}
+
+// What is remembered of the run whose entries these are: behind a sudden stop the log says it.
+fn remembered_of(alloc: Global, found: &Found, source: Source) -> Result<Vec<u8>, AllocError> {
+    if let (Source::Logged { .. }, Some(octets)) = (source, &found.log) {
+        if let Ok(log) = LogText::read(octets) {
+            return remembered_in(alloc, log.remembered());
+        }
+    }
+    Vec::from_slice(alloc, &found.remembered)
+}
