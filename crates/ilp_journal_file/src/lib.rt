@@ -1,10 +1,18 @@
-//! The file of a journal: its lock, its marks, and how it is read and written.
+//! The file of a journal: its lock, its log, and how it is read and written.
 //!
-//! Beside the journal `J` stand `J.lock`, which a connector locks for as long as it runs, and which keeps
-//! what is to be remembered of its configuration; `J.running`, which says that it runs or has stopped
-//! without saving; and for a moment `J.new`, which is written and then takes the place of `J`. So `J` is at
-//! each moment a whole text, or not there. None of them may be a link or have a second name: else two
-//! connectors would have one journal.
+//! Beside the journal `J` stand:
+//!
+//! - `J.lock`, which a connector locks for as long as it runs, and which keeps what is to be remembered of
+//!   its configuration.
+//! - `J.log`, while a connector runs and behind one that stopped without saving: to it each entry is
+//!   written before anybody is told of it. It goes once the journal has all that it has.
+//! - `J.log.new` for a moment, which is written and then takes the place of `J.log`. So a log has from its
+//!   first moment all of its head.
+//! - `J.new` for a moment, which is written and then takes the place of `J`. So `J` is at each moment a
+//!   whole text, or not there.
+//!
+//! None of them may be a link or have a second name: else two connectors would have one journal. Where
+//! `J.running` lies there, the mark of an earlier version that kept no log, the journal is refused.
 //!
 //! What a file system does, no clause can say: it stands in the comments, and the cases of
 //! `scripts/check.py` try it on the program.
@@ -17,6 +25,8 @@
 mod fault;
 mod limited;
 mod locking;
+mod log_device;
+mod logging;
 mod looking;
 mod marking;
 mod mounts;
@@ -28,10 +38,12 @@ mod saving;
 mod standing;
 mod system_text;
 mod taking;
+mod writing;
 
 pub use fault::FileFault;
 pub use locking::LockFile;
+pub use log_device::LogDevice;
 pub use looking::{Found, look_at};
 pub use noting::Noting;
-pub use saving::Content;
 pub use taking::JournalFile;
+pub use writing::Content;

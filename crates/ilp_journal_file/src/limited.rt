@@ -15,6 +15,11 @@ const LABEL: &str = "Max file size";
 // The system's number of the error that a file is too large (EFBIG).
 const TOO_LARGE: i32 = 27;
 
+/// The error of a file that would have more octets than one of this process may have.
+pub(crate) fn too_large() -> io::Error {
+    io::Error::from_raw_os_error(TOO_LARGE)
+}
+
 /// A writer of a file that takes no more octets than a file of this process may have. What is written
 /// beyond them is an error of this writer: the system would end the process by a signal (SIGXFSZ).
 #[derive(Drop)]
@@ -39,7 +44,7 @@ impl<W: Write> Write for Limited<W> {
 
     fn write(&mut self, octets: &[u8]) -> io::Result<usize> {
         if self.left == 0 {
-            return Err(io::Error::from_raw_os_error(TOO_LARGE));
+            return Err(too_large());
         }
         let room = usize::try_from(self.left).unwrap_or(usize::MAX);
         let count = self.inner.write(&octets[..octets.len().min(room)])?;
@@ -52,8 +57,9 @@ impl<W: Write> Write for Limited<W> {
     }
 }
 
-// The most octets of a file, or of any where the system sets no limit or does not say.
-fn most_octets<R: Files>(rt: &R, alloc: Global) -> u64 {
+/// The most octets that a file of this process may have, or that any can where the system sets no limit
+/// or does not say.
+pub(crate) fn most_octets<R: Files>(rt: &R, alloc: Global) -> u64 {
     match system_text(rt, alloc, LIMITS) {
         Ok(Some(text)) => limit_in(&text).unwrap_or(u64::MAX),
         _ => u64::MAX,

@@ -3,6 +3,7 @@
 use crate::fault::FileFault;
 use crate::locking::LockFile;
 use crate::names::Names;
+use crate::reading::read;
 use ilp_notices::{journal_unread, not_made};
 use std::alloc::Global;
 use std::fs;
@@ -15,6 +16,8 @@ use std::time::Clock;
 pub struct Found {
     /// Its text, or nothing where there is no file.
     pub text: Option<Vec<u8>>,
+    /// The text of `J.log`, or nothing where there is no file.
+    pub log: Option<Vec<u8>>,
     /// What an earlier start had `J.lock` keep, or nothing.
     pub remembered: Vec<u8>,
 }
@@ -22,7 +25,7 @@ pub struct Found {
 /// What a start over the journal at this path would find. No file is made or changed, so whether one may
 /// be made is not found out.
 ///
-/// Refusals: `Unread` where `JournalFile::take`, `read` or `remembered` would be refused by it;
+/// Refusals: `Unread` where `JournalFile::take`, `read`, `read_log` or `remembered` would be refused by it;
 /// `Unwritten` where the path is empty or the folder is not there; `Memory`.
 pub fn look_at<R>(rt: &R, alloc: Global, path: &str) -> Result<Found, FileFault>
 where
@@ -39,8 +42,13 @@ where
     names.expect_unused(rt)?;
     names.expect_saved(rt)?;
     let remembered = names.remembered(rt, alloc)?;
-    let text = names.read(rt, alloc)?;
-    Ok(Found { text, remembered })
+    let text = read(rt, alloc, names.journal.as_str())?;
+    let log = read(rt, alloc, names.log.as_str())?;
+    Ok(Found {
+        text,
+        log,
+        remembered,
+    })
 }
 
 impl Names {

@@ -20,7 +20,11 @@ pub(crate) struct Names {
     pub(crate) new: String,
     /// What a connector locks for as long as it has the journal.
     pub(crate) lock: String,
-    /// What stands there from a connector's start until it has saved the journal.
+    /// What a connector's entries are written to as they come.
+    pub(crate) log: String,
+    /// What a log begins as, and then takes its place.
+    pub(crate) log_new: String,
+    /// The mark of a connector of an earlier version, which had no log.
     pub(crate) running: String,
 }
 
@@ -30,6 +34,9 @@ impl Names {
         ensures journal { IfOk result (λ names. string_bytes names.journal ≡ path.now) }
         ensures new { IfOk result (λ names. string_bytes names.new ≡ path.now ++ codes ".new") }
         ensures lock { IfOk result (λ names. string_bytes names.lock ≡ path.now ++ codes ".lock") }
+        ensures log { IfOk result (λ names. string_bytes names.log ≡ path.now ++ codes ".log") }
+        ensures log_new { IfOk result (λ names.
+            string_bytes names.log_new ≡ path.now ++ codes ".log.new") }
         ensures running { IfOk result (λ names.
             string_bytes names.running ≡ path.now ++ codes ".running") }
     {
@@ -37,6 +44,8 @@ impl Names {
             journal: format!(in alloc; "{path}")?,
             new: format!(in alloc; "{path}.new")?,
             lock: format!(in alloc; "{path}.lock")?,
+            log: format!(in alloc; "{path}.log")?,
+            log_new: format!(in alloc; "{path}.log.new")?,
             running: format!(in alloc; "{path}.running")?,
         })
     }

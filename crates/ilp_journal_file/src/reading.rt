@@ -1,7 +1,6 @@
-//! Reading a journal's file.
+//! Reading a journal's file, and its log.
 
 use crate::fault::FileFault;
-use crate::names::Names;
 use crate::noting::Noting;
 use crate::taking::JournalFile;
 use ilp_io::{ReadFault, read_to_limit};
@@ -13,7 +12,7 @@ use std::io::{Eprint, ErrorKind};
 use std::rt::Files;
 use std::time::Clock;
 
-// The most octets of a journal's text.
+// The most octets of a text that is read.
 const TEXT_LIMIT: usize = 8_589_934_592;
 
 impl<F> JournalFile<F> {
@@ -24,37 +23,46 @@ impl<F> JournalFile<F> {
     where
         R: Files + Clock + Eprint,
     {
-        self.names.read(rt, alloc)
+        read(rt, alloc, self.names.journal.as_str())
     }
-}
 
-impl Names {
-    /// As `JournalFile::read`.
-    pub(crate) fn read<R>(&self, rt: &R, alloc: Global) -> Result<Option<Vec<u8>>, FileFault>
+    /// The text of `J.log`, or nothing where there is no file.
+    ///
+    /// Refusals: `Unread` where it can't be read or has more than 8,589,934,592 octets; `Memory`.
+    pub fn read_log<R>(&self, rt: &R, alloc: Global) -> Result<Option<Vec<u8>>, FileFault>
     where
         R: Files + Clock + Eprint,
     {
-        let path = self.journal.as_str();
-        let file = match fs::open(rt, path) {
-            Ok(file) => file,
-            Err(error) if error.kind() == ErrorKind::NotFound => return Ok(None),
-            Err(error) => {
-                journal_unread(rt, path, &error);
-                return Err(FileFault::Unread);
-            }
-        };
-        if is_too_long(&file) {
-            journal_too_long(rt, path);
+        read(rt, alloc, self.names.log.as_str())
+    }
+}
+
+/// The text at this path, or nothing where there is no file.
+///
+/// Refusals: those of `JournalFile::read`.
+pub(crate) fn read<R>(rt: &R, alloc: Global, path: &str) -> Result<Option<Vec<u8>>, FileFault>
+where
+    R: Files + Clock + Eprint,
+{
+    let file = match fs::open(rt, path) {
+        Ok(file) => file,
+        Err(error) if error.kind() == ErrorKind::NotFound => return Ok(None),
+        Err(error) => {
+            journal_unread(rt, path, &error);
             return Err(FileFault::Unread);
         }
-        let mut reader = Noting::new(file);
-        match read_to_limit(alloc, &mut reader, TEXT_LIMIT) {
-            Ok(text) => Ok(Some(text)),
-            Err(ReadFault::Memory) => Err(FileFault::Memory),
-            Err(_) => {
-                tell_unread(rt, path, &reader);
-                Err(FileFault::Unread)
-            }
+    };
+    if is_too_long(&file) {
+        journal_too_long(rt, path);
+        return Err(FileFault::Unread);
+    }
+    let mut reader = Noting::new(file);
+    match read_to_limit(alloc, &mut reader, TEXT_LIMIT) {
+        Ok(text) => Ok(Some(text)),
+        Err(ReadFault::Memory) => Err(FileFault::Memory),
+        Err(_) => {
+            tell_unread(rt, path, &reader);
+            Err(FileFault::Unread)
         }
     }
 }

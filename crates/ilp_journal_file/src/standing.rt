@@ -16,10 +16,10 @@ use thiserror::Error;
 /// Why what stands at a path can't be a file of a journal.
 #[derive(Clone, Copy, Debug, PartialEq, Eq, Error)]
 enum Unfit {
-    /// What is locked and marked beside it would not be beside the file that it leads to.
+    /// What is locked and logged beside it would not be beside the file that it leads to.
     #[error("it is a symbolic link: give the path of the file that it is to be")]
     Link,
-    /// A connector that runs by the other name would lock and mark other files.
+    /// A connector that runs by the other name would lock other files.
     #[error("the file has another name too: remove that one, or put a copy in its place")]
     SecondName,
     #[error("it is a folder")]
@@ -48,6 +48,8 @@ impl Names {
         expect_plain(rt, self.lock.as_str())?;
         expect_plain(rt, self.running.as_str())?;
         expect_plain(rt, self.new.as_str())?;
+        expect_plain(rt, self.log.as_str())?;
+        expect_plain(rt, self.log_new.as_str())?;
         if is_mount_point(rt, alloc, journal)? {
             journal_unfit(rt, journal, Unfit::Mount);
             return Err(FileFault::Unread);

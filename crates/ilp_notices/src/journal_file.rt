@@ -47,42 +47,52 @@ pub fn not_saved_yet<R: Clock + Eprint>(rt: &R, path: &str, error: &io::Error) {
     tell(rt, Level::Warn, text);
 }
 
-/// Tells that the journal was not saved, and where a part of it is.
-pub fn not_saved<R: Clock + Eprint>(rt: &R, path: &str, new: &str, error: &io::Error) {
+/// Tells that the journal was not saved, and where a part of it is, and what was booked.
+pub fn not_saved<R: Clock + Eprint>(rt: &R, path: &str, new: &str, log: &str, error: &io::Error) {
     let text = format_args!(
-        "journal {path:?}: not saved: {error}: it is as at the start, and {new:?} has what could be written: keep both and the report"
+        "journal {path:?}: not saved: {error}: it is as at the start, {new:?} has what could be written, and what was booked is in {log:?}, from which the next start goes on: keep all three and the report"
+    );
+    tell(rt, Level::Error, text);
+}
+
+/// Tells that the journal could not be saved at a start, which is refused.
+pub fn not_saved_at_start<R: Clock + Eprint>(rt: &R, path: &str, error: &io::Error) {
+    let text = format_args!(
+        "journal {path:?}: can't be saved: {error}: make room for it, and start again: nothing is lost"
     );
     tell(rt, Level::Error, text);
 }
 
 /// Tells that the journal is the new one, but that the system may forget it where the machine stops, and
 /// what to do.
-pub fn not_synced<R: Clock + Eprint>(rt: &R, path: &str, running: &str, error: &io::Error) {
+pub fn not_synced<R: Clock + Eprint>(rt: &R, path: &str, log: &str, error: &io::Error) {
     let text = format_args!(
-        "journal {path:?}: it is the new one, but its folder can't be synced: {error}: keep the report, see to the disk, and remove {running:?} before the next start"
+        "journal {path:?}: it is the new one, but its folder can't be synced: {error}: see to the disk, and keep {log:?}, from which the next start goes on, and the report"
     );
     tell(rt, Level::Error, text);
 }
 
-/// Tells that the journal was saved, and why the run is refused all the same.
-pub fn saved_and_marked<R: Clock + Eprint>(rt: &R, path: &str, running: &str, error: &io::Error) {
+/// Tells that a connector ended in a way that leaves no journal to be saved, and where what it booked is.
+pub fn nothing_to_save<R: Clock + Eprint>(rt: &R, path: &str, log: &str) {
     let text = format_args!(
-        "journal {path:?}: saved and whole, but can't remove {running:?}: {error}: remove it before the next start"
+        "journal {path:?}: not saved, since the connector was refused: it is as at the start, and what was booked is in {log:?}, from which the next start goes on"
     );
     tell(rt, Level::Error, text);
 }
 
-/// Tells that a connector ended in a way that leaves no journal to be saved.
-pub fn nothing_to_save<R: Clock + Eprint>(rt: &R, path: &str) {
+/// Tells that a log could not be removed, of which the journal has all.
+pub fn log_left<R: Clock + Eprint>(rt: &R, log: &str, error: &io::Error) {
     let text = format_args!(
-        "journal {path:?}: not saved, since the connector was refused: it is as at the start"
+        "can't remove {log:?}: {error}: the journal has all that it has, and the next start removes it"
     );
-    tell(rt, Level::Error, text);
+    tell(rt, Level::Warn, text);
 }
 
-/// Tells that the mark of a connector that runs could not be taken away.
-pub fn mark_left<R: Clock + Eprint>(rt: &R, running: &str, error: &io::Error) {
-    let text = format_args!("can't remove {running:?}: {error}: remove it before the next start");
+/// Tells that a log can't be written, and what that means.
+pub fn log_unwritten<R: Clock + Eprint>(rt: &R, path: &str, error: &io::Error) {
+    let text = format_args!(
+        "can't write {path:?}: {error}: what is booked from here on is not on the disk"
+    );
     tell(rt, Level::Error, text);
 }
 
@@ -158,8 +168,8 @@ pub fn journal_too_long<R: Clock + Eprint>(rt: &R, path: &str) {
     tell(rt, Level::Error, text);
 }
 
-/// Tells in two lines that a connector has stopped without saving the journal, of which its mark says
-/// this: what that means, and what to do.
+/// Tells in two lines that a connector that kept no log has stopped without saving the journal, of which its
+/// mark says this: what that means, and what to do.
 pub fn stopped_unsaved<R: Clock + Eprint>(rt: &R, path: &str, running: &str, said: &str) {
     let meant = format_args!(
         "journal {path:?}: a connector stopped without saving it ({running:?} says {said:?}): what it booked is lost, while engines know its keys and a start would use its numbers again"
