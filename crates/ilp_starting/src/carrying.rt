@@ -52,10 +52,10 @@ pub fn book_of(
     log: Option<&[u8]>,
     now: i64,
 ) -> Result<Carried, Refused>
-    ensures begins { IfOk result (λ c. BeginsBy config.now (option_map (λ t. t.now) text)
-        (option_map (λ t. t.now) log) now c.book) }
-    ensures refused { IfErr result (λ r. IsWhyNotBegunBy config.now (option_map (λ t. t.now) text)
-        (option_map (λ t. t.now) log) r.refusal) }
+    ensures begins { IfOk result (λ c. BeginsBy config.now (option_map (λ t. t.now) text.entry)
+        (option_map (λ t. t.now) log.entry) now c.book) }
+    ensures refused { IfErr result (λ r. IsWhyNotBegunBy config.now (option_map (λ t. t.now) text.entry)
+        (option_map (λ t. t.now) log.entry) r.refusal) }
     ensures config { IfOk result (λ c. c.book.config ≡ config.now) }
     ensures opening { IfOk result (λ c. length c.book.entries ≡ c.book.base) }
 {
@@ -76,9 +76,9 @@ fn saved_book(
     text: Option<&[u8]>,
     now: i64,
 ) -> Result<Carried, Refused>
-    ensures begins { IfOk result (λ c. BeginsWith config.now (option_map (λ t. t.now) text) now
+    ensures begins { IfOk result (λ c. BeginsWith config.now (option_map (λ t. t.now) text.entry) now
         c.book) }
-    ensures refused { IfErr result (λ r. IsWhyNotBegun config.now (option_map (λ t. t.now) text)
+    ensures refused { IfErr result (λ r. IsWhyNotBegun config.now (option_map (λ t. t.now) text.entry)
         r.refusal) }
     ensures config { IfOk result (λ c. c.book.config ≡ config.now) }
     ensures opening { IfOk result (λ c. length c.book.entries ≡ c.book.base) }
@@ -104,10 +104,10 @@ fn logged_book(
     log: &LogText<'_>,
     now: i64,
 ) -> Result<Carried, Refused>
-    ensures begins { IfOk result (λ c. BeginsWithLog config.now (option_map (λ t. t.now) text)
+    ensures begins { IfOk result (λ c. BeginsWithLog config.now (option_map (λ t. t.now) text.entry)
         log.now now c.book) }
     ensures refused { IfErr result (λ r. IsWhyNotBegunWithLog config.now
-        (option_map (λ t. t.now) text) log.now r.refusal) }
+        (option_map (λ t. t.now) text.entry) log.now r.refusal) }
     ensures config { IfOk result (λ c. c.book.config ≡ config.now) }
     ensures opening { IfOk result (λ c. length c.book.entries ≡ c.book.base) }
 {
