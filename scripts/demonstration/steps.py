@@ -87,10 +87,13 @@ class Demonstration:
     def send_hundred(self) -> None:
         """Packets of all kinds, between the halves of which north is killed."""
         half = len(self.first) // 2
-        for place, payments in enumerate((self.first[:half], self.first[half:])):
-            self.say(f"Sends {len(payments)} packets, {AT_ONCE} at a time: {self.send(payments)}.")
-            if place == 0:
-                self.kill_north()
+        self.send_half(self.first[:half])
+        self.kill_north()
+        self.send_half(self.first[half:])
+
+    def send_half(self, payments: list[Payment]) -> None:
+        """Sends packets, and says how they end."""
+        self.say(f"Sends {len(payments)} packets, {AT_ONCE} at a time: {self.send(payments)}.")
 
     def kill_north(self) -> None:
         """North goes on from its log. The last packet was fulfilled, so all that was booked is in there."""
