@@ -118,7 +118,7 @@ class Kills:
         self.book.extend(entries)
         answered = self.load.answered
         for packet in answered.fulfills:
-            hold = self.book.fulfills.get(packet.preimage.hex())
+            hold = self.book.fulfills.get(packet.preimage)
             found = hold and (hold.sender, hold.receiver, hold.amount, hold.out)
             expect(f"in the journal of {packet}", found, (packet.sender, packet.receiver, packet.amount, packet.amount))
         for one in answered.credits:

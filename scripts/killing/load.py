@@ -104,12 +104,12 @@ def asks_of(engine: StandIn) -> list[Ask]:
 
 @dataclass(frozen=True)
 class Fulfilled:
-    """A packet for which its sender got a Fulfill."""
+    """A packet for which its sender got a Fulfill, with its preimage in hexadecimal."""
 
     sender: str
     receiver: str
     amount: int
-    preimage: bytes
+    preimage: str
 
 
 @dataclass(frozen=True)
@@ -180,12 +180,12 @@ class Load:
     def send(self, sender: str, generator: random.Random) -> None:
         """Sends a packet to the other peer."""
         receiver, token = ("bob", self.setup.token) if sender == "alice" else ("alice", self.setup.bob_token)
-        one = Fulfilled(sender, receiver, generator.randint(0, MOST_SENT), generator.randbytes(32))
-        octets = packet(one.amount, now() + EXPIRES, chosen(generator, WAYS) + one.preimage,
-                        f"test.{receiver}".encode(), sha256(one.preimage).digest())
+        amount, preimage = generator.randint(0, MOST_SENT), generator.randbytes(32)
+        octets = packet(amount, now() + EXPIRES, chosen(generator, WAYS) + preimage, f"test.{receiver}".encode(),
+                        sha256(preimage).digest())
         answer = self.ask(self.setup.peers_port, request("/ilp", bearer(token), body=octets))
-        if answer == response(200, fulfill(one.preimage)):
-            self.answered.fulfills.append(one)
+        if answer == response(200, fulfill(preimage)):
+            self.answered.fulfills.append(Fulfilled(sender, receiver, amount, preimage.hex()))
         elif answer.startswith(b"HTTP/1.1") and not answer.startswith(b"HTTP/1.1 200") or answer == response(200, T00):
             self.refuse("a packet", answer)
 
