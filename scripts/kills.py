@@ -32,7 +32,8 @@ from cases.laboratory import Laboratory, post_close
 from cases.operating import is_program, raise_own_limit
 from cases.program import Program, Setup, numbers_in
 from killing.books import Book, entries_in, entries_kept
-from killing.load import MOST_CREDITED, SCALE, Credit, Load, answers_by_chance, answers_by_data, asks_of, chosen, taken
+from killing.load import (MOST_CREDITED, SCALE, Ask, Credit, Load, answers_by_chance, answers_by_data, asks_of, chosen,
+                          taken)
 
 USAGE = "usage: kills.py PATH/TO/connector [COUNT [SEED]]"
 COUNT = 200
@@ -97,12 +98,13 @@ class Kills:
     def begin(self) -> Program:
         """A connector that goes on from what lies there, and has all of it."""
         left = entries_kept(self.octets(self.kept.path), self.octets(self.kept.beside("log")))
+        asks = asks_of(self.engine)
         program = self.kept.serve()
         text = self.octets(self.kept.path)
         entries = b"" if text is None else entries_in(text)
         expect_that(f"a start has {len(entries)} octets of entries, which do not begin with the {len(left)} that "
                     f"journal and log had", entries.startswith(left))
-        self.compare(entries)
+        self.compare(entries, asks)
         self.expect_report(program)
         return program
 
@@ -113,7 +115,7 @@ class Kills:
         one = Credit("alice", self.generator.randbytes(8).hex(), self.generator.randint(1, MOST_CREDITED))
         expect_that("a settlement was not answered", self.load.tell(one))
 
-    def compare(self, entries: bytes) -> None:
+    def compare(self, entries: bytes, asks: list[Ask]) -> None:
         """All that was answered and asked for is in these entries."""
         self.book.extend(entries)
         answered = self.load.answered
@@ -124,7 +126,6 @@ class Kills:
         for one in answered.credits:
             expect(f"in the journal of {one}", self.book.credits.get((one.peer, one.key.encode().hex())),
                    (one.amount, SCALE))
-        asks = asks_of(self.engine)
         for ask in asks:
             expect(f"in the journal of {ask}", self.book.asks.get(ask.number), (ask.peer, ask.amount))
         self.compared.update(fulfills=len(answered.fulfills), credits=len(answered.credits), asks=len(asks))
@@ -138,7 +139,7 @@ class Kills:
         program = self.begin()
         post_close(program)
         expect("the exit status", program.end(END), 0)
-        self.compare(entries_in(self.kept.path.read_bytes()))
+        self.compare(entries_in(self.kept.path.read_bytes()), asks_of(self.engine))
         expect("the report in the end", numbers_in(program.output()), self.book.numbers())
 
 
