@@ -29,6 +29,7 @@ from cases.case import Differs, expect, expect_that
 from cases.conversations import report
 from cases.journals import Kept
 from cases.laboratory import Laboratory, post_close
+from cases.messages import seconds_since
 from cases.operating import is_program, raise_own_limit
 from cases.program import Program, Setup, numbers_in
 from killing.books import Book, entries_in, entries_kept
@@ -42,11 +43,12 @@ COUNT = 200
 UNDER_LOAD, AS_IT_CLOSES, AS_IT_STARTS = "under load", "as it closes", "as it starts"
 MOMENTS = {UNDER_LOAD: 75, AS_IT_CLOSES: 10, AS_IT_STARTS: 15}
 
-# In seconds: the longest load, from the close to the kill, and from the beginning of the process to the kill.
-LOAD, CLOSE, BEGINNING = 0.4, 0.8, 0.08
+# In seconds: the longest load, and the longest time from the close to the kill.
+LOAD, CLOSE = 0.4, 0.8
 
-# In seconds: the end of a connector that isn't killed.
-END = 15.0
+# In seconds: the most that a start takes, and the end of a connector that isn't killed. A program that was built without
+# a proof checks each entry as it runs, and is slow.
+START, END = 60.0, 60.0
 
 TOP = {"settle_ms": 20, "workers": 8, "journal": 4_000_000}
 
@@ -63,6 +65,8 @@ class Kills:
         self.kept = Kept(laboratory, setup)
         self.load = Load(setup, random.Random(seed))
         self.book = Book()
+        # In seconds: what the last start took.
+        self.started = 0.1
         # How many of each kind were compared.
         self.compared: Counter[str] = Counter()
 
@@ -77,7 +81,7 @@ class Kills:
         moment = chosen(self.generator, MOMENTS)
         if moment == AS_IT_STARTS:
             program = self.kept.start()
-            self.wait(BEGINNING)
+            self.wait(self.started)
             program.kill()
             return
         program = self.begin()
@@ -99,7 +103,10 @@ class Kills:
         """A connector that goes on from what lies there, and has all of it."""
         left = entries_kept(self.octets(self.kept.path), self.octets(self.kept.beside("log")))
         asks = asks_of(self.engine)
-        program = self.kept.serve()
+        start = time.monotonic()
+        program = self.kept.start()
+        program.await_listening(START)
+        self.started = seconds_since(start)
         text = self.octets(self.kept.path)
         entries = b"" if text is None else entries_in(text)
         expect_that(f"a start has {len(entries)} octets of entries, which do not begin with the {len(left)} that "
