@@ -271,6 +271,21 @@ def log_of_another_text(laboratory: Laboratory) -> None:
     close(program, bob=21)
 
 
+@case
+def log_of_a_later_text(laboratory: Laboratory) -> None:
+    """So it is where the log has no entry, but goes on from more entries than the journal has that was put back."""
+    kept = Kept(laboratory)
+    saved(kept, "k0")
+    earlier = kept.text()
+    saved(kept, "k1")
+    later = kept.text()
+    killed(kept)
+    kept.path.write_text(earlier)
+    kept.expect_refused(UNREAD, OF_ANOTHER_TEXT)
+    kept.path.write_text(later)
+    close(kept.serve(), bob=14)
+
+
 def log_text(kept: Kept, text: str, lines: list[str]) -> str:
     """A log of these lines that goes on from this text of the journal."""
     before = kept.path.read_bytes()
