@@ -183,7 +183,7 @@ def stopped_behind_a_save(laboratory: Laboratory) -> None:
     all of it, so a start passes it over and begins another in its place."""
     kept = Kept(laboratory)
     logs = []
-    for count in range(1, 4):
+    for count in range(1, 3):
         program = credited(kept, f"k{count}")
         logs.append(log_of(kept))
         close(program, bob=7 * count)
