@@ -15,9 +15,9 @@ use std::{fs, io};
 
 /// The file of a log, `J.log`. Of it nothing is claimed: what a file of the system does, no clause can say.
 ///
-/// The first call that fails is told by a line on standard error. A sync fails too where the file lies no
-/// more by its name, or has fewer octets than it was given: so a log that is removed or cut under a running
-/// connector is told.
+/// The first write, cut or sync that fails is told by a line on standard error, and so is each read that
+/// fails. A log that is removed or cut under a running connector is a failure too: a write finds that the
+/// file has all that it was given, and a sync that it lies there by its name.
 #[derive(Drop)]
 pub struct LogDevice<'r, R, F = File> {
     rt: &'r R,
@@ -47,11 +47,15 @@ impl<'r, R, F> LogDevice<'r, R, F> {
 }
 
 impl<R, F: Write + Seek> LogDevice<'_, R, F> {
-    /// Writes these octets from a place on. None is written where the file would have too many.
+    /// Writes these octets from a place on. None is written where the file would have too many, or has fewer
+    /// than it was given: past its end the write would leave NUL octets between.
     pub(crate) fn put(&mut self, at: u64, octets: &[u8]) -> io::Result<()> {
         let end = at.saturating_add(octets.len() as u64);
         if end > self.most {
             return Err(too_large());
+        }
+        if self.file.seek(SeekFrom::End(0))? < self.len {
+            return Err(io::Error::from(ErrorKind::UnexpectedEof));
         }
         self.file.seek(SeekFrom::Start(at))?;
         self.file.write_all(octets)?;

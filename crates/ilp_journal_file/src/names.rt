@@ -42,11 +42,11 @@ impl Names {
     {
         Ok(Names {
             journal: format!(in alloc; "{path}")?,
-            new: format!(in alloc; "{path}.new")?,
-            lock: format!(in alloc; "{path}.lock")?,
-            log: format!(in alloc; "{path}.log")?,
-            log_new: format!(in alloc; "{path}.log.new")?,
-            running: format!(in alloc; "{path}.running")?,
+            new: beside(alloc, path, ".new")?,
+            lock: beside(alloc, path, ".lock")?,
+            log: beside(alloc, path, ".log")?,
+            log_new: beside(alloc, path, ".log.new")?,
+            running: beside(alloc, path, ".running")?,
         })
     }
 
@@ -77,4 +77,11 @@ impl Names {
     pub(crate) fn sync_folder<R: Files>(&self, rt: &R) -> io::Result<()> {
         fs::open(rt, self.folder())?.sync_all()
     }
+}
+
+// The name of a file beside the journal at this path, by its ending.
+fn beside(alloc: Global, path: &str, ending: &str) -> Result<String, AllocError>
+    ensures { IfOk result (λ name. string_bytes name ≡ path.now ++ ending.now) }
+{
+    format!(in alloc; "{path}{ending}")
 }

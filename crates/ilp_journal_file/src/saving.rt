@@ -57,26 +57,44 @@ impl<F> JournalFile<F> {
         C: Content,
     {
         let mut reached = Reached::Nothing;
-        let mut last = match self.go_on(rt, alloc, content, &mut reached) {
+        match self.go_on_patiently(rt, alloc, content, &mut reached) {
             Ok(()) => {
-                self.end(rt, content.entries());
-                return Ok(());
+                journal_saved(rt, self.names.journal.as_str(), content.entries());
+                self.remove_log(rt);
+                Ok(())
             }
+            Err(last) => {
+                self.tell_unsaved(rt, reached, &last);
+                Err(FileFault::Unwritten)
+            }
+        }
+    }
+
+    // As `go_on`, and where that fails again each second for a minute. The error is the last one.
+    fn go_on_patiently<R, C>(
+        &self,
+        rt: &R,
+        alloc: Global,
+        content: &C,
+        reached: &mut Reached,
+    ) -> io::Result<()>
+    where
+        R: Files + Clock + Eprint,
+        C: Content,
+    {
+        let mut last = match self.go_on(rt, alloc, content, reached) {
+            Ok(()) => return Ok(()),
             Err(error) => error,
         };
         not_saved_yet(rt, self.names.journal.as_str(), &last);
         for _try in 0..TRIES {
             sleep(rt, Duration::from_secs(REST));
-            match self.go_on(rt, alloc, content, &mut reached) {
-                Ok(()) => {
-                    self.end(rt, content.entries());
-                    return Ok(());
-                }
+            match self.go_on(rt, alloc, content, reached) {
+                Ok(()) => return Ok(()),
                 Err(error) => last = error,
             }
         }
-        self.tell_unsaved(rt, reached, &last);
-        Err(FileFault::Unwritten)
+        Err(last)
     }
 
     // Goes on with a save from where it is: what has taken the journal's place is not written again.
@@ -116,11 +134,5 @@ impl<F> JournalFile<F> {
             Reached::Nothing => not_saved(rt, path, self.names.new.as_str(), log, last),
             Reached::Name => not_synced(rt, path, log, last),
         }
-    }
-
-    // Removes the log, of which the journal has all. It is saved with so many entries.
-    fn end<R: Files + Clock + Eprint>(&self, rt: &R, entries: u32) {
-        journal_saved(rt, self.names.journal.as_str(), entries);
-        self.remove_log(rt);
     }
 }

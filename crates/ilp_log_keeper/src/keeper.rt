@@ -48,6 +48,7 @@ impl<J: Naming, K: LogNaming, D: Device + Drop, R: Wait> Keeper<J> for LogKeeper
     }
 
     fn keep(&mut self, receipt: &mut JournalReceipt<J>) -> Result<(), NotKept>
+        ensures seen { IsPrefix receipt.old receipt.new }
         ensures kept { D.claims
             → OnOk result (HasTold (lines_of K.form receipt.old) self.new.told) }
     {

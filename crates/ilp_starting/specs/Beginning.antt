@@ -1,5 +1,5 @@
 -- What book a connector begins with, and why it begins with none.
-use Rattle.std.specs.Prelude.{◌≡◌, ◌≢◌, ◌⊎◌, ℕ, ◌+◌, ℤ, List, [], Option, Some, None, codes}
+use Rattle.std.specs.Prelude.{◌≡◌, ◌⊎◌, ℕ, ◌+◌, ◌-◌, ◌^◌, min, ℤ, List, [], Option, Some, None, codes}
 use Rattle.sha2.specs.Sha256.{sha256}
 use Rattle.ilp_accounts.specs.Configuration.{Configuration}
 use Rattle.ilp_line_file.specs.Text.{text_of}
@@ -7,7 +7,6 @@ use Rattle.ilp_book.specs.Book.{PlainBook, new_book}
 use Rattle.ilp_book.specs.Carry.{IsCarriedOver, IsWhyNotCarried}
 use Rattle.ilp_book.specs.Recover.{IsRecovered, IsWhyNotRecovered}
 use Rattle.ilp_rules.specs.declared.fault.CarryFault.{CarryFault}
-use Rattle.ilp_rules.specs.declared.fault.CarryFault.TheVariants as carry_fault
 use Rattle.ilp_rules.specs.declared.fault.RecoverFault.{RecoverFault}
 use Rattle.ilp_rules.specs.declared.fault.RecoverFault.TheVariants as recover_fault
 use Rattle.ilp_log_text.specs.Text.{PlainLogText, IsLogText, IsBadHead, IsIn}
@@ -57,21 +56,25 @@ BeginsWithLog C text log now book =
     (GoesOn log text × IsRecovered C (saved_or_none text) (text_of log.lines) now book) ⊎
     ((¬ GoesOn log text) × HasLog log text × BeginsWith C text now book)
 
--- the refusal that names a fault: a bad line of what was logged stands behind the two lines of the log's head
+-- the number of a logged line in the log's file, where it stands behind the two lines of the head; and at most the greatest one
+abbrev pub in_log : ℕ → ℕ
+in_log line = min (line + 2) (2 ^ 64 - 1)
+
+-- the refusal that names a fault
 abbrev pub recover_refusal : RecoverFault → Refusal
 recover_refusal (recover_fault.BadJournalText line) = refusals.BadJournalText line
-recover_refusal (recover_fault.BadLogLine line) = refusals.BadJournalText (line + 2)
+recover_refusal (recover_fault.BadLogLine line) = refusals.BadJournalText (in_log line)
 recover_refusal (recover_fault.Unlawful entry rule) = refusals.Unlawful entry
 recover_refusal recover_fault.Memory = refusals.Memory
 
 -- the refusal names why text and lines are not recovered
-abbrev pub IsWhyNotRecoveredBy : Configuration → Option (List ℕ) → List ℕ → Refusal → Type 0
-IsWhyNotRecoveredBy C text lines refusal = (fault : RecoverFault) × IsWhyNotRecovered C (saved_or_none text) lines fault × (refusal ≡ recover_refusal fault)
+abbrev pub IsWhyNotRecoveredBy : Configuration → List ℕ → List ℕ → Refusal → Type 0
+IsWhyNotRecoveredBy C saved lines refusal = (fault : RecoverFault) × IsWhyNotRecovered C saved lines fault × (refusal ≡ recover_refusal fault)
 
 -- why there is no book of a text and a log: the log is of neither kind; or it is of one, and there is no book for that reason
 abbrev pub IsWhyNotBegunWithLog : Configuration → Option (List ℕ) → PlainLogText → Refusal → Type 0
 IsWhyNotBegunWithLog C text log refusal =
-    (GoesOn log text × IsWhyNotRecoveredBy C text (text_of log.lines) refusal) ⊎
+    (GoesOn log text × IsWhyNotRecoveredBy C (saved_or_none text) (text_of log.lines) refusal) ⊎
     ((¬ GoesOn log text) × HasLog log text × IsWhyNotBegun C text refusal) ⊎
     ((¬ GoesOn log text) × (¬ HasLog log text) × (refusal ≡ refusals.JournalUnread))
 

@@ -1,19 +1,13 @@
 //! The book that a connector begins with.
-ghost use Rattle.std.specs.Prelude.{◌≡◌, length, option_map, IfOk, IfErr};
+ghost use Rattle.std.specs.Prelude.{◌≡◌, length, option_map, Some, None, IfOk, IfErr};
 ghost use Rattle.ilp_book.specs.Book.{new_book};
+ghost use Rattle.ilp_book.specs.Carry.{IsCarriedOver};
 ghost use Rattle.ilp_book.specs.Recover.{IsRecovered};
-ghost use Rattle.ilp_refusals.specs.declared.refusal.Refusal.TheVariants as refusals;
-ghost use Rattle.ilp_starting.specs.Beginning.{
-  BeginsBy,
-  BeginsWith,
-  BeginsWithLog,
-  IsWhyNotBegun,
-  IsWhyNotBegunBy,
-  IsWhyNotBegunWithLog,
-  IsWhyNotRecoveredBy,
-  saved_or_none,
-};
 ghost use Rattle.ilp_line_file.specs.Text.{text_of};
+ghost use Rattle.ilp_refusals.specs.declared.refusal.Refusal.TheVariants as refusals;
+ghost use Rattle.ilp_starting.specs.Beginning.{BeginsBy, BeginsWith, BeginsWithLog, IsWhyNotBegun};
+ghost use Rattle.ilp_starting.specs.Beginning.{IsWhyNotBegunBy, IsWhyNotBegunWithLog};
+ghost use Rattle.ilp_starting.specs.Beginning.{IsWhyNotRecoveredBy};
 
 use crate::not_carried::{bad_head, not_carried, not_recovered, of_another_text};
 use crate::refused::Refused;
@@ -58,46 +52,19 @@ pub fn book_of(
     log: Option<&[u8]>,
     now: i64,
 ) -> Result<Carried, Refused>
-    ensures begins { IfOk result (λ c. BeginsBy config.now (option_map (λ t. t.now) text)
-        (option_map (λ t. t.now) log) now c.book) }
-    ensures refused { IfErr result (λ r. IsWhyNotBegunBy config.now (option_map (λ t. t.now) text)
-        (option_map (λ t. t.now) log) r.refusal) }
+    ensures begins { IfOk result (λ c. BeginsBy config.now (option_map (λ t. t.now) text.entry)
+        (option_map (λ t. t.now) log.entry) now c.book) }
+    ensures refused { IfErr result (λ r. IsWhyNotBegunBy config.now (option_map (λ t. t.now) text.entry)
+        (option_map (λ t. t.now) log.entry) r.refusal) }
     ensures config { IfOk result (λ c. c.book.config ≡ config.now) }
     ensures opening { IfOk result (λ c. length c.book.entries ≡ c.book.base) }
 {
     let Some(octets) = log else {
-        return saved_book(alloc, config, path, text, Source::Saved, now);
+        return saved_book(alloc, config, path, text, now);
     };
     match LogText::read(octets) {
         Ok(log) => logged_book(alloc, config, path, text, &log, now),
         Err(bad) => Err(bad_head(alloc, path, bad)),
-    }
-}
-
-// The book of a journal's text and of a log that was read.
-fn logged_book(
-    alloc: Global,
-    config: &Config,
-    path: &str,
-    text: Option<&[u8]>,
-    log: &LogText<'_>,
-    now: i64,
-) -> Result<Carried, Refused>
-    ensures begins { IfOk result (λ c. BeginsWithLog config.now (option_map (λ t. t.now) text)
-        log.now now c.book) }
-    ensures refused { IfErr result (λ r. IsWhyNotBegunWithLog config.now
-        (option_map (λ t. t.now) text) log.now r.refusal) }
-    ensures config { IfOk result (λ c. c.book.config ≡ config.now) }
-    ensures opening { IfOk result (λ c. length c.book.entries ≡ c.book.base) }
-{
-    if log.is_of(text.unwrap_or(&[])) {
-        return recovered_book(alloc, config, path, text, log, now);
-    }
-    match text {
-        Some(later) if log.is_in(later) => {
-            saved_book(alloc, config, path, text, Source::OlderLog, now)
-        }
-        _ => Err(of_another_text(alloc, path)),
     }
 }
 
@@ -107,20 +74,109 @@ fn saved_book(
     config: &Config,
     path: &str,
     text: Option<&[u8]>,
-    source: Source,
     now: i64,
 ) -> Result<Carried, Refused>
-    ensures begins { IfOk result (λ c. BeginsWith config.now (option_map (λ t. t.now) text) now
+    ensures begins { IfOk result (λ c. BeginsWith config.now (option_map (λ t. t.now) text.entry) now
         c.book) }
-    ensures refused { IfErr result (λ r. IsWhyNotBegun config.now (option_map (λ t. t.now) text)
+    ensures refused { IfErr result (λ r. IsWhyNotBegun config.now (option_map (λ t. t.now) text.entry)
         r.refusal) }
     ensures config { IfOk result (λ c. c.book.config ≡ config.now) }
     ensures opening { IfOk result (λ c. length c.book.entries ≡ c.book.base) }
 {
-    let Some(text) = text else {
-        let book = new_book(alloc, config)?;
-        return Ok(Carried { book, source });
-    };
+    if let Some(text) = text {
+        return carried_book(alloc, config, path, text, Source::Saved, now);
+    }
+    match new_book(alloc, config) {
+        Ok(book) => Ok(Carried {
+            book,
+            source: Source::Saved,
+        }),
+        Err(refused) => Err(refused),
+    }
+}
+
+// The book of a log that was read, and of a journal's text, where there is one.
+fn logged_book(
+    alloc: Global,
+    config: &Config,
+    path: &str,
+    text: Option<&[u8]>,
+    log: &LogText<'_>,
+    now: i64,
+) -> Result<Carried, Refused>
+    ensures begins { IfOk result (λ c. BeginsWithLog config.now (option_map (λ t. t.now) text.entry)
+        log.now now c.book) }
+    ensures refused { IfErr result (λ r. IsWhyNotBegunWithLog config.now
+        (option_map (λ t. t.now) text.entry) log.now r.refusal) }
+    ensures config { IfOk result (λ c. c.book.config ≡ config.now) }
+    ensures opening { IfOk result (λ c. length c.book.entries ≡ c.book.base) }
+{
+    match text {
+        Some(text) => book_beside(alloc, config, path, text, log, now),
+        None => book_without(alloc, config, path, log, now),
+    }
+}
+
+// The book of a log that lies beside this text of the journal.
+fn book_beside(
+    alloc: Global,
+    config: &Config,
+    path: &str,
+    text: &[u8],
+    log: &LogText<'_>,
+    now: i64,
+) -> Result<Carried, Refused>
+    ensures begins { IfOk result (λ c. BeginsWithLog config.now (Some text.now) log.now now c.book) }
+    ensures refused { IfErr result
+        (λ r. IsWhyNotBegunWithLog config.now (Some text.now) log.now r.refusal) }
+    ensures config { IfOk result (λ c. c.book.config ≡ config.now) }
+    ensures opening { IfOk result (λ c. length c.book.entries ≡ c.book.base) }
+{
+    if log.is_of(text) {
+        recovered_book(alloc, config, path, text, log, now)
+    } else if log.is_in(text) {
+        carried_book(alloc, config, path, text, Source::OlderLog, now)
+    } else {
+        Err(of_another_text(alloc, path))
+    }
+}
+
+// The book of a log beside which there is no journal.
+fn book_without(
+    alloc: Global,
+    config: &Config,
+    path: &str,
+    log: &LogText<'_>,
+    now: i64,
+) -> Result<Carried, Refused>
+    ensures begins { IfOk result (λ c. BeginsWithLog config.now None log.now now c.book) }
+    ensures refused { IfErr result
+        (λ r. IsWhyNotBegunWithLog config.now None log.now r.refusal) }
+    ensures config { IfOk result (λ c. c.book.config ≡ config.now) }
+    ensures opening { IfOk result (λ c. length c.book.entries ≡ c.book.base) }
+{
+    if log.is_of(&[]) {
+        recovered_book(alloc, config, path, NO_ENTRIES, log, now)
+    } else {
+        Err(of_another_text(alloc, path))
+    }
+}
+
+// The book of a journal's text.
+fn carried_book(
+    alloc: Global,
+    config: &Config,
+    path: &str,
+    text: &[u8],
+    source: Source,
+    now: i64,
+) -> Result<Carried, Refused>
+    ensures begins { IfOk result (λ c. IsCarriedOver config.now text.now now c.book) }
+    ensures refused { IfErr result
+        (λ r. IsWhyNotBegun config.now (Some text.now) r.refusal) }
+    ensures config { IfOk result (λ c. c.book.config ≡ config.now) }
+    ensures opening { IfOk result (λ c. length c.book.entries ≡ c.book.base) }
+{
     match Book::carry_over(alloc, config, text, now) {
         Ok(book) => Ok(Carried { book, source }),
         Err(fault) => Err(not_carried(alloc, path, text, fault)),
@@ -132,18 +188,17 @@ fn recovered_book(
     alloc: Global,
     config: &Config,
     path: &str,
-    text: Option<&[u8]>,
+    saved: &[u8],
     log: &LogText<'_>,
     now: i64,
 ) -> Result<Carried, Refused>
-    ensures begins { IfOk result (λ c. IsRecovered config.now
-        (saved_or_none (option_map (λ t. t.now) text)) (text_of log.now.lines) now c.book) }
-    ensures refused { IfErr result (λ r. IsWhyNotRecoveredBy config.now
-        (option_map (λ t. t.now) text) (text_of log.now.lines) r.refusal) }
+    ensures begins { IfOk result
+        (λ c. IsRecovered config.now saved.now (text_of log.now.lines) now c.book) }
+    ensures refused { IfErr result
+        (λ r. IsWhyNotRecoveredBy config.now saved.now (text_of log.now.lines) r.refusal) }
     ensures config { IfOk result (λ c. c.book.config ≡ config.now) }
     ensures opening { IfOk result (λ c. length c.book.entries ≡ c.book.base) }
 {
-    let saved = text.unwrap_or(NO_ENTRIES);
     match Book::recover(alloc, config, saved, log.lines(), now) {
         Ok(book) => {
             let source = Source::Logged {

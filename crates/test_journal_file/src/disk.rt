@@ -19,7 +19,14 @@ pub(crate) const RUNNING: &str = "journal.running";
 
 pub(crate) const NEW: &str = "journal.new";
 
-const NAMES: [&str; 4] = [JOURNAL, LOCK, RUNNING, NEW];
+pub(crate) const LOG: &str = "journal.log";
+
+pub(crate) const LOG_NEW: &str = "journal.log.new";
+
+/// Where Linux says what a process may have.
+pub(crate) const LIMITS: &str = "/proc/self/limits";
+
+const NAMES: [&str; 7] = [JOURNAL, LOCK, RUNNING, NEW, LOG, LOG_NEW, LIMITS];
 
 // The folder's own name.
 const FOLDER: &str = ".";
@@ -50,8 +57,22 @@ struct Content {
     kept: Vec<u8>,
 }
 
+impl Content {
+    // Writes octets from a place on, behind zeros where that lies past the end.
+    fn write(&mut self, alloc: Global, at: usize, octets: &[u8]) -> io::Result<()> {
+        let before = self.now.get(..at).unwrap_or(&self.now);
+        let behind = self.now.get(at.saturating_add(octets.len())..);
+        let mut now = Vec::from_slice(alloc, before)?;
+        now.resize(at, 0)?;
+        now.extend_from_slice(octets)?;
+        now.extend_from_slice(behind.unwrap_or(&[]))?;
+        self.now = now;
+        Ok(())
+    }
+}
+
 // Which content each name has, if it has one.
-type Folder = [Option<usize>; 4];
+type Folder = [Option<usize>; 7];
 
 #[derive(Drop)]
 struct State {
@@ -199,8 +220,8 @@ impl Disk {
             alloc,
             state: RefCell::new(State {
                 alloc,
-                now: [None; 4],
-                kept: [None; 4],
+                now: [None; 7],
+                kept: [None; 7],
                 contents: Vec::new(alloc),
                 calls: 0,
                 faults,
@@ -230,6 +251,21 @@ impl Disk {
             content.kept = Vec::from_slice(alloc, text)?;
         }
         state.sync(None)
+    }
+
+    /// Takes a file away, as somebody else does. No call is counted.
+    pub(crate) fn take_away(&self, path: &str) -> io::Result<()> {
+        self.state()?.name(path, None)
+    }
+
+    /// Cuts a file to a length, as somebody else does. No call is counted.
+    pub(crate) fn cut(&self, path: &str, len: usize) -> io::Result<()> {
+        let mut state = self.state()?;
+        let content = state.content_of(path)?;
+        if let Some(content) = state.contents.get_mut(content) {
+            content.now.truncate(len);
+        }
+        Ok(())
     }
 
     /// What a file has, or nothing where it isn't there.
@@ -393,10 +429,12 @@ impl Write for Handle<'_> {
     fn write(&mut self, octets: &[u8]) -> io::Result<usize> {
         let mut state = self.disk.state()?;
         state.call()?;
+        let alloc = state.alloc;
         let content = self.content.ok_or(unsupported())?;
         let content = state.contents.get_mut(content).ok_or(absent())?;
         let count = octets.len().min(PIECE);
-        content.now.extend_from_slice(&octets[..count])?;
+        content.write(alloc, self.at, &octets[..count])?;
+        self.at = self.at.saturating_add(count);
         Ok(count)
     }
 
@@ -406,8 +444,17 @@ impl Write for Handle<'_> {
 }
 
 impl Seek for Handle<'_> {
-    fn seek(&mut self, _to: SeekFrom) -> io::Result<u64> {
-        Err(unsupported())
+    fn seek(&mut self, to: SeekFrom) -> io::Result<u64> {
+        let mut state = self.disk.state()?;
+        state.call()?;
+        let content = self.content.ok_or(unsupported())?;
+        let content = state.contents.get(content).ok_or(absent())?;
+        self.at = match to {
+            SeekFrom::Start(at) => usize::try_from(at).unwrap_or(usize::MAX),
+            SeekFrom::End(0) => content.now.len(),
+            _ => return Err(unsupported()),
+        };
+        Ok(self.at as u64)
     }
 }
 
@@ -416,8 +463,14 @@ impl OpenFile for Handle<'_> {
         Err(unsupported())
     }
 
-    fn set_len(&self, _size: u64) -> io::Result<()> {
-        Err(unsupported())
+    fn set_len(&self, size: u64) -> io::Result<()> {
+        let mut state = self.disk.state()?;
+        state.call()?;
+        let content = self.content.ok_or(unsupported())?;
+        let content = state.contents.get_mut(content).ok_or(absent())?;
+        let size = usize::try_from(size).unwrap_or(usize::MAX);
+        content.now.resize(size, 0)?;
+        Ok(())
     }
 
     fn sync_all(&self) -> io::Result<()> {
@@ -427,7 +480,7 @@ impl OpenFile for Handle<'_> {
     }
 
     fn sync_data(&self) -> io::Result<()> {
-        Err(unsupported())
+        self.sync_all()
     }
 }
 

@@ -4,11 +4,14 @@
 //! What the disk has after each run is what a machine that stops there finds at its next start: so a disk
 //! that fails from a call on shows each sudden stop.
 //!
-//! - The journal is at each moment the old text or the new one, as a whole.
-//! - The mark of a run goes only once the device has the new text under the journal's name.
+//! - The journal is at each moment the text of before or that of the run, as a whole.
+//! - The log has at each moment its head and a beginning of what was appended, and all that was told to be
+//!   on the disk. What it has besides is no whole line.
+//! - A log goes, or makes way for another, only once the device has what it has by the journal's name.
 //! - A run is told to be saved, or not to be, just as the journal is.
 //! - An old journal is read, and what is remembered is a front of what was written.
 //! - A journal that another has, or that was not saved, is refused, and nothing is changed.
+//! - A log that somebody removes or cuts, or that would become too large, takes no more lines.
 //! - The same of a book that a run begins with, credits, prints and saves (`ilp_starting::BookFile`); it is
 //!   saved also where nothing can be printed.
 #![tactic(auto)]

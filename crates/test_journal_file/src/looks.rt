@@ -1,6 +1,7 @@
 //! Looks at what a disk has.
 
 use crate::disk::{Disk, When};
+use ilp_line_file::end_of;
 use std::io;
 
 /// Whether a file is there with just this text.
@@ -14,4 +15,9 @@ pub(crate) fn has(disk: &Disk, name: &str, when: When, text: &[u8]) -> io::Resul
 /// Whether a file is there.
 pub(crate) fn is_there(disk: &Disk, name: &str, when: When) -> io::Result<bool> {
     Ok(disk.text(name, when)?.is_some())
+}
+
+/// The whole lines that a file has.
+pub(crate) fn lines_of(text: &[u8]) -> &[u8] {
+    &text[..end_of(text)]
 }

@@ -1,9 +1,14 @@
 //! Runs over a disk.
 
-use crate::disk::{Disk, Faults, Handle, JOURNAL, LOCK, Machine, NEVER, NEW, RUNNING, When};
-use crate::looks::{has, is_there};
+ghost use Rattle.ilp_line_file.specs.Text.{IsText};
+
+use crate::disk::{
+    Disk, Faults, Handle, JOURNAL, LIMITS, LOCK, LOG, LOG_NEW, Machine, NEVER, NEW, RUNNING, When,
+};
+use crate::looks::{has, is_there, lines_of};
 use ilp_io::{Sink, WriteFault, put_all};
-use ilp_journal_file::{Content, FileFault, JournalFile, look_at};
+use ilp_journal_file::{Content, FileFault, JournalFile, LogDevice, look_at};
+use ilp_line_file::{DeviceFault, LineFile};
 use std::alloc::Global;
 use std::io;
 use std::process::Abort;
@@ -11,92 +16,160 @@ use std::test::Fail;
 
 const OLD_TEXT: &[u8] = b"the text that an earlier run has saved";
 
+const START_TEXT: &[u8] = b"that text, and behind it what the log of a run that stopped has";
+
 const NEW_TEXT: &[u8] = b"the text of this run, which is written in several pieces";
+
+const OLD_LOG: &[u8] = b"the head of a run that stopped\nan entry of it\nand an unfini";
+
+const HEAD: &[u8] = b"the head of this run\n";
+
+// What is appended to a log, one after the other.
+const LINES: [&[u8]; 3] = [
+    b"an entry\n",
+    b"two entries at once\nand with one sync\n",
+    b"the last entry\n",
+];
+
+// A log with all of them.
+const WHOLE_LOG: &[u8] =
+    b"the head of this run\nan entry\ntwo entries at once\nand with one sync\nthe last entry\n";
 
 const REMEMBERED: &[u8] = b"what is to be remembered";
 
 // More calls than a run makes.
-const MOST_CALLS: u32 = 400;
+const MOST_CALLS: u32 = 600;
 
-// All that is saved of a run.
-#[derive(Drop)]
-struct Text;
+// A text that is saved.
+#[derive(Clone, Copy)]
+struct Text(&'static [u8]);
 
 impl Content for Text {
-    ghost use Rattle.test_journal_file.specs.declared.tests.TheConstants.{NEW_TEXT};
-
-    ghost text = { λ _. NEW_TEXT.now };
+    ghost text = { λ text. text.0.now };
 
     fn entries(&self) -> u32 {
         7
     }
 
     fn put<W: Sink>(&self, sink: &mut W) -> Result<(), WriteFault> {
-        put_all(sink, NEW_TEXT)
+        put_all(sink, self.0)
     }
+}
+
+// What a run begins with.
+#[derive(Clone, Copy, PartialEq, Eq, Debug)]
+enum Begins {
+    // The journal alone.
+    Saved,
+    // The journal, and the log of a run that stopped.
+    Stopped,
 }
 
 // How far a run came.
 #[derive(Clone, Copy, PartialEq, Eq, Debug)]
-enum Came {
-    Nowhere,
-    // The mark was made.
-    Marked,
-    Saved,
+struct Came {
+    // How many octets its log has for sure, once it was begun.
+    kept: Option<usize>,
+    is_saved: bool,
 }
 
+const NOWHERE: Came = Came {
+    kept: None,
+    is_saved: false,
+};
+
+type Log<'d> = LineFile<LogDevice<'d, Machine<'d>, Handle<'d>>>;
+
 // A run from its start to its end, over the disk of a machine.
-fn run(machine: Machine<'_>, alloc: Global) -> Came {
-    let Ok(file) = JournalFile::take(&machine, alloc, JOURNAL) else {
-        return Came::Nowhere;
+fn run<'d>(machine: &'d Machine<'d>, alloc: Global) -> Came {
+    let Ok(file) = JournalFile::take(machine, alloc, JOURNAL) else {
+        return NOWHERE;
     };
-    match begin(machine, alloc, &file) {
-        Ok(()) => match file.save(&machine, alloc, &Text) {
-            Ok(()) => Came::Saved,
-            Err(_) => Came::Marked,
-        },
-        Err(_) => Came::Nowhere,
+    let Ok(mut log) = begin(machine, alloc, &file) else {
+        return NOWHERE;
+    };
+    for lines in LINES {
+        if append(&mut log, lines).is_err() {
+            break;
+        }
+    }
+    Came {
+        kept: Some(log.end),
+        is_saved: file.save(machine, alloc, &Text(NEW_TEXT)).is_ok(),
     }
 }
 
 // What a run does before it serves.
-fn begin(
-    machine: Machine<'_>,
+fn begin<'d>(
+    machine: &'d Machine<'d>,
     alloc: Global,
-    file: &JournalFile<Handle<'_>>,
-) -> Result<(), FileFault> {
-    file.read(&machine, alloc)?;
-    file.remember(&machine, alloc, REMEMBERED)?;
-    file.mark(&machine, alloc, "r1", 3)
+    file: &JournalFile<Handle<'d>>,
+) -> Result<Log<'d>, FileFault> {
+    file.read(machine, alloc)?;
+    if file.read_log(machine, alloc)?.is_some() {
+        file.save_at_start(machine, alloc, &Text(START_TEXT))?;
+    }
+    file.remember(machine, alloc, REMEMBERED)?;
+    let device = file.begin_log(machine, alloc, HEAD)?;
+    Ok(LineFile {
+        device,
+        end: HEAD.len(),
+    })
 }
 
-// A disk with the journal of an earlier run.
-fn old_disk(alloc: Global, faults: Faults) -> io::Result<Disk> {
+// Appends lines to a log, which is never so long that they have no room behind it.
+fn append(log: &mut Log<'_>, lines: &[u8]) -> Result<(), DeviceFault>
+    requires { IsText lines.now }
+{
+    if log.end >= usize::MAX - lines.len() {
+        return Err(DeviceFault::Failed);
+    }
+    log.append(lines)
+}
+
+// A disk as an earlier run left it.
+fn old_disk(alloc: Global, begins: Begins, faults: Faults) -> io::Result<Disk> {
     let disk = Disk::new(alloc, faults);
     disk.put(JOURNAL, OLD_TEXT)?;
+    if begins == Begins::Stopped {
+        disk.put(LOG, OLD_LOG)?;
+    }
     Ok(disk)
 }
 
 #[test]
 fn each_call_fails_once(rt: HostRuntime) -> Result<(), Fail> {
-    fail_each(&rt, 1)
+    fail_each(&rt, Begins::Saved, 1)
 }
 
 #[test]
 fn the_machine_stops_at_each_call(rt: HostRuntime) -> Result<(), Fail> {
-    fail_each(&rt, u32::MAX)
+    fail_each(&rt, Begins::Saved, u32::MAX)
+}
+
+#[test]
+fn each_call_behind_a_stop_fails_once(rt: HostRuntime) -> Result<(), Fail> {
+    fail_each(&rt, Begins::Stopped, 1)
+}
+
+#[test]
+fn the_machine_stops_again_at_each_call(rt: HostRuntime) -> Result<(), Fail> {
+    fail_each(&rt, Begins::Stopped, u32::MAX)
 }
 
 // Runs with so many calls that fail, from each call on.
-fn fail_each(rt: &(impl Abort + AllocGlobal), count: u32) -> Result<(), Fail> {
+fn fail_each(rt: &(impl Abort + AllocGlobal), begins: Begins, count: u32) -> Result<(), Fail> {
     for first in 0..MOST_CALLS {
-        let disk = old_disk(rt.alloc(), Faults { first, count })?;
-        let came = run(Machine(&disk), rt.alloc());
-        expect_whole(rt, &disk)?;
-        expect_marked(rt, &disk, came)?;
+        let disk = old_disk(rt.alloc(), begins, Faults { first, count })?;
+        let came = run(&Machine(&disk), rt.alloc());
+        for when in [When::Now, When::Stopped] {
+            expect_whole(rt, &disk, begins, when)?;
+            expect_logged(rt, &disk, begins, when, came)?;
+        }
+        expect_ended(rt, &disk, came)?;
         expect_told(rt, &disk)?;
         if disk.calls()? <= first {
-            assert_eq!(rt; came, Came::Saved);
+            expect_all(rt, &disk, came)?;
             return Ok(());
         }
     }
@@ -104,42 +177,82 @@ fn fail_each(rt: &(impl Abort + AllocGlobal), count: u32) -> Result<(), Fail> {
     Ok(())
 }
 
-// The journal is the old text or the new one, and what is remembered is a front of what was written.
-fn expect_whole(rt: &impl Abort, disk: &Disk) -> io::Result<()> {
-    for when in [When::Now, When::Stopped] {
-        assert!(rt; has(disk, JOURNAL, when, OLD_TEXT)? || has(disk, JOURNAL, when, NEW_TEXT)?);
-        if let Some(text) = disk.text(LOCK, when)? {
-            assert!(rt; REMEMBERED.starts_with(&text));
-        }
+// The journal is a whole text, and what is remembered is a front of what was written.
+fn expect_whole(rt: &impl Abort, disk: &Disk, begins: Begins, when: When) -> io::Result<()> {
+    let is_old = has(disk, JOURNAL, when, OLD_TEXT)? || has(disk, JOURNAL, when, NEW_TEXT)?;
+    let goes_on = begins == Begins::Stopped && has(disk, JOURNAL, when, START_TEXT)?;
+    assert!(rt; is_old || goes_on);
+    if let Some(text) = disk.text(LOCK, when)? {
+        assert!(rt; REMEMBERED.starts_with(&text));
     }
     Ok(())
 }
 
-// Where a mark was made and is gone, the device has the new text.
-fn expect_marked(rt: &impl Abort, disk: &Disk, came: Came) -> io::Result<()> {
-    let (now, stopped) = (
-        is_there(disk, RUNNING, When::Now)?,
-        is_there(disk, RUNNING, When::Stopped)?,
-    );
+// Each entry that was told to be on the disk is there: in the log, or in the journal where the log is gone.
+fn expect_logged(
+    rt: &impl Abort,
+    disk: &Disk,
+    begins: Begins,
+    when: When,
+    came: Came,
+) -> io::Result<()> {
     let is_saved = has(disk, JOURNAL, When::Stopped, NEW_TEXT)?;
-    match came {
-        Came::Nowhere => assert!(rt; has(disk, JOURNAL, When::Now, OLD_TEXT)?),
-        Came::Marked => assert!(rt; (now && stopped) || is_saved),
-        Came::Saved => assert!(rt; is_saved && !now && !stopped),
+    let Some(log) = disk.text(LOG, when)? else {
+        assert!(rt; is_saved || (came.kept.is_none() && begins == Begins::Saved));
+        return Ok(());
+    };
+    if begins == Begins::Stopped {
+        if came.kept.is_none() && log.as_slice() == OLD_LOG {
+            return Ok(());
+        }
+        assert!(rt; is_saved || has(disk, JOURNAL, When::Stopped, START_TEXT)?);
+    }
+    let lines = lines_of(&log);
+    assert!(rt; WHOLE_LOG.starts_with(lines));
+    assert!(rt; lines.len() >= came.kept.unwrap_or(HEAD.len()));
+    Ok(())
+}
+
+// A run that was saved has the new journal on the device, and no log but where a line says so.
+fn expect_ended(rt: &impl Abort, disk: &Disk, came: Came) -> io::Result<()> {
+    if came.kept.is_none() {
+        assert!(rt; !has(disk, JOURNAL, When::Now, NEW_TEXT)?);
+    }
+    if came.is_saved {
+        assert!(rt; has(disk, JOURNAL, When::Stopped, NEW_TEXT)?);
+        let (now, stopped) = (
+            is_there(disk, LOG, When::Now)?,
+            is_there(disk, LOG, When::Stopped)?,
+        );
+        assert!(rt; (!now && !stopped) || disk.has_told("the next start removes it")?);
+    } else {
+        assert!(rt; is_there(disk, LOG, When::Now)? || came.kept.is_none());
     }
     Ok(())
 }
 
 // What lines say of the journal is so.
 fn expect_told(rt: &impl Abort, disk: &Disk) -> io::Result<()> {
-    if disk.has_told("not saved:")? {
-        assert!(rt; has(disk, JOURNAL, When::Now, OLD_TEXT)?);
+    if disk.has_told("not saved:")? || disk.has_told("nothing is lost")? {
+        assert!(rt; !has(disk, JOURNAL, When::Now, NEW_TEXT)?);
     }
     if disk.has_told("it is the new one")? {
         assert!(rt; has(disk, JOURNAL, When::Now, NEW_TEXT)?);
+        assert!(rt; is_there(disk, LOG, When::Now)?);
     }
-    if disk.has_told("saved with 7 entries")? {
+    if disk.has_told("saved with 7 entries")? || disk.has_told("the next start removes it")? {
         assert!(rt; has(disk, JOURNAL, When::Stopped, NEW_TEXT)?);
+    }
+    Ok(())
+}
+
+// A run in which no call failed leaves the journal and what is remembered, and nothing else.
+fn expect_all(rt: &impl Abort, disk: &Disk, came: Came) -> io::Result<()> {
+    assert_eq!(rt; came.kept, Some(WHOLE_LOG.len()));
+    assert!(rt; came.is_saved);
+    assert!(rt; has(disk, LOCK, When::Stopped, REMEMBERED)?);
+    for name in [LOG, LOG_NEW, NEW, RUNNING] {
+        assert!(rt; !is_there(disk, name, When::Stopped)?);
     }
     Ok(())
 }
@@ -148,22 +261,24 @@ fn expect_told(rt: &impl Abort, disk: &Disk) -> io::Result<()> {
 
 #[test]
 fn an_old_journal_is_read(rt: HostRuntime) -> Result<(), Fail> {
-    let disk = old_disk(rt.alloc(), NEVER)?;
+    let disk = old_disk(rt.alloc(), Begins::Stopped, NEVER)?;
     let machine = Machine(&disk);
     let found = look_at(&machine, rt.alloc(), JOURNAL)?;
     assert!(rt; found.text.is_some_and(|text| text.as_slice() == OLD_TEXT));
+    assert!(rt; found.log.is_some_and(|text| text.as_slice() == OLD_LOG));
     assert!(rt; found.remembered.is_empty());
     assert!(rt; !is_there(&disk, LOCK, When::Now)?);
-    assert_eq!(rt; run(machine, rt.alloc()), Came::Saved);
+    assert!(rt; run(&machine, rt.alloc()).is_saved);
     let found = look_at(&machine, rt.alloc(), JOURNAL)?;
     assert!(rt; found.text.is_some_and(|text| text.as_slice() == NEW_TEXT));
+    assert!(rt; found.log.is_none());
     assert!(rt; found.remembered.as_slice() == REMEMBERED);
     Ok(())
 }
 
 #[test]
 fn what_another_has_is_refused(rt: HostRuntime) -> Result<(), Fail> {
-    let mut disk = old_disk(rt.alloc(), NEVER)?;
+    let mut disk = old_disk(rt.alloc(), Begins::Stopped, NEVER)?;
     disk.put(LOCK, REMEMBERED)?;
     disk.is_locked = true;
     expect_refused(&rt, &disk, "another connector has it")
@@ -171,12 +286,15 @@ fn what_another_has_is_refused(rt: HostRuntime) -> Result<(), Fail> {
 
 #[test]
 fn what_was_not_saved_is_refused(rt: HostRuntime) -> Result<(), Fail> {
-    let disk = old_disk(rt.alloc(), NEVER)?;
-    disk.put(RUNNING, b"run r1, begun with 3 entries\n")?;
-    expect_refused(&rt, &disk, "says \"run r1, begun with 3 entries\"")
+    let mark = b"run r1, begun with 3 entries\n";
+    let disk = old_disk(rt.alloc(), Begins::Stopped, NEVER)?;
+    disk.put(RUNNING, mark)?;
+    expect_refused(&rt, &disk, "says \"run r1, begun with 3 entries\"")?;
+    assert!(rt; has(&disk, RUNNING, When::Now, mark)?);
+    Ok(())
 }
 
-// A start and a look are refused, with these words, and the journal stays.
+// A start and a look are refused, with these words, and the journal and its log stay.
 fn expect_refused(rt: &(impl Abort + AllocGlobal), disk: &Disk, words: &str) -> Result<(), Fail> {
     let machine = Machine(disk);
     let looked = look_at(&machine, rt.alloc(), JOURNAL);
@@ -185,6 +303,73 @@ fn expect_refused(rt: &(impl Abort + AllocGlobal), disk: &Disk, words: &str) -> 
     let taken = JournalFile::take(&machine, rt.alloc(), JOURNAL);
     assert!(rt; matches!(taken, Err(FileFault::Unread)));
     assert!(rt; has(disk, JOURNAL, When::Now, OLD_TEXT)?);
-    assert!(rt; !is_there(disk, NEW, When::Now)?);
+    assert!(rt; has(disk, LOG, When::Now, OLD_LOG)?);
+    assert!(rt; !is_there(disk, NEW, When::Now)? && !is_there(disk, LOG_NEW, When::Now)?);
+    Ok(())
+}
+
+// ---- a log that others reach
+
+// What somebody does to the log of a connector that runs.
+#[derive(Clone, Copy)]
+enum Deed {
+    Removes,
+    Cuts,
+    Replaces,
+}
+
+impl Deed {
+    fn do_to_log(self, disk: &Disk) -> io::Result<()> {
+        match self {
+            Deed::Removes => disk.take_away(LOG),
+            Deed::Cuts => disk.cut(LOG, HEAD.len()),
+            Deed::Replaces => disk.put(LOG, HEAD),
+        }
+    }
+}
+
+#[test]
+fn a_log_that_is_removed_takes_no_lines(rt: HostRuntime) -> Result<(), Fail> {
+    expect_noticed(&rt, Deed::Removes)
+}
+
+#[test]
+fn a_log_that_is_cut_takes_no_lines(rt: HostRuntime) -> Result<(), Fail> {
+    expect_noticed(&rt, Deed::Cuts)
+}
+
+#[test]
+fn a_log_in_whose_place_another_lies_takes_no_lines(rt: HostRuntime) -> Result<(), Fail> {
+    expect_noticed(&rt, Deed::Replaces)
+}
+
+// Where somebody did this to a log, nothing more is told to be on the disk, and a line says so.
+fn expect_noticed(rt: &(impl Abort + AllocGlobal), deed: Deed) -> Result<(), Fail> {
+    let disk = old_disk(rt.alloc(), Begins::Saved, NEVER)?;
+    let machine = Machine(&disk);
+    let file = JournalFile::take(&machine, rt.alloc(), JOURNAL)?;
+    let mut log = begin(&machine, rt.alloc(), &file)?;
+    append(&mut log, LINES[0])?;
+    assert!(rt; !disk.has_told("is not on the disk")?);
+    deed.do_to_log(&disk)?;
+    assert_eq!(rt; append(&mut log, LINES[1]), Err(DeviceFault::Failed));
+    assert!(rt; disk.has_told("what is booked from here on is not on the disk")?);
+    Ok(())
+}
+
+#[test]
+fn a_log_is_no_larger_than_files_may_be(rt: HostRuntime) -> Result<(), Fail> {
+    let disk = old_disk(rt.alloc(), Begins::Saved, NEVER)?;
+    disk.put(
+        LIMITS,
+        b"Limit  Soft Limit  Hard Limit  Units\nMax file size  60  unlimited  bytes\n",
+    )?;
+    let machine = Machine(&disk);
+    let file = JournalFile::take(&machine, rt.alloc(), JOURNAL)?;
+    let mut log = begin(&machine, rt.alloc(), &file)?;
+    append(&mut log, LINES[0])?;
+    let before = disk.text(LOG, When::Now)?;
+    assert_eq!(rt; append(&mut log, LINES[1]), Err(DeviceFault::Failed));
+    assert!(rt; disk.text(LOG, When::Now)? == before);
     Ok(())
 }
