@@ -7,6 +7,7 @@ import re
 import shutil
 import socket
 import threading
+import time
 from concurrent.futures import ThreadPoolExecutor
 from dataclasses import replace
 
@@ -504,15 +505,31 @@ def packets_until(program: Program, stop: threading.Event, answered: list[bytes]
         answered.append(send_packet(program, soon(1)))
 
 
-def expect_copy(laboratory: Laboratory, kept: Kept, answered: list[bytes]) -> list[str]:
-    """A connector begins with a copy of the journal and then of its log, and has all packets that were answered until
-    then. The lines of its entries, but for those that end open holds."""
-    bob = laboratory.stand_in(FULFILLS)
-    places = (f"{HERE}:{free_port()}" for _ in range(2))
-    copy = Kept(laboratory, replace(kept.setup, bob=bob.port, listen=next(places), engine_listen=next(places)))
-    before = len(answered)
+def copy_of(laboratory: Laboratory, kept: Kept) -> Kept:
+    """A copy of the journal and then of its log, for a connector at other ports."""
+    listen, engine_listen = (f"{HERE}:{free_port()}" for _ in range(2))
+    copy = Kept(laboratory, replace(kept.setup, listen=listen, engine_listen=engine_listen))
     shutil.copy(kept.path, copy.path)
     shutil.copy(kept.beside("log"), copy.beside("log"))
+    return copy
+
+
+def copies_beside(laboratory: Laboratory, kept: Kept, answered: list[bytes]) -> list[tuple[int, Kept]]:
+    """Three copies while packets are answered, each with how many were before."""
+    copies: list[tuple[int, Kept]] = []
+    end = time.monotonic() + 10.0
+    while len(copies) < 3:
+        before = len(answered)
+        copies.append((before, copy_of(laboratory, kept)))
+        while len(answered) < before + 4:
+            expect_that("packets are not answered", time.monotonic() < end)
+            time.sleep(0.001)
+    return copies
+
+
+def expect_goes_on(copy: Kept, before: int) -> list[str]:
+    """A connector that begins with a copy has so many packets at least. The lines of its entries, but for those that
+    end open holds."""
     program = copy.serve()
     fulfilled = numbers_in(report(program))[10]
     expect_that(f"{fulfilled} of {before} packets are in the copy", fulfilled >= before)
@@ -528,17 +545,17 @@ def copy_of_a_running_journal(laboratory: Laboratory) -> None:
     kept = Kept(laboratory)
     saved(kept, "k0")
     program = kept.serve()
-    stop, answered, copies = threading.Event(), list[bytes](), list[list[str]]()
+    stop, answered = threading.Event(), list[bytes]()
     with ThreadPoolExecutor(4) as pool:
         for _ in range(4):
             pool.submit(packets_until, program, stop, answered)
         try:
-            for _ in range(3):
-                copies.append(expect_copy(laboratory, kept, answered))
+            copies = copies_beside(laboratory, kept, answered)
         finally:
             stop.set()
     expect("the answers", set(answered), {response(200, FULFILL)})
     close(program, alice=-len(answered), bob=7 + len(answered))
-    lines = kept.text().splitlines()[1:-1]
-    for copy in copies:
-        expect_that("a copy has an entry that the journal has not", copy == lines[:len(copy)])
+    entries = kept.text().splitlines()[1:-1]
+    for before, copy in copies:
+        lines = expect_goes_on(copy, before)
+        expect("the entries of a copy", lines, entries[:len(lines)])
