@@ -9,12 +9,12 @@ use crate::left::{
     STOPPED_FIRST, TORN,
 };
 use crate::looks::{has, is_as_left, is_there};
-use crate::tests::append;
+use crate::tests::{Log, append};
 use ilp_accounts::Config;
 use ilp_book::Book;
 use ilp_config_file::BUILT_IN;
 use ilp_io::Recording;
-use ilp_journal_file::{JournalFile, LogDevice};
+use ilp_journal_file::JournalFile;
 use ilp_running::{ServeFault, Unprinted};
 use ilp_server::Side;
 use ilp_starting::{Begun, BookFile, Refused, RunFault};
@@ -81,25 +81,27 @@ fn run<'d>(machine: &'d Machine<'d>, config: &'d Config, does: Does) -> Came {
         path: JOURNAL,
     };
     match file.begin() {
-        Ok(mut begun) => go_on(&file, &mut begun, does),
+        Ok(Begun { book, mut log }) => go_on(&file, &book, &mut log.file, does),
         Err(_) => Came::Nowhere,
     }
 }
 
-fn go_on<'d>(
-    file: &BookFile<'d, Machine<'d>, Handle<'d>>,
-    begun: &mut Begun<LogDevice<'d, Machine<'d>, Handle<'d>>>,
+// What a run does with the book and the log that it begins with.
+fn go_on(
+    file: &BookFile<'_, Machine<'_>, Handle<'_>>,
+    book: &Book,
+    log: &mut Log<'_>,
     does: Does,
 ) -> Came
-    requires { begun.old.book.config ≡ file.now.config.now }
+    requires { book.now.config ≡ file.now.config.now }
 {
     match does {
-        Does::Ends => return end(file, &begun.book),
+        Does::Ends => return end(file, book),
         Does::Fails(fault) => {
             let _ = file.leave_unsaved(fault);
         }
         Does::Stops => {
-            let _ = append(&mut begun.log.file, CREDIT);
+            let _ = append(log, CREDIT);
         }
     }
     Came::Begun
@@ -166,7 +168,7 @@ fn fail_each(
     for first in 0..MOST_CALLS {
         let disk = left.disk(rt.alloc(), Faults { first, count })?;
         let came = run(&Machine(&disk), &config, Does::Ends);
-        expect_kept(rt, &config, &disk, (left, ends), came)?;
+        expect_kept(rt, &config, &disk, left, ends, came)?;
         if disk.calls()? <= first {
             assert_eq!(rt; came, Came::Done);
             return Ok(());
@@ -181,7 +183,8 @@ fn expect_kept(
     rt: &(impl Abort + AllocGlobal),
     config: &Config,
     disk: &Disk,
-    (left, ends): (Left, End),
+    left: Left,
+    ends: End,
     came: Came,
 ) -> Result<(), Fail> {
     for when in [When::Now, When::Stopped] {
@@ -198,8 +201,8 @@ fn expect_kept(
     Ok(())
 }
 
-// The journal is the text of before or that of the run. The log is as it was left, or else the journal is that of the
-// run, and the log goes on from it or is gone.
+// The journal is the text of before or that of the run. The log is as it was left, or else the journal is that
+// of the run, and the log goes on from it or is gone.
 fn expect_whole(rt: &impl Abort, disk: &Disk, left: Left, ends: End, when: When) -> io::Result<()> {
     let is_saved = has(disk, JOURNAL, when, ends.journal.as_bytes())?;
     assert!(rt; is_saved || is_as_left(disk, JOURNAL, when, left.journal)?);
