@@ -3,6 +3,7 @@
 use super::events::{Event, Row, configuration, play};
 use super::hearing::{At, Hearing};
 use ilp_accounts::Config;
+use ilp_notices::RecoveryNote;
 use std::io;
 use std::io::{Eprint, ErrorKind};
 use std::test::*;
@@ -301,6 +302,49 @@ fn a_clock_that_is_behind(rt: HostRuntime) -> Result<(), Fail> {
     Ok(())
 }
 
+// It is not kept for a second, and once more right after a line has told that it is again.
+#[test]
+fn a_journal_that_is_not_kept(rt: HostRuntime) -> Result<(), Fail> {
+    use Event::*;
+    let rows = [
+        Row(0, Kept, ""),
+        Row(0, Looks, ""),
+        Row(
+            0,
+            NotKept,
+            "1970-01-01T00:00:00.000Z error journal: what is booked is not kept: packets get T00, credits 503, and no settlement is asked for\n",
+        ),
+        Row(999, NotKept, ""),
+        Row(
+            1_000,
+            NotKept,
+            "1970-01-01T00:00:01.000Z error journal: what is booked is not kept: packets get T00, credits 503, and no settlement is asked for (1 more since the last line)\n",
+        ),
+        Row(1_001, Kept, ""),
+        Row(2_999, Looks, ""),
+        Row(
+            3_000,
+            Looks,
+            "1970-01-01T00:00:03.000Z info journal: all that is booked is kept again\n",
+        ),
+        Row(3_001, Looks, ""),
+        Row(
+            3_002,
+            NotKept,
+            "1970-01-01T00:00:03.002Z error journal: what is booked is not kept: packets get T00, credits 503, and no settlement is asked for\n",
+        ),
+        Row(7_001, Looks, ""),
+        Row(7_001, Kept, ""),
+        Row(
+            7_002,
+            LooksLast,
+            "1970-01-01T00:00:07.002Z info journal: all that is booked is kept again\n",
+        ),
+    ];
+    play(&rt, rt.alloc(), &rows)?;
+    Ok(())
+}
+
 // What is told once.
 fn tell_once<R: Clock + Eprint>(rt: &R, config: &Config) {
     ilp_notices::listening(rt, config);
@@ -345,9 +389,12 @@ fn tell_of_a_journal<R: Clock + Eprint>(rt: &R) {
     ilp_notices::journal_carried(rt, "j", 7);
     ilp_notices::journal_saved(rt, "j", 9);
     ilp_notices::not_saved_yet(rt, "j", &error);
-    ilp_notices::not_saved(rt, "j", "j.new", &error);
-    ilp_notices::nothing_to_save(rt, "j");
-    ilp_notices::mark_left(rt, "j.running", &error);
+    ilp_notices::not_saved(rt, "j", "j.new", "j.log", &error);
+    ilp_notices::not_saved_at_start(rt, "j", &error);
+    ilp_notices::not_synced(rt, "j", "j.log", &error);
+    ilp_notices::nothing_to_save(rt, "j", "j.log");
+    ilp_notices::log_left(rt, "j.log", &error);
+    ilp_notices::log_unwritten(rt, "j.log", &error);
     ilp_notices::journal_in_use(rt, "j");
     ilp_notices::journal_not_locked(rt, "j.lock", &error);
     ilp_notices::not_made(rt, "j.lock", &error);
@@ -372,9 +419,12 @@ fn what_is_told_of_a_journal(rt: HostRuntime) -> Result<(), Fail> {
 1970-01-01T00:00:00.000Z info journal \"j\": begun with its 7 entries
 1970-01-01T00:00:00.000Z info journal \"j\": saved with 9 entries
 1970-01-01T00:00:00.000Z warn journal \"j\": can't be saved: permission denied: make room for it, it is tried again each second for a minute
-1970-01-01T00:00:00.000Z error journal \"j\": not saved: permission denied: it is as at the start, and \"j.new\" has what could be written: keep both and the report
-1970-01-01T00:00:00.000Z error journal \"j\": not saved, since the connector was refused: it is as at the start
-1970-01-01T00:00:00.000Z error can't remove \"j.running\": permission denied: remove it before the next start
+1970-01-01T00:00:00.000Z error journal \"j\": not saved: permission denied: it is as at the start, \"j.new\" has what could be written, and what was booked is in \"j.log\", from which the next start goes on: keep all three and the report
+1970-01-01T00:00:00.000Z error journal \"j\": can't be saved: permission denied: make room for it, and start again: nothing is lost
+1970-01-01T00:00:00.000Z error journal \"j\": it is the new one, but its folder can't be synced: permission denied: see to the disk, and keep \"j.log\", from which the next start goes on, and the report
+1970-01-01T00:00:00.000Z error journal \"j\": not saved, since the connector was refused: it is as at the start, and what was booked is in \"j.log\", from which the next start goes on
+1970-01-01T00:00:00.000Z warn can't remove \"j.log\": permission denied: the journal has all that it has, and the next start removes it
+1970-01-01T00:00:00.000Z error can't write \"j.log\": permission denied: what is booked from here on is not on the disk
 1970-01-01T00:00:00.000Z error journal \"j\": another connector has it: close that one, or give this one a journal of its own
 1970-01-01T00:00:00.000Z error can't lock \"j.lock\": permission denied: keep the journal where files can be locked
 1970-01-01T00:00:00.000Z error can't make \"j.lock\": permission denied: see that the journal's folder is there, may be written and has room
@@ -383,6 +433,39 @@ fn what_is_told_of_a_journal(rt: HostRuntime) -> Result<(), Fail> {
 1970-01-01T00:00:00.000Z error can't read \"j\": more than 8589934592 octets
 1970-01-01T00:00:00.000Z error journal \"j\": a connector stopped without saving it (\"j.running\" says \"run r1, begun with 7 entries\"): what it booked is lost, while engines know its keys and a start would use its numbers again
 1970-01-01T00:00:00.000Z error compare with peers and engines what was booked since, move \"j\" and \"j.running\" away, and start with a `run` that no earlier start had
+"
+        )
+    );
+    Ok(())
+}
+
+// What is told of a journal whose connector stopped before it was saved, or ended with a log that lacks something.
+fn tell_of_a_log<R: Clock + Eprint>(rt: &R) {
+    ilp_notices::recovery_note(rt, "j", RecoveryNote::Logged { entries: 5 });
+    ilp_notices::recovery_note(rt, "j", RecoveryNote::OlderLog);
+    let open = RecoveryNote::OpenHolds {
+        peer: "bob",
+        holds: 2,
+        out: 170,
+    };
+    ilp_notices::recovery_note(rt, "j", open);
+    ilp_notices::log_incomplete(rt);
+}
+
+#[test]
+fn what_is_told_of_a_log(rt: HostRuntime) -> Result<(), Fail> {
+    let at = At {
+        rt,
+        milliseconds: 0,
+    };
+    let hearing = Hearing::new(at, rt.alloc(), 0);
+    tell_of_a_log(&hearing);
+    assert!(rt;
+        hearing.wrote_only(
+            "1970-01-01T00:00:00.000Z warn journal \"j\": a connector stopped without saving it, and 5 entries come from its log
+1970-01-01T00:00:00.000Z info journal \"j\": its log is of an older text, and the journal has all that it has: a start removes it
+1970-01-01T00:00:00.000Z warn journal \"j\": 2 holds that went on to bob were open, of 170 in all: what bob fulfilled of them it may say that it is owed; the last that was handed on may be missing here
+1970-01-01T00:00:00.000Z error journal: its log lacks what was booked last: keep the report until the journal is saved
 "
         )
     );
