@@ -201,8 +201,8 @@ fn expect_kept(
     Ok(())
 }
 
-// The journal is the text of before or that of the run. The log is as it was left, or else the journal is that
-// of the run, and the log goes on from it or is gone.
+// The journal is the text of before or that of the run. The log is as it was left, or else the journal is
+// that of the run, and the log goes on from it or is gone.
 fn expect_whole(rt: &impl Abort, disk: &Disk, left: Left, ends: End, when: When) -> io::Result<()> {
     let is_saved = has(disk, JOURNAL, when, ends.journal.as_bytes())?;
     assert!(rt; is_saved || is_as_left(disk, JOURNAL, when, left.journal)?);

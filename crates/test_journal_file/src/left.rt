@@ -11,8 +11,8 @@ ilp-journal 1
 end 1
 ";
 
-// The log of a run that went on from there and stopped. Behind its entry is a line that was not written to its
-// end.
+// The log of a run that went on from there and stopped. Behind its entry is a line that was not written to
+// its end.
 const LOG_OF_OPEN: &str = "\
 ilp-log 1 1 a36e912da0b065b7a12335e50d1ab450305c3863845ebb1171b17fbb5cda893c
 run r1; peer alice USD 2; peer bob USD 2
