@@ -3,11 +3,12 @@
 #
 #     scripts/demo.sh [--quick] [--ports FIRST] [--keep FOLDER]
 #
-# It sends packets through both connectors, some of which must be rejected, lets settlements be made, refused
-# and lost, closes both, starts both again over their journals, and sends more. A line says what each step does;
-# in the end it prints both reports. What both books must come to is reckoned beside them, from what was sent
-# and from the fees and prices of scripts/demonstration/*.toml. The exit status is 0 only where both reports are
-# just that, and agree with each other; 1 where something differs, and 2 where something is missing.
+# It sends packets through both connectors, some of which must be rejected, kills one of them and starts it again,
+# lets settlements be made, refused and lost, closes both, starts both again over their journals, and sends more.
+# A line says what each step does; in the end it prints both reports. What both books must come to is reckoned
+# beside them, from what was sent and from the fees and prices of scripts/demonstration/*.toml. The exit status is
+# 0 only where both reports are just that, and agree with each other; 1 where something differs, and 2 where
+# something is missing.
 #
 # It takes the program of scripts/build.sh, or the one that CONNECTOR names. With --quick it builds one without
 # a proof first, by the kit's rt. It needs Python 3.11 and curl, and eight free ports from FIRST (7810) on. With

@@ -50,6 +50,7 @@ benchmarks() {
 run watching python3 scripts/check_watching.py
 run demonstration "python3 curl" scripts/demo.sh
 run cases python3 scripts/check.py "$program"
+run kills python3 scripts/kills.py "$program"
 run long_run python3 scripts/long_run.py "$program"
 run denied_growths "rt cc python3" denied_growths
 run wrapper "python3 curl unshare" scripts/try_wrapper.py

@@ -7,7 +7,8 @@ Each trial is run ROUNDS times (10) over one journal. Its supervisor sends a sig
 the connector begins, once it listens, twice, to the whole group, from outside of a PID namespace where the wrapper
 is process 1, and so on. After each the report has to be there, and the journal with each settlement that was
 credited; or nothing was begun. Then it is tried with what fails: a close that can't be posted, a name that is taken, a
-connector that is killed, one that is refused, and an address that another connector has.
+connector that is killed, after which the next one goes on, one that is refused, and an address that another connector
+has.
 
 It takes the program of scripts/build.sh, or the one that CONNECTOR names. It needs Linux, Python 3.11, curl and
 unshare, which has to be allowed. The exit status is 0 where all held, 1 where something differed, and 2 where
@@ -67,6 +68,8 @@ class Bench:
         self.configuration.write_text(self.setup.text())
         self.journal = folder / "state/hub.journal"
         self.reports = folder / "reports"
+        # What stands beside the journal while a connector runs, and what an earlier version left that stopped.
+        self.log = folder / "state/hub.journal.log"
         self.mark = folder / "state/hub.journal.running"
         for path in (self.journal.parent, self.reports):
             path.mkdir()
@@ -168,7 +171,7 @@ class Wrapped:
 def expect_saved(bench: Bench, wrapped: Wrapped) -> None:
     """It has ended well: one whole report is new, and the journal has each settlement that was credited."""
     expect("the exit status", wrapped.status(), 0)
-    expect_that("JOURNAL.running is there", not bench.mark.exists())
+    expect_that("JOURNAL.log is there", not bench.log.exists())
     new = bench.new_files()
     expect_that(f"one report is to be new, and there are {new}", len(new) == 1 and new[0].endswith(".report"))
     lines = (bench.reports / new[0]).read_text().splitlines()
@@ -188,7 +191,7 @@ def expect_saved_or_not_begun(bench: Bench, wrapped: Wrapped) -> None:
     expect_that(f"a connector began and did not listen: {said!r}", not begun)
     expect_that(f"the exit status is {status}: {said!r}", status in (0, -signal.SIGTERM))
     expect("new files", bench.new_files(), [])
-    expect_that("JOURNAL.running is there", not bench.mark.exists())
+    expect_that("JOURNAL.log is there", not bench.log.exists())
     return None
 
 
@@ -208,8 +211,8 @@ def at_random(bench: Bench, wrapped: Wrapped) -> None:
 
 
 def as_it_begins(bench: Bench, wrapped: Wrapped) -> None:
-    """TERM when the connector has made its mark, and does not listen yet."""
-    wrapped.await_that("JOURNAL.running", bench.mark.exists)
+    """TERM when the connector has begun its log, and does not listen yet."""
+    wrapped.await_that("JOURNAL.log", bench.log.exists)
     wrapped.signal()
     expect_saved(bench, wrapped)
 
@@ -321,14 +324,19 @@ def refused(bench: Bench, wrapped: Wrapped) -> None:
 
 
 def killed(bench: Bench, wrapped: Wrapped) -> None:
-    """A connector that was killed has no report, and the next start is refused."""
+    """A connector that was killed has no report, and the next start goes on from its log."""
     wrapped.await_line(LISTENING)
+    bench.credit()
     os.kill(wrapped.child(), signal.SIGKILL)
     expect("the exit status", wrapped.status(), 128 + signal.SIGKILL)
     expect_that(f"nothing says so: {wrapped.said()!r}", "status 137, and printed nothing" in wrapped.said())
     expect("new files", bench.new_files(), [])
-    expect("the next start", bench.check(), "refused 73 JournalUnread")
-    bench.mark.unlink()
+    again = Wrapped(bench, [])
+    try:
+        once_it_listens(bench, again)
+        expect_that(f"nothing says so: {again.said()!r}", "and 1 entries come from its log" in again.said())
+    finally:
+        again.stop()
 
 
 def another_has_the_address(bench: Bench, wrapped: Wrapped) -> None:

@@ -13,7 +13,7 @@ from cases.journals import START, Kept
 from cases.laboratory import (END, Laboratory, close, credit, expect_end, expect_served, post_close)
 from cases.lines import FOLLOWS
 from cases.messages import created
-from cases.program import Program, numbers_in
+from cases.program import Program
 from connections import quantity
 
 UNREAD = "73 JournalUnread"
@@ -49,8 +49,9 @@ def journal_that_is_a_link(laboratory: Laboratory) -> None:
 
 @case
 def links_beside_a_journal(laboratory: Laboratory) -> None:
-    """A link in place of the lock, of the mark or of the next journal is refused, and what it leads to stays."""
-    for kind in ("lock", "running", "new"):
+    """A link in place of the lock, of the log, of the next one of these or of an earlier version's mark is refused,
+    and what it leads to stays."""
+    for kind in ("lock", "running", "new", "log", "log.new"):
         kept = Kept(laboratory)
         aside = kept.folder / "aside"
         aside.write_text("mine")
@@ -85,7 +86,7 @@ def next_journal_is_none_but_its_own(laboratory: Laboratory) -> None:
 @case
 def pipes_in_place_of_files(laboratory: Laboratory) -> None:
     """A named pipe in place of the journal or of a file beside it is refused, and not waited for."""
-    for kind in ("", ".lock", ".running", ".new"):
+    for kind in ("", ".lock", ".running", ".new", ".log", ".log.new"):
         kept = Kept(laboratory)
         os.mkfifo(kept.folder / f"journal{kind}")
         expect_unfit(kept, f"journal{kind}", "it is a named pipe: .+")
@@ -150,35 +151,34 @@ def journal_beyond_the_size_of_files(laboratory: Laboratory) -> None:
 # ---- what was saved, and what was not
 
 @case
-def mark_that_can_not_be_removed(laboratory: Laboratory) -> None:
-    """A journal that is saved is told so where its mark stays, and is whole."""
+def log_that_can_not_be_removed(laboratory: Laboratory) -> None:
+    """A journal is saved also where its log stays, which is told."""
     kept = Kept(laboratory)
     program = kept.serve()
     expect("a credit", credit(program, 7), created(quantity(7, 2)))
-    mark = kept.beside("running")
-    mark.unlink()
-    mark.mkdir()
+    log = kept.beside("log")
+    log.unlink()
+    log.mkdir()
     post_close(program)
-    expect("the exit status", program.end(END), 1)
-    printed = program.output().removesuffix("refused 64 WriteFault\n")
-    expect("the balances", numbers_in(printed)[:2], [0, 7])
-    expect("the last lines", [line.said.split(":")[0].split()[0] for line in program.lines()][-2:], ["info", "error"])
-    told = r"error journal .+: saved and whole, but can't remove .+: .+: remove it before the next start"
+    expect_end(program, alice=0, bob=7)
+    expect("the last lines", [line.said.split()[0] for line in program.lines()][-2:], ["info", "warn"])
+    told = r"warn can't remove .+log\": .+: the journal has all that it has, and the next start removes it"
     expect("how many lines say so", len(program.told(told)), 1)
     expect("the entries", kept.entries(), 1)
-    mark.rmdir()
+    log.rmdir()
     close(kept.serve(), bob=7)
 
 
 @case
 def rights_of_a_journal(laboratory: Laboratory) -> None:
-    """A journal keeps its rights from save to save."""
+    """A journal keeps its rights from save to save, and its log has them too."""
     kept = Kept(laboratory)
     close(kept.serve())
     for mode in (0o600, 0o640):
         kept.path.chmod(mode)
         program = kept.serve()
         expect_served(program, amount=1)
+        expect("the rights of its log", oct(stat.S_IMODE(kept.beside("log").stat().st_mode)), oct(mode))
         post_close(program)
         expect("the exit status", program.end(END), 0)
         expect("the rights", oct(stat.S_IMODE(kept.path.stat().st_mode)), oct(mode))
@@ -188,8 +188,8 @@ def rights_of_a_journal(laboratory: Laboratory) -> None:
 
 @case
 def journal_that_is_looked_at(laboratory: Laboratory) -> None:
-    """A check says that a connector has the journal also where there is no mark; and who looks at the lock for
-    a moment is in no start's way."""
+    """A check says that a connector has the journal; and who looks at the lock for a moment is in no start's
+    way."""
     kept = Kept(laboratory)
     close(kept.serve())
     with open(kept.beside("lock"), "r+b") as lock:
@@ -216,6 +216,7 @@ def closed_streams(laboratory: Laboratory) -> None:
                                          closed=closed))
         program.await_served()
         expect("a credit", credit(program, 7), created(quantity(7, 2)))
+        expect("the lines of the log", len(kept.beside("log").read_text().splitlines()), 3)
         post_close(program)
         expect("the exit status", program.end(END), 3)
         expect("the files after the close", kept.files(), ["journal", "journal.lock"])

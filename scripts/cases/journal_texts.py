@@ -112,4 +112,4 @@ def journal_of_no_path(laboratory: Laboratory) -> None:
     expect("the exit status", program.end(START), 1)
     expect("standard output", program.output(), "refused 64 WriteFault\n")
     expect_that("it did not say that the path is empty", 'can\'t make "": ' in program.errors())
-    expect("the files made", [name for name in (".lock", ".running") if os.path.exists(name)], [])
+    expect("the files made", [name for name in (".lock", ".log") if os.path.exists(name)], [])

@@ -50,6 +50,11 @@ class Kept:
         """The names in the folder."""
         return sorted(os.listdir(self.folder))
 
+    def contents(self) -> dict[str, bytes]:
+        """What the plain files in the folder have, and nothing of the others."""
+        paths = [self.folder / name for name in self.files()]
+        return {path.name: path.read_bytes() if path.is_file() and not path.is_symlink() else b"" for path in paths}
+
     def start(self) -> Program:
         """A program that was started over it, and may not listen yet."""
         return self.laboratory.start(self.setup, journal=self.path)
@@ -77,20 +82,22 @@ class Kept:
         words = [str(program.binary), "check", str(program.configuration), str(self.path)]
         return subprocess.run(words, capture_output=True, text=True, timeout=10.0)
 
-    def expect_checked(self, program: Program) -> None:
-        """`check` tells how many entries it has, and neither makes nor changes a file."""
-        before = self.files()
+    def expect_checked(self, program: Program, *said: str, entries: int | None = None) -> None:
+        """`check` tells how many entries a start begins with, those of the journal if nothing else is given, and
+        these texts on the journal, and neither makes nor changes a file."""
+        before = self.contents()
         done = self.check(program)
-        entries = self.entries() if self.path.exists() else 0
+        if entries is None:
+            entries = self.entries() if self.path.exists() else 0
         told = f"ok 2 peers 1 assets 2 routes {entries} entries\n"
-        expect("what check says", (done.returncode, done.stdout, done.stderr), (0, told, ""))
-        expect("the files after a check", self.files(), before)
+        lines = "".join(f"{self.said(text)}\n" for text in said)
+        expect("what check says", (done.returncode, done.stdout, done.stderr), (0, told, lines))
+        expect("the files after a check", self.contents(), before)
 
     def expect_refused(self, told: str, *lines: str, made: tuple[str, ...] = ("journal.lock",)) -> None:
         """A start ends at once as refused, with these lines on standard error, and so does a check. The
         files stay as they are, but that those are there that a start makes."""
-        before = sorted({*self.files(), *made})
-        text = self.path.read_bytes() if self.path.is_file() else b""
+        before = self.contents()
         program = self.start()
         expect("the exit status", program.end(START), 1)
         expect("standard output", program.output(), f"refused {told}\n")
@@ -98,9 +105,9 @@ class Kept:
         done = self.check(program)
         expect("what check says", (done.returncode, done.stdout), (1, f"refused {told}\n"))
         expect_lines("standard error of check", done.stderr, lines)
-        expect("the files", self.files(), before)
-        expect_that("the journal has changed",
-                    text == (self.path.read_bytes() if self.path.is_file() else b""))
+        after = self.contents()
+        expect("the files", sorted(after), sorted({*before, *made}))
+        expect("what the files have", {name: after[name] for name in before}, before)
 
 
 def expect_lines(what: str, errors: str, forms: tuple[str, ...]) -> None:
@@ -126,9 +133,7 @@ def journal_from_run_to_run(laboratory: Laboratory) -> None:
     kept = Kept(laboratory, Setup(bob=bob.port, engine=engine.port, top={"settle_ms": 20}))
     program = kept.serve()
     expect("the first line", program.lines()[0].said.startswith(f"warn {kept.said('not there yet')}"), True)
-    kept_while_running = ["journal.lock", "journal.running"]
-    expect("the files of a connector that runs", kept.files(), kept_while_running)
-    expect("the mark", kept.beside("running").read_text(), "run r1, begun with 0 entries\n")
+    expect("the files of a connector that runs", kept.files(), ["journal.lock", "journal.log"])
     expect_served(program, amount=30)
     expect("a credit", credit(program, 1000), created(quantity(1000, 2)))
     program.await_told("info settlement 3 with bob of 830: confirmed")
@@ -143,7 +148,7 @@ def journal_from_run_to_run(laboratory: Laboratory) -> None:
     kept.expect_checked(program)
     program = kept.serve()
     expect("the first line", program.lines()[0].said, f"info {kept.said('begun with its 5 entries')}")
-    expect("the mark", kept.beside("running").read_text(), "run r1, begun with 5 entries\n")
+    expect("the files of a connector that runs", kept.files(), ["journal", "journal.lock", "journal.log"])
     expect("the report", report(program), printed)
     expect("the same credit", credit(program, 1000), created(quantity(1000, 2)))
     expect("another under its key", credit(program, 5), response(409))
@@ -206,7 +211,7 @@ def journal_beside_an_address_in_use(laboratory: Laboratory) -> None:
     close(kept.serve())
 
 
-# ---- a sudden stop
+# ---- a sudden stop, of which cases/logs.py has more
 
 STOPPED = (r"error journal .+: a connector stopped without saving it \(.+ says \"run r1, begun with {} "
            r"entries\"\): what it booked is lost, while engines know its keys and a start would use its "
@@ -216,28 +221,46 @@ TO_DO = (r"error compare with peers and engines what was booked since, move .+ a
 
 
 @case
-def journal_of_a_killed_connector(laboratory: Laboratory) -> None:
-    """A connector that was killed is told at the next start, until its mark is moved away."""
+def journal_of_an_earlier_version(laboratory: Laboratory) -> None:
+    """A connector that kept no log and stopped is told at the next start, until its mark is moved away."""
     kept = Kept(laboratory)
     program = kept.serve()
     expect("a credit", credit(program, 7), created(quantity(7, 2)))
     close(program, bob=7)
-    for stop in (Program.kill, Program.terminate):
+    kept.beside("running").write_text("run r1, begun with 1 entries\n")
+    for _ in range(2):
+        kept.expect_refused("73 JournalUnread", STOPPED.format(1), TO_DO)
+    kept.beside("running").unlink()
+    close(kept.serve(), bob=7)
+
+
+@case
+def journal_of_an_ended_connector(laboratory: Laboratory) -> None:
+    """A connector that a signal ended leaves its log beside the journal as it was, and the next start goes on
+    from both."""
+    kept = Kept(laboratory)
+    program = kept.serve()
+    expect("a credit", credit(program, 7), created(quantity(7, 2)))
+    close(program, bob=7)
+    for count, stop in enumerate((Program.kill, Program.terminate), start=1):
+        before = kept.text()
         program = kept.serve()
         expect_served(program, amount=2)
         stop(program)
         program.child.wait()
-        kept.expect_refused("73 JournalUnread", STOPPED.format(1), TO_DO)
-        kept.expect_refused("73 JournalUnread", STOPPED.format(1), TO_DO)
-        kept.beside("running").unlink()
-    program = kept.serve()
-    close(program, bob=7)
+        expect("the journal", kept.text(), before)
+        expect("the files", kept.files(), ["journal", "journal.lock", "journal.log"])
+        program = kept.serve()
+        told = f"warn {kept.said('a connector stopped without saving it, and 2 entries come from its log')}"
+        expect("the first line", program.lines()[0].said, told)
+        close(program, alice=-2 * count, bob=7 + 2 * count)
+    expect("the entries", kept.entries(), 5)
 
 
 @case
 def journal_killed_while_it_is_saved(laboratory: Laboratory) -> None:
-    """A connector that is killed while it writes leaves the old journal whole, and what it wrote beside
-    it. The next start but one tells of that and leaves it alone."""
+    """A connector that is killed while it writes leaves the old journal whole, with its log and what it wrote
+    beside it. The next start tells of that, saves what both have in its place, and goes on."""
     kept = Kept(laboratory)
     program = kept.serve()
     expect("a credit", credit(program, 7), created(quantity(7, 2)))
@@ -251,14 +274,16 @@ def journal_killed_while_it_is_saved(laboratory: Laboratory) -> None:
     program.kill()
     expect("the journal", kept.text(), before)
     expect("the octets beside it", kept.beside("new").stat().st_size, LITTLE)
-    kept.expect_refused("73 JournalUnread", STOPPED.format(1), TO_DO)
-    kept.beside("running").unlink()
     program = kept.serve()
-    expect("the first line", program.lines()[0].said.startswith("warn "), True)
+    lines = [line.said for line in program.lines()]
+    expect("the first line", lines[0].startswith("warn "), True)
     expect("the lines on it", len(program.told(r"warn \".+new\" lies there, .+")), 1)
-    expect("the octets beside it", kept.beside("new").stat().st_size, LITTLE)
-    expect("the balances", numbers_in(report(program))[:2], [0, 7])
-    close(program, bob=7)
+    told = f"a connector stopped without saving it, and {2 * PACKETS} entries come from its log"
+    expect("the second line", lines[1], f"warn {kept.said(told)}")
+    expect("the files", kept.files(), ["journal", "journal.lock", "journal.log"])
+    expect("the entries", kept.entries(), 1 + 2 * PACKETS)
+    expect("the balances", numbers_in(report(program))[:2], [-PACKETS, 7 + PACKETS])
+    close(program, alice=-PACKETS, bob=7 + PACKETS)
     expect("the files", kept.files(), ["journal", "journal.lock"])
 
 
@@ -282,7 +307,7 @@ def journal_that_can_be_saved_late(laboratory: Laboratory) -> None:
 
 @case
 def journal_that_can_not_be_saved(laboratory: Laboratory) -> None:
-    """After a minute it is refused, and both files and the mark stay."""
+    """After a minute it is refused, and all files stay. The next start goes on from the log."""
     kept = Kept(laboratory)
     close(kept.serve())
     before = kept.text()
@@ -296,8 +321,9 @@ def journal_that_can_not_be_saved(laboratory: Laboratory) -> None:
     expect("how often it is told", len(program.told(r"warn journal .+")), 1)
     expect("how many errors are told", len(program.told(r"error journal .+: not saved: .+")), 1)
     expect("the journal", kept.text(), before)
-    expect("the files", kept.files(), [f"journal{kind}" for kind in ("", ".lock", ".new", ".running")])
-    kept.expect_refused("73 JournalUnread", STOPPED.format(0), TO_DO)
+    expect("the files", kept.files(), [f"journal{kind}" for kind in ("", ".lock", ".log", ".new")])
+    close(kept.serve(), alice=-PACKETS, bob=PACKETS)
+    expect("the entries", kept.entries(), 2 * PACKETS)
 
 
 # ---- what is refused at the start
@@ -336,7 +362,7 @@ def journal_without_rights(laboratory: Laboratory) -> None:
         program = laboratory.run(Program(binary, folder, kept.setup, journal=kept.path, user=user))
         expect("the exit status", program.end(START), 1)
         expect("standard output", program.output(), "refused 64 WriteFault\n")
-        kind = "running" if lock else "lock"
+        kind = "log" if lock else "lock"
         expect("how many lines say so", len(program.told(rf"error can't make \".+{kind}\": .+")), 1)
         expect("how many lines say that it listens", len(program.told(r"info listening at .+")), 0)
         kept.folder.chmod(0o755)

@@ -39,6 +39,18 @@ REACHED_AGAIN = r"reached again, after (1 failure|\d+ failures)"
 # A path, as it is quoted in a line.
 PATH = r'"[^"]*"'
 
+# What is told of a log that can't be written, each time that it is seen, and at the close.
+UNKEPT = "journal: what is booked is not kept: packets get T00, credits 503, and no settlement is asked for"
+INCOMPLETE = "journal: its log lacks what was booked last: keep the report until the journal is saved"
+
+# What is told of each peer to which holds were open at a sudden stop.
+OPEN_HOLDS = (rf"\d+ holds that went on to (?P<peer>{NAME}) were open, of \d+ in all: what (?P=peer) fulfilled of "
+              r"them it may say that it is owed; the last that was handed on may be missing here")
+
+# Why a start is refused by a log, which is told without a time.
+OF_ANOTHER_TEXT = (rf"journal {PATH}: its log goes on from another text, and the journal lacks what the log has: put "
+                   r"both back as they stood together, or move the log away and lose what it has")
+
 # What is told at the start where no journal is kept.
 NO_JOURNAL = ("warn no journal is kept: balances and keys are forgotten at the end, so each start needs a "
               "`run` that no earlier one had")
@@ -75,13 +87,22 @@ FORMS = [re.compile(form) for form in (
     re.escape(NO_JOURNAL),
     rf"{WARNING}.+",
     rf"info journal {PATH}: (begun with its \d+ entries|saved with \d+ entries)",
+    rf"info journal {PATH}: its log is of an older text, and the journal has all that it has: a start removes it",
     rf"warn journal {PATH}: not there yet, .+",
-    rf"warn journal {PATH}: can't be saved: .+",
+    rf"warn journal {PATH}: a connector stopped without saving it, and \d+ entries come from its log",
+    rf"warn journal {PATH}: {OPEN_HOLDS}",
+    rf"warn journal {PATH}: can't be saved: .+: make room for it, it is tried again each second for a minute",
     rf"warn journal {PATH}: its last entry is of .+",
+    rf"error journal {PATH}: can't be saved: .+: make room for it, and start again: nothing is lost",
     rf"error journal {PATH}: (not saved.+|another connector has it: .+|a connector stopped .+)",
-    rf"error journal {PATH}: (it is the new one, but .+|saved and whole, but .+|a settlement with .+|what it counts .+)",
+    rf"error journal {PATH}: (it is the new one, but .+|a settlement with .+|what it counts .+)",
     r"error compare with peers and engines what was booked since, .+",
-    rf"error can't (make|read|use|lock|remove) {PATH}: .+",
+    rf"error can't (make|read|use|lock) {PATH}: .+",
+    rf"error can't write {PATH}: .+: what is booked from here on is not on the disk",
+    rf"error {re.escape(UNKEPT)}{MORE}",
+    r"info journal: all that is booked is kept again",
+    rf"error {re.escape(INCOMPLETE)}",
+    rf"warn can't remove {PATH}: .+: the journal has all that it has, and the next start removes it",
     rf"warn {PATH} lies there, .+",
     r"error clock: \d+\.\d{3} seconds behind the last moment of the book, so that packets come too late",
 )]

@@ -10,7 +10,7 @@ from dataclasses import dataclass, field
 from pathlib import Path
 
 from cases.case import Differs, expect, expect_that
-from cases.lines import WARNING, Line, check_lines, read_lines
+from cases.lines import OF_ANOTHER_TEXT, WARNING, Line, check_lines, read_lines
 from cases.messages import HERE, connect
 from cases.stand_ins import free_port
 
@@ -134,7 +134,8 @@ class Program:
     """`connector serve` over a configuration, or with another argument that is given. Its two streams
     go to files, or to other descriptors that are given. It can start so many threads where that is
     given. A journal is kept where one is given, and another user runs it where his number is. No file of
-    it may be larger than that, and streams are closed, where these are given."""
+    it may be larger than that, until `limit_files` says otherwise, and streams are closed, where these are
+    given."""
 
     def __init__(self, binary: Path, folder: Path, setup: Setup, descriptors: int = DESCRIPTORS,
                  errors: int | None = None, argument: str | None = None,
@@ -156,7 +157,8 @@ class Program:
             if threads is not None:
                 limit_threads(threads)
             if largest_file is not None:
-                resource.setrlimit(resource.RLIMIT_FSIZE, (largest_file, largest_file))
+                _, most = resource.getrlimit(resource.RLIMIT_FSIZE)
+                resource.setrlimit(resource.RLIMIT_FSIZE, (largest_file, most))
             for number in closed:
                 os.close(number)
 
@@ -206,9 +208,10 @@ class Program:
             check_lines(self.errors(), self.started, time.time())
 
     def refused_to_run(self) -> bool:
-        """Whether its configuration was refused, which is told without a time."""
+        """Whether its configuration was refused, or a text of its journal, which is told without a time."""
         text = self.output()
-        return text.startswith("refused ") and not text.startswith(TOLD_WITH_A_TIME)
+        has_time = text.startswith(TOLD_WITH_A_TIME) and not re.search(f"(?m)^{OF_ANOTHER_TEXT}$", self.errors())
+        return text.startswith("refused ") and not has_time
 
     def await_listening(self, within: float = 10.0) -> None:
         """Waits for the line that says that it listens."""

@@ -67,6 +67,11 @@ class Child:
         if status != 0:
             raise Differs(f"{self.name} has ended with status {status}: {self.last_words()}")
 
+    def kill(self) -> None:
+        """Ends it where it stands."""
+        self.process.kill()
+        self.process.wait()
+
     def stop(self) -> None:
         """Ends it, if it runs."""
         if self.process.poll() is None:

@@ -107,13 +107,14 @@ class Network:
         self.start_example("north_engine", "engine.py", "--tell", f"south={told}")
         self.start_example("south_engine", "engine.py")
 
-    def start_connectors(self, run: int) -> None:
-        """Starts both over their journals, and waits until they listen."""
-        for name in CONNECTORS:
-            words = [str(self.program), "serve", str(self.path(name, "toml")), str(self.path(name, "journal"))]
-            self.children[name] = self.start(f"{name}-{run}", words)
-        for name in CONNECTORS:
-            self.children[name].await_told("info listening at .+")
+    def start_connector(self, name: str, run: int) -> None:
+        """Starts a connector over its journal."""
+        words = [str(self.program), "serve", str(self.path(name, "toml")), str(self.path(name, "journal"))]
+        self.children[name] = self.start(f"{name}-{run}", words)
+
+    def await_connector(self, name: str) -> None:
+        """Waits until a connector listens."""
+        self.children[name].await_told("info listening at .+")
 
     # ---- what the program says without running
 

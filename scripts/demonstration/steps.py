@@ -28,7 +28,10 @@ class Demonstration:
     def start_connectors(self) -> None:
         """Starts both connectors over their journals."""
         self.runs += 1
-        self.network.start_connectors(self.runs)
+        for name in CONNECTORS:
+            self.network.start_connector(name, self.runs)
+        for name in CONNECTORS:
+            self.network.await_connector(name)
 
     def send(self, payments: list[Payment]) -> str:
         """Sends packets, which end as they must; how many end in which way."""
@@ -82,8 +85,26 @@ class Demonstration:
         self.say("Tells north twice, under one key, that alice paid in 1000.00 USD: credited once.")
 
     def send_hundred(self) -> None:
-        """Packets of all kinds."""
-        self.say(f"Sends {len(self.first)} packets, {AT_ONCE} at a time: {self.send(self.first)}.")
+        """Packets of all kinds, between the halves of which north is killed."""
+        half = len(self.first) // 2
+        self.send_half(self.first[:half])
+        self.kill_north()
+        self.send_half(self.first[half:])
+
+    def send_half(self, payments: list[Payment]) -> None:
+        """Sends packets, and says how they end."""
+        self.say(f"Sends {len(payments)} packets, {AT_ONCE} at a time: {self.send(payments)}.")
+
+    def kill_north(self) -> None:
+        """North goes on from its log. The last packet was fulfilled, so all that was booked is in there."""
+        entries = self.reckoning.books["north"].numbers["entries", ""]
+        self.network.children["north"].kill()
+        self.runs += 1
+        self.network.start_connector("north", self.runs)
+        told = f"a connector stopped without saving it, and {entries} entries come from its log"
+        self.network.children["north"].await_told(f"warn journal .+: {told}")
+        self.network.await_connector("north")
+        self.say(f"Kills north, and starts it again: it goes on with the {entries} entries of its log.")
 
     def settle_both(self) -> None:
         """Both connectors owe so much that they pay."""

@@ -22,7 +22,8 @@ impl<J: Naming> SharedKeeper<J> for Forgetful {
     }
 
     fn mend(&mut self, _receipt: &mut JournalReceipt<J>) -> bool
-        ensures { result ≡ true }
+        ensures kept { result ≡ true }
+        ensures seen { _receipt.new ≡ _receipt.old }
     {
         true
     }

@@ -1,5 +1,5 @@
 -- What book a connector begins with, and why it begins with none.
-use Rattle.std.specs.Prelude.{◌≡◌, ◌⊎◌, ℕ, ◌+◌, ◌-◌, ◌^◌, min, ℤ, List, [], Option, Some, None, codes}
+use Rattle.std.specs.Prelude.{◌≡◌, ◌≤◌, ◌==◌, ◌⊎◌, ℕ, ◌+◌, ◌-◌, ◌^◌, min, ℤ, List, [], Option, Some, None, codes, count_by}
 use Rattle.sha2.specs.Sha256.{sha256}
 use Rattle.ilp_accounts.specs.Configuration.{Configuration}
 use Rattle.ilp_line_file.specs.Text.{text_of}
@@ -44,10 +44,15 @@ saved_or_none (Some text) = text
 abbrev pub GoesOn : PlainLogText → Option (List ℕ) → Type 0
 GoesOn log text = log.digest ≡ sha256 (text_or_nothing text)
 
--- there is a text, and it has all that the log has
+-- how many lines a text has
+abbrev pub line_count : List ℕ → ℕ
+line_count text = count_by (λ (octet : ℕ). octet == 10) text
+
+-- There is a text, and it has all that the log has: its lines, and as many entries as the log goes on from. Beside those of entries
+-- a journal has a first line and a last.
 abbrev pub HasLog : PlainLogText → Option (List ℕ) → Type 0
 HasLog log None = ⊥
-HasLog log (Some text) = IsIn log text
+HasLog log (Some text) = IsIn log text × (log.count + 2 ≤ line_count text)
 
 -- Where the log goes on from the text, the book that goes on with its lines; else that of the text, which then has all that the log
 -- has.

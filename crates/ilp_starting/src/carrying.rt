@@ -7,7 +7,7 @@ ghost use Rattle.ilp_line_file.specs.Text.{text_of};
 ghost use Rattle.ilp_refusals.specs.declared.refusal.Refusal.TheVariants as refusals;
 ghost use Rattle.ilp_starting.specs.Beginning.{BeginsBy, BeginsWith, BeginsWithLog, IsWhyNotBegun};
 ghost use Rattle.ilp_starting.specs.Beginning.{IsWhyNotBegunBy, IsWhyNotBegunWithLog};
-ghost use Rattle.ilp_starting.specs.Beginning.{IsWhyNotRecoveredBy};
+ghost use Rattle.ilp_starting.specs.Beginning.{IsWhyNotRecoveredBy, line_count};
 
 use crate::not_carried::{bad_head, not_carried, not_recovered, of_another_text};
 use crate::refused::Refused;
@@ -134,7 +134,7 @@ fn book_beside(
 {
     if log.is_of(text) {
         recovered_book(alloc, config, path, text, log, now)
-    } else if log.is_in(text) {
+    } else if log.is_in(text) && line_count(text) as u64 >= u64::from(log.count()) + 2 {
         carried_book(alloc, config, path, text, Source::OlderLog, now)
     } else {
         Err(of_another_text(alloc, path))
@@ -203,7 +203,7 @@ fn recovered_book(
         Ok(book) => {
             let source = Source::Logged {
                 saved: log.count(),
-                logged: lines_in(log.lines()),
+                logged: u32::try_from(line_count(log.lines())).unwrap_or(u32::MAX),
             };
             Ok(Carried { book, source })
         }
@@ -212,9 +212,10 @@ fn recovered_book(
 }
 
 // How many lines a text has.
-fn lines_in(text: &[u8]) -> u32 {
-    let count = text.iter().filter(|octet| **octet == b'\n').count();
-    u32::try_from(count).unwrap_or(u32::MAX)
+fn line_count(text: &[u8]) -> usize
+    ensures { result ≡ line_count text.now }
+{
+    text.iter().filter(|octet| **octet == b'\n').count()
 }
 
 /// A book in which nothing was booked.
