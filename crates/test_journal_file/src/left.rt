@@ -79,6 +79,12 @@ pub(crate) const OF_ANOTHER_TEXT: Left = Left {
     log: Some(LOG_OF_OPEN),
 };
 
+/// A journal of before beside the log of one that was saved later.
+pub(crate) const BEFORE_ITS_LOG: Left = Left {
+    journal: Some(OPEN_JOURNAL),
+    log: Some(RELEASED.log),
+};
+
 /// A journal that is none.
 pub(crate) const TORN: Left = Left {
     journal: Some("ilp-journal 1\n"),
