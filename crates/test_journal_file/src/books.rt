@@ -5,8 +5,8 @@ use crate::disk::{
     Disk, Faults, Handle, JOURNAL, LOCK, LOG, LOG_NEW, Machine, NEVER, NEW, RUNNING, When,
 };
 use crate::left::{
-    End, FULFILLED, Left, OF_ANOTHER_TEXT, RELEASED, SAVED, SAVED_BESIDE_LOG, STOPPED,
-    STOPPED_FIRST, TORN,
+    BEFORE_ITS_LOG, End, FULFILLED, Left, OF_ANOTHER_TEXT, RELEASED, SAVED, SAVED_BESIDE_LOG,
+    STOPPED, STOPPED_FIRST, TORN,
 };
 use crate::looks::{has, is_as_left, is_there};
 use crate::tests::{Log, append};
@@ -201,8 +201,8 @@ fn expect_kept(
     Ok(())
 }
 
-// The journal is the text of before or that of the run. The log is as it was left, or else the journal is that
-// of the run, and the log goes on from it or is gone.
+// The journal is the text of before or that of the run. The log is as it was left, or else the journal is
+// that of the run, and the log goes on from it or is gone.
 fn expect_whole(rt: &impl Abort, disk: &Disk, left: Left, ends: End, when: When) -> io::Result<()> {
     let is_saved = has(disk, JOURNAL, when, ends.journal.as_bytes())?;
     assert!(rt; is_saved || is_as_left(disk, JOURNAL, when, left.journal)?);
@@ -286,6 +286,11 @@ fn expect_begun(
 #[test]
 fn a_log_of_another_text_is_refused(rt: HostRuntime) -> Result<(), Fail> {
     expect_refused(&rt, OF_ANOTHER_TEXT, "its log goes on from another text")
+}
+
+#[test]
+fn a_log_of_a_later_text_is_refused(rt: HostRuntime) -> Result<(), Fail> {
+    expect_refused(&rt, BEFORE_ITS_LOG, "its log goes on from another text")
 }
 
 #[test]

@@ -11,8 +11,8 @@ ilp-journal 1
 end 1
 ";
 
-// The log of a run that went on from there and stopped. Behind its entry is a line that was not written to its
-// end.
+// The log of a run that went on from there and stopped. Behind its entry is a line that was not written to
+// its end.
 const LOG_OF_OPEN: &str = "\
 ilp-log 1 1 a36e912da0b065b7a12335e50d1ab450305c3863845ebb1171b17fbb5cda893c
 run r1; peer alice USD 2; peer bob USD 2
@@ -33,6 +33,12 @@ ilp-journal 1
 0 0 hold alice bob 100 0 100 1000 66687aadf862bd776c8fc18b8e9f8e20089714856ee233b3902a591d0d5f2925
 0 0 released 0 Restart
 end 2
+";
+
+// The log of a run that went on from there and booked nothing.
+const LOG_OF_RELEASED: &str = "\
+ilp-log 1 2 7a61136e099cefb2a0655e0cc8d6ca234b4a98070c1e0e85c6082d284461078e
+run r1; peer alice USD 2; peer bob USD 2
 ";
 
 const FULFILLED_JOURNAL: &str = "\
@@ -79,6 +85,12 @@ pub(crate) const OF_ANOTHER_TEXT: Left = Left {
     log: Some(LOG_OF_OPEN),
 };
 
+/// A journal of before beside the log of one that was saved later.
+pub(crate) const BEFORE_ITS_LOG: Left = Left {
+    journal: Some(OPEN_JOURNAL),
+    log: Some(LOG_OF_RELEASED),
+};
+
 /// A journal that is none.
 pub(crate) const TORN: Left = Left {
     journal: Some("ilp-journal 1\n"),
@@ -118,10 +130,7 @@ pub(crate) struct End {
 /// The start has ended the hold.
 pub(crate) const RELEASED: End = End {
     journal: RELEASED_JOURNAL,
-    log: "\
-ilp-log 1 2 7a61136e099cefb2a0655e0cc8d6ca234b4a98070c1e0e85c6082d284461078e
-run r1; peer alice USD 2; peer bob USD 2
-",
+    log: LOG_OF_RELEASED,
     report: "balance   alice                                            0\n",
 };
 
