@@ -24,6 +24,7 @@
 
 mod fault;
 mod limited;
+mod linking;
 mod locking;
 mod log_device;
 mod logging;
@@ -41,6 +42,7 @@ mod taking;
 mod writing;
 
 pub use fault::FileFault;
+pub use linking::LinkedFile;
 pub use locking::LockFile;
 pub use log_device::LogDevice;
 pub use looking::{Found, look_at};

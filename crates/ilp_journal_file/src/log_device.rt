@@ -1,27 +1,27 @@
 //! The file of a log as a device.
 ghost use Rattle.std.specs.Prelude.{[]};
 
-use crate::fault::FileFault;
 use crate::limited::too_large;
-use crate::reading::read;
+use crate::linking::LinkedFile;
+use crate::reading::TEXT_LIMIT;
+use ilp_io::{ReadFault, read_to_limit};
 use ilp_line_file::{Device, DeviceFault};
-use ilp_notices::{journal_unread, log_unwritten};
+use ilp_notices::log_unwritten;
 use std::alloc::Global;
 use std::fs::{File, OpenFile};
-use std::io::{Eprint, ErrorKind, Seek, SeekFrom, Write};
-use std::rt::Files;
+use std::io;
+use std::io::{Eprint, ErrorKind, Read, Seek, SeekFrom, Write};
 use std::time::Clock;
-use std::{fs, io};
 
 /// The file of a log, `J.log`. Of it nothing is claimed: what a file of the system does, no clause can say.
 ///
-/// The first write, cut or sync that fails is told by a line on standard error, and so is each read that
-/// fails. A log that is removed or cut under a running connector is a failure too: a write finds that the
-/// file has all that it was given, and a sync that it lies there by its name.
+/// The first write, cut or sync that fails is told by a line on standard error. A log that is removed or
+/// cut under a running connector is a failure too: each write and sync finds that the file has all that it
+/// was given, and a name.
 #[derive(Drop)]
 pub struct LogDevice<'r, R, F = File> {
     rt: &'r R,
-    // By it the file is read, and looked at.
+    // As lines tell it.
     path: String,
     pub(crate) file: F,
     // The most octets that it may have. Of more the system would end the process by a signal (SIGXFSZ).
@@ -46,29 +46,32 @@ impl<'r, R, F> LogDevice<'r, R, F> {
     }
 }
 
-impl<R, F: Write + Seek> LogDevice<'_, R, F> {
-    /// Writes these octets from a place on. None is written where the file would have too many, or has fewer
-    /// than it was given: past its end the write would leave NUL octets between.
+impl<R, F: Write + Seek + OpenFile + LinkedFile> LogDevice<'_, R, F> {
+    /// Writes these octets from a place on. None is written where the file would have too many.
     pub(crate) fn put(&mut self, at: u64, octets: &[u8]) -> io::Result<()> {
         let end = at.saturating_add(octets.len() as u64);
         if end > self.most {
             return Err(too_large());
         }
-        if self.file.seek(SeekFrom::End(0))? < self.len {
-            return Err(io::Error::from(ErrorKind::UnexpectedEof));
-        }
+        self.expect_whole()?;
         self.file.seek(SeekFrom::Start(at))?;
         self.file.write_all(octets)?;
         self.len = self.len.max(end);
         Ok(())
     }
-}
 
-impl<R, F> LogDevice<'_, R, F>
-where
-    R: Files<File = F> + Clock + Eprint,
-    F: Write + Seek + OpenFile + Drop,
-{
+    // Finds that the file has all that it was given, and a name. Past the end of one that was cut a write
+    // would leave NUL octets between.
+    fn expect_whole(&mut self) -> io::Result<()> {
+        if self.file.seek(SeekFrom::End(0))? < self.len {
+            return Err(io::Error::from(ErrorKind::UnexpectedEof));
+        }
+        if self.file.names()? == 0 {
+            return Err(io::Error::from(ErrorKind::NotFound));
+        }
+        Ok(())
+    }
+
     // Cuts the file to a length.
     fn shorten(&mut self, len: u64) -> io::Result<()> {
         self.file.set_len(len)?;
@@ -76,17 +79,14 @@ where
         Ok(())
     }
 
-    // Has the disk keep what was written, and finds all of it by the file's name.
-    fn keep(&self) -> io::Result<()> {
+    // Has the disk keep what was written, and finds all of it.
+    fn keep(&mut self) -> io::Result<()> {
         self.file.sync_data()?;
-        let metadata = fs::symlink_metadata(self.rt, self.path.as_str())?;
-        if metadata.is_file() && metadata.len() >= self.len {
-            Ok(())
-        } else {
-            Err(io::Error::from(ErrorKind::UnexpectedEof))
-        }
+        self.expect_whole()
     }
+}
 
+impl<R: Clock + Eprint, F> LogDevice<'_, R, F> {
     // What a call came to. The first one that fails is told.
     fn outcome(&mut self, done: io::Result<()>) -> Result<(), DeviceFault> {
         let Err(error) = done else {
@@ -100,10 +100,12 @@ where
     }
 }
 
+// It asks for no files: the kit's prover covers no call that sends a value to a thread whose trait rests on
+// `Files` with the type of its files.
 impl<R, F> Device for LogDevice<'_, R, F>
 where
-    R: Files<File = F> + Clock + Eprint,
-    F: Write + Seek + OpenFile + Drop,
+    R: Clock + Eprint,
+    F: Read + Write + Seek + OpenFile + LinkedFile + Drop,
 {
     ghost claims = { ⊥ };
 
@@ -122,14 +124,12 @@ where
     ghost only_now = { λ none. absurd none };
 
     fn read(&mut self, alloc: Global) -> Result<Vec<u8>, DeviceFault> {
-        let path = self.path.as_str();
-        match read(self.rt, alloc, path) {
-            Ok(Some(text)) => Ok(text),
-            Ok(None) => {
-                journal_unread(self.rt, path, &io::Error::from(ErrorKind::NotFound));
-                Err(DeviceFault::Failed)
-            }
-            Err(FileFault::Memory) => Err(DeviceFault::Memory),
+        if self.file.seek(SeekFrom::Start(0)).is_err() {
+            return Err(DeviceFault::Failed);
+        }
+        match read_to_limit(alloc, &mut self.file, TEXT_LIMIT) {
+            Ok(text) => Ok(text),
+            Err(ReadFault::Memory) => Err(DeviceFault::Memory),
             Err(_) => Err(DeviceFault::Failed),
         }
     }

@@ -2,6 +2,7 @@
 
 use crate::fault::FileFault;
 use crate::limited::most_octets;
+use crate::linking::LinkedFile;
 use crate::log_device::LogDevice;
 use crate::names::Names;
 use crate::taking::JournalFile;
@@ -9,7 +10,7 @@ use crate::writing::create_anew;
 use ilp_notices::{log_left, not_made};
 use std::alloc::Global;
 use std::fs::OpenFile;
-use std::io::{Eprint, ErrorKind, Seek, Write};
+use std::io::{Eprint, ErrorKind, Read, Seek, Write};
 use std::rt::Files;
 use std::time::Clock;
 use std::{fs, io};
@@ -34,7 +35,7 @@ impl<F> JournalFile<F> {
     ) -> Result<LogDevice<'r, R, F>, FileFault>
     where
         R: Files<File = F> + Clock + Eprint,
-        F: Write + Seek + OpenFile + Drop,
+        F: Read + Write + Seek + OpenFile + LinkedFile + Drop,
     {
         let log = self.log_path();
         let path = format!(in alloc; "{log}")?;
@@ -65,7 +66,10 @@ impl Names {
         path: String,
         most: u64,
         head: &[u8],
-    ) -> io::Result<LogDevice<'r, R, R::File>> {
+    ) -> io::Result<LogDevice<'r, R, R::File>>
+    where
+        R::File: LinkedFile,
+    {
         let new = self.log_new.as_str();
         let file = create_anew(rt, new, self.mode(rt))?;
         let mut device = LogDevice::new(rt, path, file, most);

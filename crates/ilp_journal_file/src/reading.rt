@@ -12,8 +12,8 @@ use std::io::{Eprint, ErrorKind};
 use std::rt::Files;
 use std::time::Clock;
 
-// The most octets of a text that is read.
-const TEXT_LIMIT: usize = 8_589_934_592;
+/// The most octets of a text that is read.
+pub(crate) const TEXT_LIMIT: usize = 8_589_934_592;
 
 impl<F> JournalFile<F> {
     /// The text of the journal, or nothing where there is no file.

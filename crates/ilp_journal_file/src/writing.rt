@@ -33,6 +33,7 @@ pub(crate) fn create_anew<R: Files>(rt: &R, path: &str, mode: u32) -> io::Result
         _ => {}
     }
     OpenOptions::new()
+        .read(true)
         .write(true)
         .create_new(true)
         .mode(mode)

@@ -11,7 +11,7 @@ use crate::warning::{JournalWarnings, Telling};
 use ilp_accounts::Config;
 use ilp_book::Book;
 use ilp_io::Recording;
-use ilp_journal_file::{FileFault, Found, JournalFile, LogDevice};
+use ilp_journal_file::{FileFault, Found, JournalFile, LinkedFile, LogDevice};
 use ilp_line_file::{Device, LineFile};
 use ilp_log_text::head_text;
 use ilp_notices::{journal_absent, journal_carried, nothing_to_save};
@@ -42,7 +42,7 @@ pub struct Begun<D: Device + Drop> {
 impl<'r, R, F> BookFile<'r, R, F>
 where
     R: AllocGlobal + Files<File = F> + std::time::Clock + Print + Eprint + Copy,
-    F: Read + Write + Seek + OpenFile + Drop,
+    F: Read + Write + Seek + OpenFile + LinkedFile + Drop,
 {
     /// The book that the file and its log have. It is told how many entries that begins with, and what
     /// there is to say of a sudden stop. The configuration is remembered beside the file, which is saved

@@ -1,6 +1,6 @@
 //! A disk in memory: a folder with room for a journal and what stands beside it.
 
-use ilp_journal_file::LockFile;
+use ilp_journal_file::{LinkedFile, LockFile};
 use std::alloc::{Alloc, Allocator, Global};
 use std::cell::RefCell;
 use std::fmt::Display;
@@ -491,6 +491,14 @@ impl OpenFile for Handle<'_> {
 
     fn sync_data(&self) -> io::Result<()> {
         self.sync_all()
+    }
+}
+
+impl LinkedFile for Handle<'_> {
+    fn names(&self) -> io::Result<u64> {
+        let state = self.disk.state()?;
+        let named = state.now.iter().filter(|content| **content == self.content);
+        Ok(named.count() as u64)
     }
 }
 
