@@ -58,11 +58,28 @@ where
         ensures count { IfOk result (λ b. b.log.count ≤ length b.book.entries) }
     {
         let book = self.carried()?;
-        let (rt, config) = (self.rt, self.config);
-        let text = remembered_text(rt.alloc(), config)?;
-        self.file.remember(rt, rt.alloc(), text.as_bytes())?;
-        let log = self.begin_log(&book)?;
-        Ok(Begun { book, log })
+        match self.go_on(&book) {
+            Ok(log) => Ok(Begun { book, log }),
+            Err(refused) => Err(refused),
+        }
+    }
+
+    // Has the configuration remembered, and begins a log that goes on from this book.
+    fn go_on(&self, book: &Book) -> Result<BegunLog<LogDevice<'r, R, F>>, Refused>
+        requires { book.now.config ≡ self.now.config.now }
+        ensures { IfOk result (λ log. log.count ≤ length book.now.entries) }
+    {
+        self.remember()?;
+        self.begin_log(book)
+    }
+
+    fn remember(&self) -> Result<(), Refused> {
+        let alloc = self.rt.alloc();
+        let text = remembered_text(alloc, self.config)?;
+        match self.file.remember(self.rt, alloc, text.as_bytes()) {
+            Ok(()) => Ok(()),
+            Err(fault) => Err(Refused::from(fault)),
+        }
     }
 
     // The book of what is found, of which what there is to say is told.
@@ -70,18 +87,27 @@ where
         ensures config { IfOk result (λ b. b.config ≡ self.now.config.now) }
         ensures opening { IfOk result (λ b. length b.entries ≡ b.base) }
     {
-        let rt = self.rt;
         let found = self.found()?;
-        let carried = found_book(rt, self.config, self.path, &found)?;
+        match found_book(self.rt, self.config, self.path, &found) {
+            Ok(carried) => {
+                self.tell(&carried, found.text.is_some());
+                let Carried { book, source: _ } = carried;
+                Ok(book)
+            }
+            Err(refused) => Err(refused),
+        }
+    }
+
+    // Tells with what a run begins, and whether there was a file.
+    fn tell(&self, carried: &Carried, is_there: bool) {
+        let (rt, book) = (self.rt, &carried.book);
         carried.tell(rt, self.path, Telling::Notice);
-        let Carried { book, source: _ } = carried;
-        if found.text.is_none() && book.len() == 0 {
+        if !is_there && book.len() == 0 {
             journal_absent(rt, self.path);
         } else {
             journal_carried(rt, self.path, book.len());
-            JournalWarnings::of(rt, &book).tell(rt, self.path, Telling::Notice);
+            JournalWarnings::of(rt, book).tell(rt, self.path, Telling::Notice);
         }
-        Ok(book)
     }
 
     fn found(&self) -> Result<Found, FileFault> {

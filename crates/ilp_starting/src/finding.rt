@@ -47,9 +47,19 @@ where
     let now = SystemClock::new(*rt).now();
     let (text, log) = (octets_of(&found.text), octets_of(&found.log));
     let carried = book_of(rt.alloc(), config, path, text, log, now)?;
+    match expect_remembered(rt, path, &carried, found) {
+        Ok(()) => Ok(carried),
+        Err(refused) => Err(refused),
+    }
+}
+
+// Finds that a book's configuration has the run and the assets that are remembered.
+fn expect_remembered<R>(rt: &R, path: &str, carried: &Carried, found: &Found) -> Result<(), Refused>
+where
+    R: AllocGlobal + time::Clock + Eprint,
+{
     let remembered = remembered_of(rt.alloc(), found, carried.source)?;
-    expect_unchanged(rt, path, &carried.book, &remembered)?;
-    Ok(carried)
+    expect_unchanged(rt, path, &carried.book, &remembered)
 }
 
 fn octets_of(text: &Option<Vec<u8>>) -> Option<&[u8]> {
