@@ -253,16 +253,6 @@ impl Disk {
         state.sync(None)
     }
 
-    /// Puts the files that are here then on another disk. No call is counted.
-    pub(crate) fn put_on(&self, other: &Disk, when: When) -> io::Result<()> {
-        for name in NAMES {
-            if let Some(text) = self.text(name, when)? {
-                other.put(name, &text)?;
-            }
-        }
-        Ok(())
-    }
-
     /// Takes a file away, as somebody else does. No call is counted.
     pub(crate) fn take_away(&self, path: &str) -> io::Result<()> {
         self.state()?.name(path, None)

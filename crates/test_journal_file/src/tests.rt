@@ -78,8 +78,7 @@ const NOWHERE: Came = Came {
     is_saved: false,
 };
 
-/// The log of a run over a disk.
-pub(crate) type Log<'d> = LineFile<LogDevice<'d, Machine<'d>, Handle<'d>>>;
+type Log<'d> = LineFile<LogDevice<'d, Machine<'d>, Handle<'d>>>;
 
 // A run from its start to its end, over the disk of a machine.
 fn run<'d>(machine: &'d Machine<'d>, alloc: Global) -> Came {
@@ -118,8 +117,8 @@ fn begin<'d>(
     })
 }
 
-/// Appends lines to a log, which is never so long that they have no room behind it.
-pub(crate) fn append(log: &mut Log<'_>, lines: &[u8]) -> Result<(), DeviceFault>
+// Appends lines to a log, which is never so long that they have no room behind it.
+fn append(log: &mut Log<'_>, lines: &[u8]) -> Result<(), DeviceFault>
     requires { IsText lines.now }
 {
     if log.end >= usize::MAX - lines.len() {
