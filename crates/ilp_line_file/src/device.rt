@@ -1,5 +1,5 @@
 //! A file as a log sees it: what a read returns, and what a crash may leave.
-ghost use Rattle.std.specs.Prelude.{◌≡◌, ◌≤◌, List, ℕ, length, take, IfOk, OnOk};
+ghost use Rattle.std.specs.Prelude.{◌≡◌, ◌≤◌, ◌⊎◌, [], ◌++◌, List, ℕ, length, take, IfOk, OnOk};
 ghost use Rattle.ilp_line_file.specs.declared.device.DeviceFault.TheVariants.{Memory};
 ghost use Rattle.ilp_line_file.specs.Device.{Only, Follows, Torn, Cut, Holds, Elapses, HasCause};
 
@@ -36,7 +36,8 @@ impl From<AllocError> for DeviceFault {
     }
 }
 
-/// A file on a disk that may lose what was not synced.
+/// A file on a disk that may lose what was not synced. It may be made anew: a new file is written beside it
+/// (`open_anew`, `write_anew`), and then takes its place as a whole (`take_place`).
 ///
 /// A crash may come at any moment, during a call too. Each member is of proofs alone: no call tells
 /// it. After a call that failed the file may be whatever a crash may leave.
@@ -47,6 +48,9 @@ pub trait Device {
 
     /// The octets that a read returns.
     ghost seen: { Self → List ℕ };
+
+    /// What the new file beside it has.
+    ghost anew: { Self → List ℕ };
 
     /// What a crash at this moment may leave.
     ghost may_leave: { Self → List ℕ → Type 0 };
@@ -95,6 +99,34 @@ pub trait Device {
         ensures durable { claims → OnOk result (Only (seen self.old) (may_leave self.new)) }
         ensures seen { claims → seen self.new ≡ seen self.old }
         ensures crash { claims → (c : List ℕ) → may_leave self.new c → may_leave self.old c }
+        ensures time { claims → Elapses (moment self.old) (moment self.new)
+            (left_since self.old) (left_since self.new) (may_leave self.new) }
+        ensures cause { claims → HasCause (faults self.old) (faults self.new) result };
+
+    /// Begins a new file beside this one, with nothing in it.
+    fn open_anew(&mut self) -> Result<(), DeviceFault>
+        ensures empty { claims → OnOk result (anew self.new ≡ []) }
+        ensures crash { claims → (c : List ℕ) → may_leave self.new c → may_leave self.old c }
+        ensures time { claims → Elapses (moment self.old) (moment self.new)
+            (left_since self.old) (left_since self.new) (may_leave self.new) }
+        ensures cause { claims → HasCause (faults self.old) (faults self.new) result };
+
+    /// Writes behind what the new file has.
+    fn write_anew(&mut self, octets: &[u8]) -> Result<(), DeviceFault>
+        ensures written { claims
+            → OnOk result (anew self.new ≡ anew self.old ++ octets.now) }
+        ensures crash { claims → (c : List ℕ) → may_leave self.new c → may_leave self.old c }
+        ensures time { claims → Elapses (moment self.old) (moment self.new)
+            (left_since self.old) (left_since self.new) (may_leave self.new) }
+        ensures cause { claims → HasCause (faults self.old) (faults self.new) result };
+
+    /// Has the new file take the place of this one, once the disk has all of it. Until it has returned
+    /// `Ok`, a crash leaves either what it might have left before, or all of the new file.
+    fn take_place(&mut self) -> Result<(), DeviceFault>
+        ensures seen { claims → OnOk result (seen self.new ≡ anew self.old) }
+        ensures durable { claims → OnOk result (Only (anew self.old) (may_leave self.new)) }
+        ensures crash { claims → (c : List ℕ) → may_leave self.new c
+            → may_leave self.old c ⊎ (c ≡ anew self.old) }
         ensures time { claims → Elapses (moment self.old) (moment self.new)
             (left_since self.old) (left_since self.new) (may_leave self.new) }
         ensures cause { claims → HasCause (faults self.old) (faults self.new) result };

@@ -16,6 +16,8 @@
 //!   all of them are on the disk.
 //! - `LineFile::reserve` writes zeros ahead, and `recover` reads the lines and cuts off what stands
 //!   behind them. A crash at any moment of either leaves the same lines.
+//! - `LineFile::take_place` has a new file of lines take its place: a crash at any moment of it leaves
+//!   what it might have left before, or all of the new one.
 //! - After `recover` the file is ready to grow, and its text is that of its lines.
 //! - `Failed` is answered only where the disk failed, and a fault of the disk is counted.
 #![tactic(auto)]

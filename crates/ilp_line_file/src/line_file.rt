@@ -1,5 +1,5 @@
 //! A file of lines that grows at its end.
-ghost use Rattle.std.specs.Prelude.{◌≡◌, ◌≤◌, ◌<◌, ◌+◌, ◌^◌, ◌++◌, List, ℕ, length, take, IfOk, OnOk};
+ghost use Rattle.std.specs.Prelude.{◌≡◌, ◌≤◌, ◌<◌, ◌+◌, ◌^◌, ◌++◌, ◌⊎◌, List, ℕ, length, take, IfOk, OnOk};
 ghost use Rattle.ilp_line_file.specs.Device.{Only, LeavesOnly, HasCause};
 ghost use Rattle.ilp_line_file.specs.Text.{recovered, text_of, IsText, IsBlank, IsBetween};
 ghost use Rattle.ilp_line_file.specs.File.{IsSettled};
@@ -69,6 +69,32 @@ impl<D: Device> LineFile<D> {
     {
         self.device.write_at(self.end, zeros)?;
         self.device.sync()
+    }
+
+    /// Has the new file beside the device take the place of this one. It has whole lines alone, of so many
+    /// octets. This one may be whatever a call that failed has left of it.
+    ///
+    /// At `Err` the file is to be recovered before it is used again.
+    pub fn take_place(&mut self, end: usize) -> Result<(), DeviceFault>
+        requires text { D.claims → IsText (D.anew self.old.device) }
+        requires end { D.claims → end ≡ length (D.anew self.old.device) }
+
+        ensures settled { D.claims → OnOk result (IsSettled D.seen D.may_leave self.new) }
+        ensures lines { D.claims → OnOk result (recovered (D.seen self.new.device)
+            ≡ recovered (D.anew self.old.device)) }
+
+        // A crash at any moment of the call leaves what it might have left before, or the new file.
+        ensures any_moment { D.claims → LeavesOnly D.moment D.left_since
+            self.old.device self.new.device
+            (λ c. D.may_leave self.old.device c ⊎ (c ≡ D.anew self.old.device)) }
+        ensures crash { D.claims → (c : List ℕ) → D.may_leave self.new.device c
+            → D.may_leave self.old.device c ⊎ (c ≡ D.anew self.old.device) }
+        ensures cause { D.claims
+            → HasCause (D.faults self.old.device) (D.faults self.new.device) result }
+    {
+        self.device.take_place()?;
+        self.end = end;
+        Ok(())
     }
 }
 

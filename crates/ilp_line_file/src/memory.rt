@@ -12,6 +12,8 @@ use std::alloc::{AllocError, Global};
 pub struct MemoryDevice {
     alloc: Global,
     octets: Vec<u8>,
+    // The new file beside it.
+    anew: Vec<u8>,
     // Each content that it had before: without them nothing could say what a crash might have left.
     past: Vec<Vec<u8>>,
 }
@@ -26,6 +28,7 @@ impl MemoryDevice {
         MemoryDevice {
             alloc,
             octets,
+            anew: Vec::new(alloc),
             past: Vec::new(alloc),
         }
     }
@@ -61,6 +64,8 @@ impl Device for MemoryDevice {
 
     ghost seen = { λ m. m.octets.items };
 
+    ghost anew = { λ m. m.anew.items };
+
     ghost may_leave = { λ m c. c ≡ m.octets.items };
 
     ghost moment = { λ m. length m.past.items };
@@ -93,5 +98,19 @@ impl Device for MemoryDevice {
 
     fn sync(&mut self) -> Result<(), DeviceFault> {
         Ok(())
+    }
+
+    fn open_anew(&mut self) -> Result<(), DeviceFault> {
+        self.anew.clear();
+        Ok(())
+    }
+
+    fn write_anew(&mut self, octets: &[u8]) -> Result<(), DeviceFault> {
+        Ok(self.anew.extend_from_slice(octets)?)
+    }
+
+    fn take_place(&mut self) -> Result<(), DeviceFault> {
+        let next = self.anew.to_vec(self.alloc)?;
+        Ok(replace(self.alloc, &mut self.octets, &mut self.past, next)?)
     }
 }
