@@ -1,12 +1,14 @@
 -- A configuration as plain data, and the one that a table gives. Peers and assets are named by their places.
 use Rattle.ilp_assets.specs.Quote.{most}
-use Rattle.std.specs.Prelude.{ℕ, ℤ, pos, List, [], codes, map, slice_get, bytes_eq, Option, Some, None, unwrap_or}
+use Rattle.std.specs.Prelude.{ℕ, ℤ, pos, List, [], codes, map, slice_get, bytes_eq, if◌then◌else◌, Option, Some, None, unwrap_or}
 use Rattle.std.specs.List.{position}
 use Rattle.toml.specs.Data.{Data, Members}
 use Rattle.ilp_lookup.specs.Route.{Route}
 use Rattle.ilp_assets.specs.Assets.{PlainAsset, PlainPrice, PlainTable, place_of}
 use Rattle.ilp_fields.specs.declared.fault.Field.TheVariants as field
 use Rattle.ilp_accounts.specs.declared.peer.Levels.{Levels}
+use Rattle.ilp_accounts.specs.declared.settings.LogSync.{LogSync}
+use Rattle.ilp_accounts.specs.declared.settings.LogSync.TheVariants.{Group, Off}
 use Rattle.ilp_fields.specs.Fields.{text_of, text_in, integer_of, integer_in, natural_of, natural_in, asset_of, elements_of, tables}
 
 -- what stands at the top; times in milliseconds, the journal in entries
@@ -22,6 +24,7 @@ pub record PlainSettings : Type 0 where
   pub max_hold_ms : ℕ
   pub sweep_ms : ℕ
   pub settle_ms : ℕ
+  pub sync : LogSync
 
 -- a peer; amounts in units of its asset
 pub record PlainPeer : Type 0 where
@@ -60,6 +63,10 @@ peer_tokens peers = map (λ p. p.token) peers
 
 -- ---- what a table gives
 
+-- what a text of the field stands for
+abbrev pub sync_of : List ℕ → LogSync
+sync_of text = if bytes_eq text (codes "off") then Off else Group
+
 unfoldable pub settings_of : Members → PlainSettings
 settings_of t = record {
   address = text_of field.Address t;
@@ -73,6 +80,7 @@ settings_of t = record {
   max_hold_ms = unwrap_or (natural_in field.MaxHoldMs t) 30000;
   sweep_ms = unwrap_or (natural_in field.SweepMs t) 100;
   settle_ms = unwrap_or (natural_in field.SettleMs t) 1000;
+  sync = sync_of (unwrap_or (text_in field.Sync t) (codes "group"));
 }
 
 -- the elements of the arrays

@@ -32,6 +32,7 @@ settings_checks t =
     ∷ optional (is_natural 1 longest_ms) field.MaxHoldMs t
     ∷ optional (is_natural 1 longest_rest_ms) field.SweepMs t
     ∷ optional (is_natural 1 longest_rest_ms) field.SettleMs t
+    ∷ optional (is_text form.Sync) field.Sync t
     ∷ []
 
 unfoldable pub settings_fault : Members → Option ConfigFault

@@ -22,6 +22,7 @@ plain_settings text s = record {
   max_hold_ms = s.max_hold_ms;
   sweep_ms = s.sweep_ms;
   settle_ms = s.settle_ms;
+  sync = s.sync;
 }
 
 abbrev pub plain_arrays : Arrays → PlainArrays

@@ -17,7 +17,7 @@ use crate::assets::table_of;
 use crate::peer::{Levels, Peer};
 use crate::peers::{Peers, peers_of};
 use crate::route::routes_of;
-use crate::settings::{Settings, settings_of};
+use crate::settings::{LogSync, Settings, settings_of};
 use ilp_assets::AssetTable;
 use ilp_fields::ConfigFault;
 use ilp_lookup::RouteIndex;
@@ -208,6 +208,13 @@ impl Config {
         ensures { result ≡ self.now.settings.settle_ms }
     {
         self.settings.settle_ms
+    }
+
+    /// When the lines of a log reach the disk.
+    pub fn sync(&self) -> LogSync
+        ensures { result ≡ self.now.settings.sync }
+    {
+        self.settings.sync
     }
 
     /// The assets and their prices.

@@ -55,6 +55,7 @@ fn expected(array: Option<Array>, field: Field) -> &'static str {
         Field::Name => "a text of 1 to 16 small letters, digits, _ and -",
         Field::Token | Field::OutToken => "a text of 1 to 128 visible ASCII characters",
         Field::Prefix => "an ILP address, a scheme or an empty text, and not of the scheme peer",
+        Field::Sync => "the text group or off",
         number => expected_number(number),
     }
 }

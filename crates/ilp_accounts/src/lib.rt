@@ -29,3 +29,4 @@ pub use config::Config;
 pub use explanation::explain;
 pub use ilp_fields::{ConfigFault, Field};
 pub use peer::Levels;
+pub use settings::LogSync;

@@ -3,7 +3,7 @@ ghost use Rattle.std.specs.Prelude.{◌≡◌, string_bytes, IfOk};
 ghost use Rattle.toml.specs.View.{table_view};
 ghost use Rattle.ilp_fields.specs.Checks.{Reads};
 ghost use Rattle.ilp_accounts.specs.Views.{plain_settings};
-ghost use Rattle.ilp_accounts.specs.Configuration.{settings_of};
+ghost use Rattle.ilp_accounts.specs.Configuration.{settings_of, sync_of};
 ghost use Rattle.ilp_accounts.specs.Faults.{settings_fault};
 
 use ilp_fields::{ConfigFault, Field, Form, defaulted_number, defaulted_text, required_text};
@@ -13,6 +13,16 @@ use toml::Table;
 const HOUR_MS: u32 = 3_600_000;
 
 const MINUTE_MS: u32 = 60_000;
+
+/// When the lines of a log reach the disk.
+#[derive(Clone, Copy, Debug, PartialEq, Eq)]
+pub enum LogSync {
+    /// Before anybody is told of them, with all lines that were written by then.
+    Group,
+    /// When the system sees fit: the end of the process takes none of them, and that of the machine
+    /// may.
+    Off,
+}
 
 /// What holds for the connector as a whole: times in milliseconds, the journal in entries. Its texts
 /// lie in a table of TOML, or are its own.
@@ -29,6 +39,7 @@ pub(crate) struct Settings<T> {
     pub(crate) max_hold_ms: u32,
     pub(crate) sweep_ms: u32,
     pub(crate) settle_ms: u32,
+    pub(crate) sync: LogSync,
 }
 
 /// Reads the top fields.
@@ -53,6 +64,7 @@ pub(crate) fn settings_of(table: &Table) -> Result<Settings<&str>, ConfigFault>
     let max_hold_ms = defaulted_number(table, Field::MaxHoldMs, 1, HOUR_MS, 30_000)?;
     let sweep_ms = defaulted_number(table, Field::SweepMs, 1, MINUTE_MS, 100)?;
     let settle_ms = defaulted_number(table, Field::SettleMs, 1, MINUTE_MS, 1_000)?;
+    let sync = defaulted_text(table, Field::Sync, Form::Sync, "group")?;
     Ok(Settings {
         address,
         run,
@@ -65,7 +77,18 @@ pub(crate) fn settings_of(table: &Table) -> Result<Settings<&str>, ConfigFault>
         max_hold_ms,
         sweep_ms,
         settle_ms,
+        sync: sync_of(sync),
     })
+}
+
+// What a text of the field stands for.
+fn sync_of(text: &str) -> LogSync
+    ensures { result ≡ sync_of text.now }
+{
+    if text == "off" {
+        return LogSync::Off;
+    }
+    LogSync::Group
 }
 
 impl Settings<&str> {
@@ -86,6 +109,7 @@ impl Settings<&str> {
             max_hold_ms: self.max_hold_ms,
             sweep_ms: self.sweep_ms,
             settle_ms: self.settle_ms,
+            sync: self.sync,
         })
     }
 }
@@ -107,6 +131,7 @@ impl Settings<String> {
             max_hold_ms: self.max_hold_ms,
             sweep_ms: self.sweep_ms,
             settle_ms: self.settle_ms,
+            sync: self.sync,
         }
     }
 }

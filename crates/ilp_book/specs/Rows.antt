@@ -3,6 +3,7 @@ use Rattle.std.specs.Prelude.{◌≡◌, ℕ, ◌+◌, pos, negsuc, true, false,
 use Rattle.ilp_packet.specs.Packet.{PlainPrepare}
 use Rattle.ilp_assets.specs.declared.quote.QuoteFault.TheVariants as quote_fault
 use Rattle.ilp_accounts.specs.Configuration.{Configuration, PlainPeer, nobody}
+use Rattle.ilp_accounts.specs.declared.settings.LogSync.TheVariants.{Group}
 use Rattle.ilp_journal.specs.declared.entry.Entry.{Entry}
 use Rattle.ilp_journal.specs.declared.entry.What.TheVariants as what
 use Rattle.ilp_journal.specs.declared.entry.Cause.{Cause}
@@ -39,7 +40,7 @@ bob_in_parts = record alice { levels = Some (record { threshold = pos 1000; sett
 
 abbrev pub between : PlainPeer → PlainPeer → Configuration
 between one other = record {
-  settings = record { address = []; run = []; listen = []; engine_listen = []; path = []; workers = 1; journal = 65536; window_ms = 1000; max_hold_ms = 30000; sweep_ms = 100; settle_ms = 1000 };
+  settings = record { address = []; run = []; listen = []; engine_listen = []; path = []; workers = 1; journal = 65536; window_ms = 1000; max_hold_ms = 30000; sweep_ms = 100; settle_ms = 1000; sync = Group };
   table = record { assets = record { code = codes "USD"; scale = 2 } ∷ []; prices = [] };
   peers = one ∷ other ∷ [];
   routes = [];

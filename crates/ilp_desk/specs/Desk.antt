@@ -1,6 +1,7 @@
 -- The desk that is named, and which books are its own.
 use Rattle.std.specs.Prelude.{◌≡◌, ℕ, ◌+◌, ◌<◌, [], ◌++◌, length, drop, All}
 use Rattle.ilp_accounts.specs.Configuration.{Configuration}
+use Rattle.ilp_accounts.specs.declared.settings.LogSync.TheVariants.{Group}
 use Rattle.ilp_journal.specs.declared.entry.Entry.{Entry}
 use Rattle.ilp_journal.specs.Journal.{Entries}
 use Rattle.ilp_book.specs.Book.{PlainBook}
@@ -44,7 +45,7 @@ pub record IsBookOf (desk : PlainDesk) (book : PlainBook) : Type 0 where
 
 -- a configuration of nothing
 abbrev pub nothing : Configuration
-nothing = record { settings = record { address = []; run = []; listen = []; engine_listen = []; path = []; workers = 0; journal = 0; window_ms = 0; max_hold_ms = 0; sweep_ms = 0; settle_ms = 0 }; table = record { assets = []; prices = [] }; peers = []; routes = [] }
+nothing = record { settings = record { address = []; run = []; listen = []; engine_listen = []; path = []; workers = 0; journal = 0; window_ms = 0; max_hold_ms = 0; sweep_ms = 0; settle_ms = 0; sync = Group }; table = record { assets = []; prices = [] }; peers = []; routes = [] }
 
 -- what stands for the desk where none is named
 abbrev pub no_desk : PlainDesk

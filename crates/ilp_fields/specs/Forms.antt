@@ -52,3 +52,4 @@ admits form.Code text = is_within 1 12 (length text) && list_all is_code_octet t
 admits form.Name text = is_within 1 16 (length text) && list_all is_name_octet text
 admits form.Token text = is_within 1 128 (length text) && list_all is_visible_octet text
 admits form.Prefix text = is_prefix text
+admits form.Sync text = bytes_eq text (codes "group") || bytes_eq text (codes "off")

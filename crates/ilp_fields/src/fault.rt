@@ -23,6 +23,7 @@ pub enum Field {
     MaxHoldMs,
     SweepMs,
     SettleMs,
+    Sync,
     /// The array of assets, and a peer's asset.
     Asset,
     Price,
@@ -67,6 +68,7 @@ impl Field {
             Field::MaxHoldMs => "max_hold_ms",
             Field::SweepMs => "sweep_ms",
             Field::SettleMs => "settle_ms",
+            Field::Sync => "sync",
             Field::Asset => "asset",
             Field::Price => "price",
             Field::Peer => "peer",

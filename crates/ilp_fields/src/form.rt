@@ -24,6 +24,8 @@ pub enum Form {
     Token,
     /// Nothing, a scheme or an address, but not of the scheme `peer`.
     Prefix,
+    /// `group` or `off`.
+    Sync,
 }
 
 impl Form {
@@ -41,6 +43,7 @@ impl Form {
             Form::Name => has_length(octets, 1, 16) && are_name_octets(octets),
             Form::Token => has_length(octets, 1, 128) && are_visible_octets(octets),
             Form::Prefix => is_prefix(text),
+            Form::Sync => text == "group" || text == "off",
         }
     }
 }

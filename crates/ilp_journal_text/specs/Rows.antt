@@ -1,6 +1,7 @@
 -- Worked texts. Alice and bob are the peers 0 and 1.
 use Rattle.std.specs.Prelude.{◌≡◌, ℕ, pos, List, [], ◌∷◌, ◌++◌, codes, replicate}
 use Rattle.ilp_accounts.specs.Configuration.{Configuration, PlainPeer, nobody}
+use Rattle.ilp_accounts.specs.declared.settings.LogSync.TheVariants.{Group}
 use Rattle.ilp_journal.specs.declared.entry.Entry.{Entry}
 use Rattle.ilp_journal.specs.declared.entry.What.{What}
 use Rattle.ilp_journal.specs.declared.entry.What.TheVariants as what
@@ -24,6 +25,7 @@ config = record {
     max_hold_ms = 30000;
     sweep_ms = 100;
     settle_ms = 1000;
+    sync = Group;
   };
   table = record { assets = []; prices = [] };
   peers = named (codes "alice") ∷ named (codes "bob") ∷ [];

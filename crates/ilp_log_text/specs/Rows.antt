@@ -1,6 +1,7 @@
 -- Worked lines, of a configuration with two peers. The digests are those of `sha256sum`.
 use Rattle.std.specs.Prelude.{◌≡◌, ℕ, List, [], ◌∷◌, ◌++◌, codes}
 use Rattle.ilp_accounts.specs.Configuration.{Configuration, PlainPeer, nobody}
+use Rattle.ilp_accounts.specs.declared.settings.LogSync.TheVariants.{Group}
 use Rattle.ilp_line_file.specs.Text.{recovered}
 use Rattle.ilp_log_text.specs.Head.{head_lines}
 use Rattle.ilp_log_text.specs.Remembering.{remembered_in}
@@ -23,6 +24,7 @@ config = record {
     max_hold_ms = 30000;
     sweep_ms = 100;
     settle_ms = 1000;
+    sync = Group;
   };
   table = record { assets = record { code = codes "USD"; scale = 2 } ∷ record { code = codes "XRP"; scale = 9 } ∷ []; prices = [] };
   peers = in_asset (codes "alice") 1 ∷ in_asset (codes "bob") 0 ∷ [];

@@ -2,6 +2,7 @@
 use Rattle.std.specs.Prelude.{◌≡◌, ℕ, pos, negsuc, List, [], ◌∷◌, ◌++◌, codes, replicate}
 use Rattle.ilp_assets.specs.Assets.{PlainAsset}
 use Rattle.ilp_accounts.specs.Configuration.{PlainPeer, nobody}
+use Rattle.ilp_accounts.specs.declared.settings.LogSync.TheVariants.{Group}
 use Rattle.ilp_journal.specs.declared.entry.Entry.{Entry}
 use Rattle.ilp_journal.specs.declared.entry.What.{What}
 use Rattle.ilp_journal.specs.declared.entry.What.TheVariants as what
@@ -25,7 +26,7 @@ peer_of name asset = record nobody { name = name; asset = asset; least = negsuc 
 abbrev pub book_of : List PlainAsset → ℕ → Entries → PlainBook
 book_of assets asset entries = record {
   config = record {
-    settings = record { address = []; run = []; listen = []; engine_listen = []; path = []; workers = 1; journal = 65536; window_ms = 1000; max_hold_ms = 30000; sweep_ms = 100; settle_ms = 1000 };
+    settings = record { address = []; run = []; listen = []; engine_listen = []; path = []; workers = 1; journal = 65536; window_ms = 1000; max_hold_ms = 30000; sweep_ms = 100; settle_ms = 1000; sync = Group };
     table = record { assets = assets; prices = [] };
     peers = peer_of (codes "alice") 0 ∷ peer_of (codes "bob") asset ∷ [];
     routes = [];

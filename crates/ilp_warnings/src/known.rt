@@ -23,6 +23,7 @@ pub(crate) fn known_in(within: ConfigTable) -> &'static [Field]
             Field::MaxHoldMs,
             Field::SweepMs,
             Field::SettleMs,
+            Field::Sync,
             Field::Asset,
             Field::Price,
             Field::Peer,
@@ -65,6 +66,7 @@ pub(crate) fn top_fields() -> &'static [Field]
         Field::MaxHoldMs,
         Field::SweepMs,
         Field::SettleMs,
+        Field::Sync,
     ]
 }
 

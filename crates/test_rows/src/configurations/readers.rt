@@ -41,6 +41,7 @@ fn print_numbers(rt: &impl Print, config: &Config) -> io::Result<()> {
     println!(rt; "max_hold_ms {}", config.max_hold_ms())?;
     println!(rt; "sweep_ms {}", config.sweep_ms())?;
     println!(rt; "settle_ms {}", config.settle_ms())?;
+    println!(rt; "sync {:?}", config.sync())?;
     println!(rt; "peers {}", config.peers())?;
     println!(rt; "routes {}", config.routes())
 }
