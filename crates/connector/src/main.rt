@@ -16,7 +16,7 @@ use checking::{run_check, run_check_journal};
 use helping::{USAGE, run_help, run_version};
 use ilp_described::{describe_packet, reject_words};
 use ilp_refusals::Refusal;
-use ilp_starting::{Host, Refused, RunFault, serve};
+use ilp_starting::{Host, PlacesFiles, Refused, RunFault, serve};
 use replaying::run_replay;
 use std::env;
 use std::fs::File;
@@ -75,7 +75,10 @@ fn given_words<R: Runtime + AllocGlobal>(rt: &R) -> Result<Words, Exit> {
 // Runs what the words ask for.
 fn run<R>(rt: &R, words: &Words) -> Exit
 where
-    R: Host + Files<File = File> + Net<Listener = TcpListener, Stream = TcpStream>,
+    R: Host
+        + Files<File = File>
+        + PlacesFiles<File = File>
+        + Net<Listener = TcpListener, Stream = TcpStream>,
 {
     match words.asked() {
         Some(asked) => run_asked(rt, asked),
@@ -86,7 +89,10 @@ where
 // Runs what the program is asked for.
 fn run_asked<R>(rt: &R, asked: Asked<'_>) -> Exit
 where
-    R: Host + Files<File = File> + Net<Listener = TcpListener, Stream = TcpStream>,
+    R: Host
+        + Files<File = File>
+        + PlacesFiles<File = File>
+        + Net<Listener = TcpListener, Stream = TcpStream>,
 {
     match asked {
         Asked::Help => run_help(rt),

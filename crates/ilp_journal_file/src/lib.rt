@@ -5,9 +5,9 @@
 //! - `J.lock`, which a connector locks for as long as it runs, and which keeps what is to be remembered of
 //!   its configuration.
 //! - `J.log`, while a connector runs and behind one that stopped without saving: to it each entry is
-//!   written before anybody is told of it. It goes once the journal has all that it has.
-//! - `J.log.new` for a moment, which is written and then takes the place of `J.log`. So a log has from its
-//!   first moment all of its head.
+//!   written before anybody is told of it, unless that fails. It goes once the journal has all that it has.
+//! - `J.log.new` for a moment, which is written and then takes the place of `J.log`: at a start, and where a
+//!   log that failed is written anew. So a log has from its first moment all that it is to have then.
 //! - `J.new` for a moment, which is written and then takes the place of `J`. So `J` is at each moment a
 //!   whole text, or not there.
 //!
@@ -23,8 +23,8 @@
 #![tactic(auto)]
 
 mod fault;
+mod given;
 mod limited;
-mod linking;
 mod locking;
 mod log_device;
 mod logging;
@@ -33,6 +33,7 @@ mod marking;
 mod mounts;
 mod names;
 mod noting;
+mod placing;
 mod reading;
 mod remembering;
 mod saving;
@@ -42,10 +43,10 @@ mod taking;
 mod writing;
 
 pub use fault::FileFault;
-pub use linking::LinkedFile;
 pub use locking::LockFile;
 pub use log_device::LogDevice;
 pub use looking::{Found, look_at};
 pub use noting::Noting;
+pub use placing::{PlacesFiles, put_in_place};
 pub use taking::JournalFile;
 pub use writing::Content;

@@ -1,115 +1,173 @@
 //! The file of a log as a device.
 ghost use Rattle.std.specs.Prelude.{[]};
 
-use crate::limited::too_large;
-use crate::linking::LinkedFile;
+use crate::given::GivenFile;
+use crate::placing::PlacesFiles;
 use crate::reading::TEXT_LIMIT;
+use ilp_accounts::LogSync;
 use ilp_io::{ReadFault, read_to_limit};
 use ilp_line_file::{Device, DeviceFault};
-use ilp_notices::log_unwritten;
+use ilp_notices::{log_begun, log_unwritten};
 use std::alloc::Global;
 use std::fs::{File, OpenFile};
 use std::io;
 use std::io::{Eprint, ErrorKind, Read, Seek, SeekFrom, Write};
 use std::time::Clock;
 
+/// Where a log lies, and what it may be.
+#[derive(Drop)]
+pub(crate) struct LogPlace {
+    /// Its path, as lines tell it.
+    pub(crate) path: String,
+    /// What is written, and then takes its place.
+    pub(crate) new: String,
+    pub(crate) folder: String,
+    /// The rights of its file.
+    pub(crate) mode: u32,
+    /// The most octets that it may have.
+    pub(crate) most: u64,
+    /// When its lines reach the disk.
+    pub(crate) sync: LogSync,
+}
+
 /// The file of a log, `J.log`. Of it nothing is claimed: what a file of the system does, no clause can say.
 ///
-/// The first write, cut or sync that fails is told by a line on standard error. A log that is removed or
-/// cut under a running connector is a failure too: each write and sync finds that the file has all that it
-/// was given, and a name.
+/// The first write, cut or sync that fails is told by a line on standard error, and one more line tells of the
+/// first sync once the log was made anew. A log that is removed, moved or cut under a running connector is a
+/// failure too: each write and sync finds that the file has all that it was given, and lies at its path. One
+/// that is made anew is `J.log.new` until it takes the place of `J.log`.
 #[derive(Drop)]
 pub struct LogDevice<'r, R, F = File> {
     rt: &'r R,
-    // As lines tell it.
-    path: String,
-    pub(crate) file: F,
-    // The most octets that it may have. Of more the system would end the process by a signal (SIGXFSZ).
-    most: u64,
-    // How many octets it has been given.
-    len: u64,
-    // Whether a line has told of a failure.
+    place: LogPlace,
+    file: GivenFile<F>,
+    // The new file beside it.
+    anew: Option<GivenFile<F>>,
+    // Whether a line has told of a failure, and whether it was made anew since.
     is_told: bool,
+    is_anew: bool,
 }
 
-impl<'r, R, F> LogDevice<'r, R, F> {
-    /// A file with nothing in it yet, which may have so many octets at most.
-    pub(crate) fn new(rt: &'r R, path: String, file: F, most: u64) -> Self {
-        LogDevice {
+impl<'r, R, F> LogDevice<'r, R, F>
+where
+    R: PlacesFiles<File = F>,
+    F: Write + Seek + OpenFile + Drop,
+{
+    /// A log with these first lines, in place of one that is there.
+    pub(crate) fn create(rt: &'r R, place: LogPlace, head: &[u8]) -> io::Result<Self> {
+        let file = rt.create_anew(place.new.as_str(), place.mode)?;
+        let mut file = GivenFile::new(file);
+        file.put(0, head, place.most)?;
+        file.take_name(rt, &place)?;
+        Ok(LogDevice {
             rt,
-            path,
+            place,
             file,
-            most,
-            len: 0,
+            anew: None,
             is_told: false,
+            is_anew: false,
+        })
+    }
+
+    // Makes the new file.
+    fn create_anew(&mut self) -> io::Result<()> {
+        let file = self
+            .rt
+            .create_anew(self.place.new.as_str(), self.place.mode)?;
+        self.anew = Some(GivenFile::new(file));
+        self.place.most = self.rt.most_octets();
+        Ok(())
+    }
+
+    // Writes behind what the new file has.
+    fn add_anew(&mut self, octets: &[u8]) -> io::Result<()> {
+        match &mut self.anew {
+            Some(file) => file.add(octets, self.place.most),
+            None => Err(io::Error::from(ErrorKind::NotFound)),
+        }
+    }
+
+    // Has the new file take the log's name, once the disk has it.
+    fn take_name(&mut self) -> io::Result<()> {
+        let Some(file) = self.anew.take() else {
+            return Err(io::Error::from(ErrorKind::NotFound));
+        };
+        file.take_name(self.rt, &self.place)?;
+        self.file = file;
+        self.is_anew = true;
+        Ok(())
+    }
+
+    // Writes these octets from a place on.
+    fn put(&mut self, at: u64, octets: &[u8]) -> io::Result<()> {
+        self.expect_there()?;
+        self.file.put(at, octets, self.place.most)
+    }
+
+    // Has the disk keep what was written, where that is asked for, and finds all of it.
+    fn keep(&mut self) -> io::Result<()> {
+        if self.place.sync == LogSync::Group {
+            self.file.file.sync_data()?;
+        }
+        self.file.expect_whole()?;
+        self.expect_there()
+    }
+
+    // Finds that the file is the one that lies at its path.
+    fn expect_there(&self) -> io::Result<()> {
+        match self.rt.is_at(&self.file.file, self.place.path.as_str()) {
+            Ok(true) => Ok(()),
+            Ok(false) => Err(io::Error::from(ErrorKind::NotFound)),
+            Err(error) => Err(error),
         }
     }
 }
 
-impl<R, F: Write + Seek + OpenFile + LinkedFile> LogDevice<'_, R, F> {
-    /// Writes these octets from a place on. None is written where the file would have too many.
-    pub(crate) fn put(&mut self, at: u64, octets: &[u8]) -> io::Result<()> {
-        let end = at.saturating_add(octets.len() as u64);
-        if end > self.most {
-            return Err(too_large());
-        }
-        self.expect_whole()?;
-        self.file.seek(SeekFrom::Start(at))?;
-        self.file.write_all(octets)?;
-        self.len = self.len.max(end);
-        Ok(())
-    }
-
-    // Finds that the file has all that it was given, and a name. Past the end of one that was cut a write
-    // would leave NUL octets between.
-    fn expect_whole(&mut self) -> io::Result<()> {
-        if self.file.seek(SeekFrom::End(0))? < self.len {
-            return Err(io::Error::from(ErrorKind::UnexpectedEof));
-        }
-        if self.file.names()? == 0 {
-            return Err(io::Error::from(ErrorKind::NotFound));
-        }
-        Ok(())
-    }
-
-    // Cuts the file to a length.
-    fn shorten(&mut self, len: u64) -> io::Result<()> {
-        self.file.set_len(len)?;
-        self.len = len;
-        Ok(())
-    }
-
-    // Has the disk keep what was written, and finds all of it.
-    fn keep(&mut self) -> io::Result<()> {
-        self.file.sync_data()?;
-        self.expect_whole()
+impl<F: Write + Seek + OpenFile> GivenFile<F> {
+    // Takes the name of a log, once the disk has it.
+    fn take_name<R: PlacesFiles>(&self, rt: &R, place: &LogPlace) -> io::Result<()> {
+        self.file.sync_all()?;
+        rt.put_in_place(
+            place.new.as_str(),
+            place.path.as_str(),
+            place.folder.as_str(),
+        )
     }
 }
 
 impl<R: Clock + Eprint, F> LogDevice<'_, R, F> {
+    // Notes that the disk has what was written.
+    fn note_kept(&mut self) {
+        if self.is_anew {
+            log_begun(self.rt, self.place.path.as_str(), self.place.sync);
+            self.is_anew = false;
+        }
+        self.is_told = false;
+    }
+
     // What a call came to. The first one that fails is told.
     fn outcome(&mut self, done: io::Result<()>) -> Result<(), DeviceFault> {
         let Err(error) = done else {
             return Ok(());
         };
         if !self.is_told {
-            log_unwritten(self.rt, self.path.as_str(), &error);
+            log_unwritten(self.rt, self.place.path.as_str(), &error);
             self.is_told = true;
         }
         Err(DeviceFault::Failed)
     }
 }
 
-// It asks for no files: the kit's prover covers no call that sends a value to a thread whose trait rests on
-// `Files` with the type of its files.
 impl<R, F> Device for LogDevice<'_, R, F>
 where
-    R: Clock + Eprint,
-    F: Read + Write + Seek + OpenFile + LinkedFile + Drop,
+    R: PlacesFiles<File = F> + Clock + Eprint,
+    F: Read + Write + Seek + OpenFile + Drop,
 {
     ghost claims = { ⊥ };
 
     ghost seen = { λ _. [] };
+
+    ghost anew = { λ _. [] };
 
     ghost may_leave = { λ _ _. ⊥ };
 
@@ -124,10 +182,10 @@ where
     ghost only_now = { λ none. absurd none };
 
     fn read(&mut self, alloc: Global) -> Result<Vec<u8>, DeviceFault> {
-        if self.file.seek(SeekFrom::Start(0)).is_err() {
+        if self.file.file.seek(SeekFrom::Start(0)).is_err() {
             return Err(DeviceFault::Failed);
         }
-        match read_to_limit(alloc, &mut self.file, TEXT_LIMIT) {
+        match read_to_limit(alloc, &mut self.file.file, TEXT_LIMIT) {
             Ok(text) => Ok(text),
             Err(ReadFault::Memory) => Err(DeviceFault::Memory),
             Err(_) => Err(DeviceFault::Failed),
@@ -140,12 +198,30 @@ where
     }
 
     fn cut(&mut self, len: usize) -> Result<(), DeviceFault> {
-        let done = self.shorten(len as u64);
+        let done = self.file.shorten(len as u64);
         self.outcome(done)
     }
 
     fn sync(&mut self) -> Result<(), DeviceFault> {
         let done = self.keep();
+        if done.is_ok() {
+            self.note_kept();
+        }
+        self.outcome(done)
+    }
+
+    fn open_anew(&mut self) -> Result<(), DeviceFault> {
+        let done = self.create_anew();
+        self.outcome(done)
+    }
+
+    fn write_anew(&mut self, octets: &[u8]) -> Result<(), DeviceFault> {
+        let done = self.add_anew(octets);
+        self.outcome(done)
+    }
+
+    fn take_place(&mut self) -> Result<(), DeviceFault> {
+        let done = self.take_name();
         self.outcome(done)
     }
 }

@@ -2,13 +2,13 @@
 
 use crate::fault::FileFault;
 use crate::limited::most_octets;
-use crate::linking::LinkedFile;
-use crate::log_device::LogDevice;
+use crate::log_device::{LogDevice, LogPlace};
 use crate::names::Names;
+use crate::placing::PlacesFiles;
 use crate::taking::JournalFile;
-use crate::writing::create_anew;
-use ilp_notices::{log_left, not_made};
-use std::alloc::Global;
+use ilp_accounts::LogSync;
+use ilp_notices::{log_begun, log_left, not_made};
+use std::alloc::{AllocError, Global};
 use std::fs::OpenFile;
 use std::io::{Eprint, ErrorKind, Read, Seek, Write};
 use std::rt::Files;
@@ -23,7 +23,7 @@ impl<F> JournalFile<F> {
 
     /// Begins a log with these first lines, in place of one that is there. `J.log.new` is made with them and
     /// the journal's rights, and takes the place of `J.log` as a whole. The device is that file, and what it
-    /// has is on the disk.
+    /// has is on the disk. A line tells when what is written to it will be.
     ///
     /// Refusals: `Unwritten` where it failed, and a line says so: then `J.log` is as it was, or the one with
     /// these lines alone; `Memory`, and nothing is changed.
@@ -32,18 +32,20 @@ impl<F> JournalFile<F> {
         rt: &'r R,
         alloc: Global,
         head: &[u8],
+        sync: LogSync,
     ) -> Result<LogDevice<'r, R, F>, FileFault>
     where
-        R: Files<File = F> + Clock + Eprint,
-        F: Read + Write + Seek + OpenFile + LinkedFile + Drop,
+        R: Files<File = F> + PlacesFiles<File = F> + Clock + Eprint,
+        F: Read + Write + Seek + OpenFile + Drop,
     {
-        let log = self.log_path();
-        let path = format!(in alloc; "{log}")?;
-        let most = most_octets(rt, alloc);
-        match self.names.put_log(rt, path, most, head) {
-            Ok(device) => Ok(device),
+        let place = self.names.log_place(rt, alloc, sync)?;
+        match LogDevice::create(rt, place, head) {
+            Ok(device) => {
+                log_begun(rt, self.log_path(), sync);
+                Ok(device)
+            }
             Err(error) => {
-                not_made(rt, log, &error);
+                not_made(rt, self.log_path(), &error);
                 Err(FileFault::Unwritten)
             }
         }
@@ -59,25 +61,21 @@ impl<F> JournalFile<F> {
 }
 
 impl Names {
-    // Makes the log with these first lines, which may have so many octets at most.
-    fn put_log<'r, R: Files>(
+    // Where the log lies.
+    fn log_place<R: Files>(
         &self,
-        rt: &'r R,
-        path: String,
-        most: u64,
-        head: &[u8],
-    ) -> io::Result<LogDevice<'r, R, R::File>>
-    where
-        R::File: LinkedFile,
-    {
-        let new = self.log_new.as_str();
-        let file = create_anew(rt, new, self.mode(rt))?;
-        let mut device = LogDevice::new(rt, path, file, most);
-        device.put(0, head)?;
-        device.file.sync_all()?;
-        fs::rename(rt, new, self.log.as_str())?;
-        self.sync_folder(rt)?;
-        Ok(device)
+        rt: &R,
+        alloc: Global,
+        sync: LogSync,
+    ) -> Result<LogPlace, AllocError> {
+        Ok(LogPlace {
+            path: String::from_str(alloc, self.log.as_str())?,
+            new: String::from_str(alloc, self.log_new.as_str())?,
+            folder: String::from_str(alloc, self.folder())?,
+            mode: self.mode(rt),
+            most: most_octets(rt, alloc),
+            sync,
+        })
     }
 
     // Removes the log, and has the system keep that it is gone.

@@ -56,6 +56,8 @@ impl<F> JournalFile<F> {
         R: Files + Clock + Eprint,
         C: Content,
     {
+        // What was begun for a log anew may have the last of the disk's room.
+        let _ = fs::remove_file(rt, self.names.log_new.as_str());
         let mut reached = Reached::Nothing;
         match self.go_on_patiently(rt, alloc, content, &mut reached) {
             Ok(()) => {

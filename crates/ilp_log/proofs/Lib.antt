@@ -1,5 +1,6 @@
 pub mod Begins
 pub mod Logs
 pub mod Runs
+pub mod Anew
 mod Spelled
 mod Grouping

@@ -14,7 +14,7 @@ use Rattle.ilp_line_file.proofs.Whole.{text_lines}
 use Rattle.ilp_log.specs.declared.ack.Ack.{Ack}
 use Rattle.ilp_log.specs.Lines.{LogForm, words_of, entry_lines, lines_of, IsGroup}
 use Rattle.ilp_log.specs.Log.{HoldsAck, HoldAcks, last_ack, IsLog}
-use Rattle.ilp_log.proofs.Begins.{prefix_length, prefix_take, lines_begin, wider}
+use Rattle.ilp_log.proofs.Begins.{prefix_length, prefix_take, lines_begin, takes, wider}
 
 -- ---- groups
 
@@ -141,9 +141,10 @@ module _ {D : Type 0} (seen : D → List ℕ) (may_leave : D → List ℕ → Ty
       let high : IsPrefix (recovered (seen file.device) ++ recovered text) (lines_of form list) = subst (λ (l : List (List ℕ)). IsPrefix l (lines_of form list)) (sym all) (lines_begin form (take to list) list (drop to list, take-append-drop to list)) in
       leaves_more moment left_since file.device new _ _ (λ c now. wider _ _ _ _ c low high now) is
 
-  pub fails : (file new : LineFile D) (list : Entries) (count : ℕ) (acks : List Ack) → ((t : ℕ) (c : List ℕ) → t ≤ moment new.device → may_leave new.device c → left_since new.device t c)
-      → LeavesOnly moment left_since file.device new.device (IsBetween (lines_of form (take count list)) (lines_of form list)) → IsLog seen may_leave moment left_since form file false list count acks → IsLog seen may_leave moment left_since form new true list count acks
-  fails file new list count acks counts_now leaves log = record {
+  -- whatever came of a call, of which nothing is said
+  pub fails : (file new : LineFile D) (failed : Bool) (list : Entries) (count : ℕ) (acks : List Ack) → ((t : ℕ) (c : List ℕ) → t ≤ moment new.device → may_leave new.device c → left_since new.device t c)
+      → LeavesOnly moment left_since file.device new.device (IsBetween (lines_of form (take count list)) (lines_of form list)) → IsLog seen may_leave moment left_since form file failed list count acks → IsLog seen may_leave moment left_since form new true list count acks
+  fails file new failed list count acks counts_now leaves log = record {
     base = log.base;
     within = log.within;
     now = λ c may. leaves.each c (counts_now (moment file.device) c leaves.later may);
@@ -152,22 +153,29 @@ module _ {D : Type 0} (seen : D → List ℕ) (may_leave : D → List ℕ → Ty
     told = acks_moved moment left_since file.device new.device _ _ acks leaves log.told;
   }
 
-  pub goes_on : (file new : LineFile D) (list : Entries) (count to : ℕ) (text : List ℕ) (acks : List Ack) → IsGroup form.config list count to text
-      → LeavesOnly moment left_since file.device new.device (IsBetween (lines_of form (take count list)) (lines_of form list)) → IsSettled seen may_leave new → recovered (seen new.device) ≡ recovered (seen file.device) ++ recovered text
-      → IsLog seen may_leave moment left_since form file false list count acks → IsLog seen may_leave moment left_since form new false list to acks
-  goes_on file new list count to text acks g leaves settled lines log =
-      let all : recovered (seen new.device) ≡ lines_of form (take to list) = lines ∙ ap (λ (l : List (List ℕ)). l ++ recovered text) (log.whole refl) ∙ group_lines form list count to text log.base log.within g in
+  -- the file has the lines of more entries now, and no other
+  pub renewed : (file new : LineFile D) (failed : Bool) (list : Entries) (count to : ℕ) (acks : List Ack) → count ≤ to → to ≤ length list → LeavesOnly moment left_since file.device new.device (IsBetween (lines_of form (take count list)) (lines_of form list))
+      → IsSettled seen may_leave new → recovered (seen new.device) ≡ lines_of form (take to list) → IsLog seen may_leave moment left_since form file failed list count acks → IsLog seen may_leave moment left_since form new false list to acks
+  renewed file new failed list count to acks later within leaves settled all log =
       let most : IsPrefix (lines_of form (take to list)) (lines_of form list) = lines_begin form (take to list) list (drop to list, take-append-drop to list) in
-      let more : IsPrefix (lines_of form (take count list)) (lines_of form (take to list)) = (recovered text, group_lines form list count to text log.base log.within g) in
+      let more : IsPrefix (lines_of form (take count list)) (lines_of form (take to list)) = lines_begin form _ _ (takes list list count to (prefix_self list) log.within later) in
       record {
-        base = omega (arith, log.base, g.later);
-        within = g.within;
+        base = omega (arith, log.base, later);
+        within = within;
         now = λ c may. let is : recovered c ≡ lines_of form (take to list) = ap recovered (settled.durable c may) ∙ all in
             record { has = ([], append-nil _ ∙ sym is); begins = subst (λ (l : List (List ℕ)). IsPrefix l (lines_of form list)) (sym is) most };
         settled = λ _. settled;
         whole = λ _. all;
         told = acks_wider moment left_since new.device _ _ _ _ acks more (prefix_self _) (acks_moved moment left_since file.device new.device _ _ acks leaves log.told);
       }
+
+  -- a group was appended
+  pub goes_on : (file new : LineFile D) (list : Entries) (count to : ℕ) (text : List ℕ) (acks : List Ack) → IsGroup form.config list count to text
+      → LeavesOnly moment left_since file.device new.device (IsBetween (lines_of form (take count list)) (lines_of form list)) → IsSettled seen may_leave new → recovered (seen new.device) ≡ recovered (seen file.device) ++ recovered text
+      → IsLog seen may_leave moment left_since form file false list count acks → IsLog seen may_leave moment left_since form new false list to acks
+  goes_on file new list count to text acks g leaves settled lines log =
+      let all : recovered (seen new.device) ≡ lines_of form (take to list) = lines ∙ ap (λ (l : List (List ℕ)). l ++ recovered text) (log.whole refl) ∙ group_lines form list count to text log.base log.within g in
+      renewed file new false list count to acks g.later g.within leaves settled all log
 
   -- it tells what is on the disk now
   pub tells : (file : LineFile D) (list : Entries) (count : ℕ) (acks : List Ack) → ((c : List ℕ) → left_since file.device (moment file.device) c → may_leave file.device c) → IsLog seen may_leave moment left_since form file false list count acks

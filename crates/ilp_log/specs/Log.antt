@@ -2,11 +2,13 @@
 use Rattle.std.specs.Prelude.{◌≡◌, ◌≤◌, ℕ, Bool, false, List, [], ◌∷◌, length, take}
 use mathlib.Core.List.{IsPrefix}
 use Rattle.ilp_journal.specs.Journal.{Entries}
-use Rattle.ilp_line_file.specs.Text.{recovered, IsBetween}
+use Rattle.ilp_line_file.specs.Text.{recovered, text_of, AreLines, IsBetween}
 use Rattle.ilp_line_file.specs.File.{IsSettled}
 use Rattle.ilp_line_file.specs.declared.line_file.LineFile.{LineFile}
 use Rattle.ilp_log.specs.declared.ack.Ack.{Ack}
 use Rattle.ilp_log.specs.declared.open_log.PlainLog.{PlainLog}
+use Rattle.ilp_log.specs.declared.renewing.Anew.{Anew}
+use Rattle.ilp_log.specs.declared.start.LogStart.{LogStart}
 use Rattle.ilp_log.specs.Lines.{LogForm, lines_of}
 
 -- the entries that are on the disk
@@ -54,3 +56,18 @@ pub record IsLog {D : Type 0} (seen : D → List ℕ) (may_leave : D → List �
   pub settled : failed ≡ false → IsSettled seen may_leave file
   pub whole : failed ≡ false → recovered (seen file.device) ≡ lines_of form (take count entries)
   pub told : HoldAcks moment left_since file.device (lines_of form (take count entries)) (lines_of form entries) acks
+
+-- ---- a log that is written anew
+
+-- where a log of this form begins
+pub record IsStart (form : LogForm) (start : LogStart) : Type 0 where
+  pub text : start.head.items ≡ text_of form.head
+  pub lines : AreLines form.head
+  pub base : form.base ≡ start.base
+
+-- the new file has these octets, and they are the log of the first so many entries
+pub record IsAnew (form : LogForm) (entries : Entries) (octets : List ℕ) (anew : Anew) : Type 0 where
+  pub base : form.base ≤ anew.count
+  pub end : anew.end ≡ length octets
+  pub text : octets ≡ text_of (lines_of form (take anew.count entries))
+  pub read : recovered octets ≡ lines_of form (take anew.count entries)

@@ -2,6 +2,7 @@
 ghost use Rattle.std.specs.Prelude.{◌≡◌};
 ghost use Rattle.ilp_log.specs.declared.fault.LogFault.TheVariants as log_fault;
 
+use ilp_line_file::DeviceFault;
 use std::alloc::AllocError;
 use thiserror::Error;
 
@@ -12,7 +13,7 @@ pub enum LogFault {
     #[error("memory is short")]
     Memory,
     /// A call of the device has failed, now or earlier, or the file is as long as can be. The log fails
-    /// from then on.
+    /// from then on, until it is mended.
     #[error("the log can't be written")]
     Failed,
 }
@@ -23,5 +24,14 @@ impl From<AllocError> for LogFault {
 
     fn from(_denied: AllocError) -> LogFault {
         LogFault::Memory
+    }
+}
+
+/// A call of the device has failed.
+impl From<DeviceFault> for LogFault {
+    ghost from_gives = { λ _ e. e ≡ log_fault.Failed };
+
+    fn from(_fault: DeviceFault) -> LogFault {
+        LogFault::Failed
     }
 }

@@ -18,8 +18,9 @@
 //! - A `Kept` is a token of what was told. `OpenLog::find` tells, whenever it is called later: a crash at
 //!   any moment since the telling left all the lines that were told, and none that aren't the desk's.
 //! - `OpenLog::commit_all` is `Ok` only where all of a desk's entries are on the disk.
-//! - Once a call of the device has failed, each commit fails: what the file has then is for
-//!   `ilp_line_file::recover` to find.
+//! - Once a call of the device has failed, each commit fails. `OpenLog::mend` writes the whole log anew then,
+//!   into a new file that takes the place of this one, and goes on behind it: a crash at any moment of that
+//!   leaves what was written before, and a beginning of the desk's journal, as one of a commit does.
 //! - `log_texts_have_the_lines_of_journal_texts`: behind its head a log's text is the lines that the
 //!   journal's text has of the same entries.
 #![tactic(auto)]
@@ -32,6 +33,8 @@ pub mod laws;
 mod log;
 mod naming;
 mod open_log;
+mod renewing;
+mod start;
 
 pub use ack::{Ack, OnDisk};
 pub use fault::LogFault;
@@ -39,3 +42,4 @@ pub use kept::Kept;
 pub use log::Log;
 pub use naming::LogNaming;
 pub use open_log::OpenLog;
+pub use start::LogStart;

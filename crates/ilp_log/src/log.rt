@@ -44,6 +44,22 @@ impl<J: Naming, K: LogNaming, D: Device + Drop> Log<J, K, D> {
         log.commit(rt, alloc, desk, receipt)
     }
 
+    /// `OpenLog::mend`, by one thread after the other.
+    pub fn mend(
+        &self,
+        rt: &impl Wait,
+        alloc: Global,
+        desk: &Desk<J>,
+        receipt: &mut JournalReceipt<J>,
+    ) -> Result<Kept<D, K>, LogFault>
+        ensures seen { IsPrefix receipt.old receipt.new }
+        ensures kept { D.claims → IfOk result
+            (λ kept. IsPrefix (lines_of K.form receipt.old) kept.lines) }
+    {
+        let mut log = self.locked.lock(rt);
+        log.mend(rt, alloc, desk, receipt)
+    }
+
     /// The log, once nobody else has it.
     pub fn into_inner(self) -> OpenLog<J, K, D> {
         let Log { locked } = self;

@@ -1,8 +1,8 @@
 //! The file of a desk's entries, with what it has seen of the desk and what it has told.
-ghost use Rattle.std.specs.Prelude.{◌≡◌, ◌≤◌, ◌<◌, [], List, ℕ, length, take, IfOk, OnOk, OnErr};
+ghost use Rattle.std.specs.Prelude.{◌≡◌, ◌≤◌, ◌<◌, [], List, ℕ, length, IfOk, OnOk, OnErr};
 ghost use mathlib.Core.List.{IsPrefix};
 ghost use Rattle.ilp_line_file.specs.Device.{LeavesOnly};
-ghost use Rattle.ilp_line_file.specs.Text.{recovered, IsBetween};
+ghost use Rattle.ilp_line_file.specs.Text.{recovered, text_of, IsBetween};
 ghost use Rattle.ilp_line_file.specs.File.{IsSettled};
 ghost use Rattle.ilp_log.specs.Lines.{lines_of, IsGroup};
 ghost use Rattle.ilp_log.specs.Log.{IsKept, IsAllKept, written};
@@ -12,6 +12,7 @@ use crate::fault::LogFault;
 use crate::group::Group;
 use crate::kept::Kept;
 use crate::naming::LogNaming;
+use crate::start::LogStart;
 use ilp_desk::{Desk, JournalReceipt, LockedBook, Naming};
 use ilp_grown_list::GrownList;
 use ilp_journal::Entry;
@@ -35,17 +36,18 @@ pub struct PlainLog<D> {
 /// many of them are on the disk.
 #[derive(Drop)]
 pub struct OpenLog<J: Naming, K: LogNaming, D: Device + Drop> {
-    file: LineFile<D>,
-    failed: bool,
+    pub(crate) file: LineFile<D>,
+    pub(crate) failed: bool,
     receipt: JournalReceipt<J>,
-    count: u32,
+    pub(crate) count: u32,
     acks: GrownList<LineFile<D>, Ack, K>,
+    pub(crate) start: LogStart,
 }
 
 impl<J: Naming, K: LogNaming, D: Device + Drop> Model for OpenLog<J, K, D> {
     ghost use Rattle.std.specs.Prelude.{◌≡◌, ◌≤◌, length};
     ghost use Rattle.ilp_log.specs.declared.open_log.PlainLog.{PlainLog};
-    ghost use Rattle.ilp_log.specs.Log.{IsLog};
+    ghost use Rattle.ilp_log.specs.Log.{IsLog, IsStart};
 
     ghost Value = { PlainLog D };
 
@@ -53,51 +55,37 @@ impl<J: Naming, K: LogNaming, D: Device + Drop> Model for OpenLog<J, K, D> {
 
     ghost invariant = { λ l. (K.form.config ≡ J.desk.config) × (l.count ≤ length l.receipt)
         × (D.claims → IsLog D.seen D.may_leave D.moment D.left_since K.form l.file l.failed
-        l.receipt l.count l.acks) };
+        l.receipt l.count l.acks) × (l.start.base ≤ l.count)
+        × (D.claims → IsStart K.form l.start) };
 }
 
 impl<J: Naming, K: LogNaming, D: Device + Drop> OpenLog<J, K, D> {
-    /// A log over a file that has the first `count` of the entries that the receipt has seen. Nothing was
+    /// A log over a file that has its head alone. The entries before the base stand elsewhere. Nothing was
     /// told yet.
-    pub fn new(
+    pub fn begin(
         file: LineFile<D>,
         receipt: JournalReceipt<J>,
-        count: u32,
+        start: LogStart,
         acks: GrownList<LineFile<D>, Ack, K>,
     ) -> OpenLog<J, K, D>
         requires config { K.form.config ≡ J.desk.config }
         requires settled { D.claims → IsSettled D.seen D.may_leave file }
-        requires count { (K.form.base ≤ count) × (count ≤ length receipt) }
-        requires lines { D.claims
-            → recovered (D.seen file.device) ≡ lines_of K.form (take count receipt) }
+        requires base { (K.form.base ≡ start.base) × (start.base ≤ length receipt) }
+        requires head { D.claims → recovered (D.seen file.device) ≡ K.form.head }
+        requires text { D.claims → start.head.items ≡ text_of K.form.head }
         requires acks { acks ≡ [] }
-        ensures { result ≡ record { device = file.device; seen = receipt; count = count } }
+        ensures { result
+            ≡ record { device = file.device; seen = receipt; count = start.base } }
     {
+        let count = start.base;
         OpenLog {
             file,
             failed: false,
             receipt,
             count,
             acks,
+            start,
         }
-    }
-
-    /// A log over a file that has its head alone, as one that is new: the entries before the base, which
-    /// is `count`, stand elsewhere.
-    pub fn begin(
-        file: LineFile<D>,
-        receipt: JournalReceipt<J>,
-        count: u32,
-        acks: GrownList<LineFile<D>, Ack, K>,
-    ) -> OpenLog<J, K, D>
-        requires config { K.form.config ≡ J.desk.config }
-        requires settled { D.claims → IsSettled D.seen D.may_leave file }
-        requires count { (K.form.base ≡ count) × (count ≤ length receipt) }
-        requires head { D.claims → recovered (D.seen file.device) ≡ K.form.head }
-        requires acks { acks ≡ [] }
-        ensures { result ≡ record { device = file.device; seen = receipt; count = count } }
-    {
-        OpenLog::new(file, receipt, count, acks)
     }
 
     /// How many entries are on the disk, those before the base among them.
@@ -109,7 +97,7 @@ impl<J: Naming, K: LogNaming, D: Device + Drop> OpenLog<J, K, D> {
     }
 
     // Sees the desk's journal.
-    fn see(&mut self, book: &mut LockedBook<J>)
+    pub(crate) fn see(&mut self, book: &mut LockedBook<J>)
         ensures begins { IsPrefix self.old.seen book.old.entries }
         ensures seen { self.new ≡ record self.old { seen = book.old.entries } }
         ensures book { book.new ≡ book.old }
@@ -258,8 +246,10 @@ impl<J: Naming, K: LogNaming, D: Device + Drop> OpenLog<J, K, D> {
         desk: &Desk<J>,
         receipt: &mut JournalReceipt<J>,
     ) -> Result<Kept<D, K>, LogFault>
-        // The receipt has then seen the desk's journal so far.
+        // Both have then seen the desk's journal so far.
         ensures seen { IsPrefix receipt.old receipt.new }
+        ensures mine { IsPrefix self.old.seen receipt.new }
+        ensures last { self.new.seen ≡ receipt.new }
 
         // A crash at any moment of the call leaves the entries that were written before it, and none
         // that are not in the desk's journal.

@@ -1,13 +1,12 @@
 //! A keeper that writes a desk's journal to its log.
-ghost use Rattle.std.specs.Prelude.{OnOk};
+ghost use Rattle.std.specs.Prelude.{◌≡◌, true, OnOk};
 ghost use mathlib.Core.List.{IsPrefix};
 ghost use Rattle.ilp_log.specs.Lines.{lines_of};
 ghost use Rattle.ilp_log_keeper.specs.Keeping.{HasTold};
 
-use crate::shared::SharedKeeper;
 use crate::state::KeepingState;
 use ilp_desk::{Desk, JournalReceipt, Naming};
-use ilp_keeping::{Keeper, NotKept};
+use ilp_keeping::{Keeper, NotKept, SharedKeeper};
 use ilp_line_file::Device;
 use ilp_log::{Kept, Log, LogNaming};
 use std::sync::Wait;
@@ -72,14 +71,22 @@ impl<J: Naming, K: LogNaming, D: Device + Drop, R: Wait> SharedKeeper<J>
         LogKeeper::new(self.rt, self.desk, self.log, self.state)
     }
 
-    fn mend(&mut self, receipt: &mut JournalReceipt<J>) -> bool {
+    fn mend(&mut self, receipt: &mut JournalReceipt<J>) -> bool
+        ensures seen { IsPrefix receipt.old receipt.new }
+        ensures kept { D.claims → result ≡ true
+            → HasTold (lines_of K.form receipt.old) self.new.told }
+    {
         // Those that fail from here on are not made good by what the receipt sees.
         let failures = self.state.failures();
         self.desk.show(self.rt, receipt);
-        if self.keep(receipt).is_err() {
-            return false;
+        let alloc = self.desk.config().allocator();
+        match self.log.mend(self.rt, alloc, self.desk, receipt) {
+            Ok(told) => {
+                self.told = Some(told);
+                self.state.mend(failures);
+                true
+            }
+            Err(_) => false,
         }
-        self.state.mend(failures);
-        true
     }
 }

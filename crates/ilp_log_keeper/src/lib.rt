@@ -1,5 +1,4 @@
-//! The keeper of a running connector that writes its journal to a log, and what the threads of one
-//! share of that.
+//! The keeper of a running connector that writes its journal to a log, and what its threads share of that.
 //!
 //! # What is proved
 //!
@@ -7,16 +6,15 @@
 //!   seen is on the disk: it has the log's token of that (`specs/Keeping.antt`, `HasTold`), by which
 //!   `ilp_log::OpenLog::find` tells what each crash since then has left. As all of the log's clauses,
 //!   this is said where the device claims what a device does.
-//! - `LogKeeper::mend` answers true only where nothing is unkept, or it has such a token of the journal
-//!   that the receipt has seen then.
-//! - What `KeepingState` says, `keeps` says too. What the state is, no clause says: that it is false from
-//!   the first that was not kept on, until all are kept again, stands in the comments.
+//! - `LogKeeper::mend` answers true only where the log has told it that of the journal which the receipt had
+//!   seen. That it shows the receipt what the desk has then, and has all of that kept, stands in the
+//!   comments.
+//! - `KeepingState` has no clause: that it is false from the first that was not kept on, until all are kept
+//!   again, stands in the comments.
 #![tactic(auto)]
 
 mod keeper;
-mod shared;
 mod state;
 
 pub use keeper::LogKeeper;
-pub use shared::SharedKeeper;
 pub use state::KeepingState;

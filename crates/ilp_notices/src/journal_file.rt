@@ -3,7 +3,7 @@
 ghost use Rattle.std.specs.Prelude.{◌<◌, length};
 
 use crate::line::{Level, tell};
-use ilp_accounts::Config;
+use ilp_accounts::{Config, LogSync};
 use std::fmt::Display;
 use std::io;
 use std::io::Eprint;
@@ -88,10 +88,26 @@ pub fn log_left<R: Clock + Eprint>(rt: &R, log: &str, error: &io::Error) {
     tell(rt, Level::Warn, text);
 }
 
+/// Tells that a log has begun, and when what is written to it is on the disk.
+pub fn log_begun<R: Clock + Eprint>(rt: &R, path: &str, sync: LogSync) {
+    match sync {
+        LogSync::Group => {
+            let text = format_args!("log {path:?}: begun, and synced before anybody is told");
+            tell(rt, Level::Info, text);
+        }
+        LogSync::Off => {
+            let text = format_args!(
+                "log {path:?}: begun, and left to the system to sync: a power cut may take what was told"
+            );
+            tell(rt, Level::Warn, text);
+        }
+    }
+}
+
 /// Tells that a log can't be written, and what that means.
 pub fn log_unwritten<R: Clock + Eprint>(rt: &R, path: &str, error: &io::Error) {
     let text = format_args!(
-        "can't write {path:?}: {error}: what is booked from here on is not on the disk"
+        "can't write {path:?}: {error}: what is booked from here on is not on the disk: it is tried anew each second"
     );
     tell(rt, Level::Error, text);
 }
@@ -108,7 +124,7 @@ pub fn journal_of_another_run<R: Clock + Eprint>(rt: &R, path: &str, config: &Co
 {
     let (name, run) = (config.name(peer), config.run());
     let text = format_args!(
-        "journal {path:?}: a settlement with {name} is open, and it was asked for by another run than {run:?}: give `run` the name that stands in its `.lock`, until nothing is open"
+        "journal {path:?}: a settlement with {name} is open, and it was asked for by another run than {run:?}: give `run` the name that stands in its `.log`, or without one in its `.lock`, until nothing is open"
     );
     tell(rt, Level::Error, text);
 }
@@ -119,7 +135,7 @@ pub fn journal_of_another_asset<R: Clock + Eprint>(rt: &R, path: &str, config: &
 {
     let name = config.name(peer);
     let text = format_args!(
-        "journal {path:?}: what it counts of {name} is not in the asset of the configuration: give {name} the asset that stands in its `.lock`, and settle before it gets another"
+        "journal {path:?}: what it counts of {name} is not in the asset of the configuration: give {name} the asset that stands in its `.log`, or without one in its `.lock`, and settle before it gets another"
     );
     tell(rt, Level::Error, text);
 }
@@ -151,7 +167,7 @@ pub fn not_made<R: Clock + Eprint>(rt: &R, path: &str, error: &io::Error) {
 /// Tells that what a save began is still there.
 pub fn left_unsaved<R: Clock + Eprint>(rt: &R, new: &str) {
     let text = format_args!(
-        "{new:?} lies there, of a save that did not end: it is not read, and the next save writes over it: move it away to keep it"
+        "{new:?} lies there, of a save that did not end: it is not read, and the next save writes over it, which may be this start's"
     );
     tell(rt, Level::Warn, text);
 }

@@ -1,4 +1,2 @@
 pub mod Logging
-pub mod OpenFiles
-pub mod Pauses
 pub mod Serving

@@ -15,7 +15,7 @@ use Rattle.ilp_refusals.specs.declared.refusal.Refusal.{Refusal}
 use Rattle.ilp_refusals.specs.declared.refusal.Refusal.TheVariants as refusals
 use Rattle.ilp_running.specs.declared.fault.ServeFault.{ServeFault}
 use Rattle.ilp_running.specs.declared.fault.ServeFault.TheVariants.{Unprinted, NotGathered, Write}
-use Rattle.ilp_running.specs.declared.fault.Unprinted.TheVariants.{Memory, Listen, Spawn}
+use Rattle.ilp_threads.specs.declared.fault.Unprinted.TheVariants.{Memory, Listen, Spawn}
 
 -- ---- refusals
 

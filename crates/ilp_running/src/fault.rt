@@ -4,9 +4,7 @@ ghost use Rattle.ilp_running.specs.Serving.{fault_refusal};
 
 use ilp_desk::WhyNotGathered;
 use ilp_refusals::Refusal;
-use ilp_server::Side;
-use std::alloc::AllocError;
-use std::thread::SpawnError;
+use ilp_threads::Unprinted;
 use thiserror::Error;
 
 /// Why a connector printed no report, or not all of it.
@@ -21,20 +19,6 @@ pub enum ServeFault {
     /// A write of the report failed or took no octet. A part of it was printed.
     #[error("a write failed or took no octet")]
     Write,
-}
-
-/// Why nothing was printed, where no actor's end was looked at.
-#[derive(Clone, Copy, Debug, PartialEq, Eq, Error)]
-pub enum Unprinted {
-    /// Memory was denied.
-    #[error("memory is short")]
-    Memory,
-    /// The address of this side can't be listened at.
-    #[error("the address of a side can't be listened at")]
-    Listen(Side),
-    /// A thread can't be started.
-    #[error("a thread can't be started")]
-    Spawn,
 }
 
 impl ServeFault {
@@ -68,19 +52,5 @@ impl From<Unprinted> for ServeFault {
 
     fn from(why: Unprinted) -> ServeFault {
         ServeFault::Unprinted(why)
-    }
-}
-
-/// Memory was denied.
-impl From<AllocError> for Unprinted {
-    fn from(_denied: AllocError) -> Unprinted {
-        Unprinted::Memory
-    }
-}
-
-/// A thread could not be started.
-impl<F: Drop> From<SpawnError<F>> for Unprinted {
-    fn from(_refused: SpawnError<F>) -> Unprinted {
-        Unprinted::Spawn
     }
 }

@@ -1,8 +1,6 @@
-//! The running connector: its listeners, the threads of its desk's actors, and its end.
+//! A connector from its beginning to its end: its desk, the log of that, and its report.
 //!
-//! What threads do when, what a socket gives, and how long anything takes, no clause can say: it
-//! stands in the comments, and `test_sockets` tests it over real sockets. What is printed in the end
-//! is a clause of `serve`.
+//! The threads that run between are `ilp_threads`.
 //!
 //! # What is proved
 //!
@@ -17,27 +15,14 @@
 //!   desk, for that reason. `ServeFault::refusal` is the table of what each fault is printed as.
 //! - `serve` says nothing of what was served (README.md, "what is only tested and what is
 //!   neither").
-//! - Of private functions: how long a peer's turns rest (twice as long as the last time, up to five
-//!   minutes) and `waiting_by` (how many connections may wait, by the limit of open files).
 #![tactic(auto)]
 
-mod accepting;
-mod actors;
-mod deeds;
 mod fault;
-mod intakes;
 mod logging;
-mod open_files;
-mod pauses;
-mod places;
 mod printing;
-mod responding;
 mod serving;
-mod shutdown;
-mod threads;
-mod turns;
-mod watching;
 
-pub use fault::{ServeFault, Unprinted};
+pub use fault::ServeFault;
+pub use ilp_threads::Unprinted;
 pub use logging::BegunLog;
 pub use serving::{run_to_close, serve, write_report};

@@ -11,8 +11,9 @@ use crate::warning::{JournalWarnings, Telling};
 use ilp_accounts::Config;
 use ilp_book::Book;
 use ilp_io::Recording;
-use ilp_journal_file::{FileFault, Found, JournalFile, LinkedFile, LogDevice};
+use ilp_journal_file::{FileFault, Found, JournalFile, LogDevice, PlacesFiles};
 use ilp_line_file::{Device, LineFile};
+use ilp_log::LogStart;
 use ilp_log_text::head_text;
 use ilp_notices::{journal_absent, journal_carried, nothing_to_save};
 use ilp_refusals::Refusal;
@@ -41,8 +42,14 @@ pub struct Begun<D: Device + Drop> {
 
 impl<'r, R, F> BookFile<'r, R, F>
 where
-    R: AllocGlobal + Files<File = F> + std::time::Clock + Print + Eprint + Copy,
-    F: Read + Write + Seek + OpenFile + LinkedFile + Drop,
+    R: AllocGlobal
+        + Files<File = F>
+        + PlacesFiles<File = F>
+        + std::time::Clock
+        + Print
+        + Eprint
+        + Copy,
+    F: Read + Write + Seek + OpenFile + Drop,
 {
     /// The book that the file and its log have. It is told how many entries that begins with, and what
     /// there is to say of a sudden stop. The configuration is remembered beside the file, which is saved
@@ -55,7 +62,7 @@ where
     pub fn begin(&self) -> Result<Begun<LogDevice<'r, R, F>>, Refused>
         ensures config { IfOk result (λ b. b.book.config ≡ self.now.config.now) }
         ensures opening { IfOk result (λ b. length b.book.entries ≡ b.book.base) }
-        ensures count { IfOk result (λ b. b.log.count ≤ length b.book.entries) }
+        ensures base { IfOk result (λ b. b.log.start.base ≤ length b.book.entries) }
     {
         let book = self.carried()?;
         match self.go_on(&book) {
@@ -67,7 +74,7 @@ where
     // Has the configuration remembered, and begins a log that goes on from this book.
     fn go_on(&self, book: &Book) -> Result<BegunLog<LogDevice<'r, R, F>>, Refused>
         requires { book.now.config ≡ self.now.config.now }
-        ensures { IfOk result (λ log. log.count ≤ length book.now.entries) }
+        ensures { IfOk result (λ log. log.start.base ≤ length book.now.entries) }
     {
         self.remember()?;
         self.begin_log(book)
@@ -122,17 +129,21 @@ where
     // Begins a log that goes on from this book, of which the file has the text then.
     fn begin_log(&self, book: &Book) -> Result<BegunLog<LogDevice<'r, R, F>>, Refused>
         requires { book.now.config ≡ self.now.config.now }
-        ensures { IfOk result (λ log. log.count ≤ length book.now.entries) }
+        ensures { IfOk result (λ log. log.start.base ≤ length book.now.entries) }
     {
-        let (rt, count) = (self.rt, book.len());
+        let (rt, base) = (self.rt, book.len());
         let text = self.saved_text(book)?;
-        let head = head_text(rt.alloc(), self.config, count, &text)?;
-        let device = self.file.begin_log(rt, rt.alloc(), head.as_bytes())?;
+        let head = head_text(rt.alloc(), self.config, base, &text)?.into_bytes();
+        let sync = self.config.sync();
+        let device = self.file.begin_log(rt, rt.alloc(), &head, sync)?;
         let file = LineFile {
             device,
             end: head.len(),
         };
-        Ok(BegunLog { file, count })
+        Ok(BegunLog {
+            file,
+            start: LogStart { head, base },
+        })
     }
 
     // The text of the file, once it is that of the book. It is saved where it isn't; a book in which

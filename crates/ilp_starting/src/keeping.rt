@@ -7,14 +7,17 @@ use crate::refused::RunFault;
 use crate::report::room_for_report;
 use crate::run::Run;
 use ilp_io::Recording;
-use ilp_journal_file::{JournalFile, LogDevice};
+use ilp_journal_file::{JournalFile, LogDevice, PlacesFiles};
 use std::fs::File;
 use std::net::{Net, TcpListener, TcpStream};
 use std::rt::Files;
 
 impl<R> Run<'_, R>
 where
-    R: Host + Files<File = File> + Net<Listener = TcpListener, Stream = TcpStream>,
+    R: Host
+        + Files<File = File>
+        + PlacesFiles<File = File>
+        + Net<Listener = TcpListener, Stream = TcpStream>,
 {
     /// Runs a connector from the journal at this path on, and saves that in the end.
     pub(crate) fn serve_journal(&self, path: &str) -> Result<(), RunFault> {
@@ -42,7 +45,7 @@ where
         requires same { file.now.config.now ≡ self.now.config.now }
         requires config { begun.book.config ≡ self.now.config.now }
         requires opening { length begun.book.entries ≡ begun.book.base }
-        requires count { begun.log.count ≤ length begun.book.entries }
+        requires base { begun.log.start.base ≤ length begun.book.entries }
     {
         let Begun { book, log } = begun;
         match self.serve(book, Some(log)) {

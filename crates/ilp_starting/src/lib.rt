@@ -41,6 +41,7 @@ pub use carrying::{Carried, Source, book_of};
 pub use configuring::{config_octets, config_of, configured};
 pub use finding::book_at;
 pub use host::Host;
+pub use ilp_journal_file::PlacesFiles;
 pub use refused::{Refused, RunFault};
 pub use serving::serve;
 pub use warning::{JournalWarnings, Telling, tell_warnings};

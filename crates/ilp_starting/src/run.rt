@@ -1,6 +1,6 @@
 //! A run of a connector: from a book on until it is asked to close.
 ghost use Rattle.std.specs.Prelude.{◌≡◌, ◌≤◌, length, IfSome};
-ghost use Rattle.ilp_line_file.specs.File.{IsSettled};
+ghost use Rattle.ilp_running.specs.Logging.{IsBegun};
 ghost use Rattle.ilp_running.specs.Serving.{desk_of, ClosesDesk};
 
 use crate::carrying::new_book;
@@ -60,8 +60,8 @@ where
     ) -> Result<Book, ServeFault>
         requires config { book.config ≡ self.now.config.now }
         requires opening { length book.entries ≡ book.base }
-        requires count { IfSome log (λ l. l.count ≤ length book.entries) }
-        requires settled { D.claims → IfSome log (λ l. IsSettled D.seen D.may_leave l.file) }
+        requires base { IfSome log (λ l. l.start.base ≤ length book.entries) }
+        requires begun { D.claims → IfSome log (IsBegun D.seen D.may_leave) }
         ensures { ClosesDesk (desk_of self.now.config.now book.entries) result }
     {
         let hurry = Hurry::new();

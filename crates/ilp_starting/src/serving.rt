@@ -5,6 +5,7 @@ use crate::host::Host;
 use crate::refused::RunFault;
 use crate::run::Run;
 use ilp_accounts::Config;
+use ilp_journal_file::PlacesFiles;
 use ilp_notices::Notices;
 use std::fs::File;
 use std::net::{Net, TcpListener, TcpStream};
@@ -18,7 +19,10 @@ use std::rt::Files;
 /// connector gave no book back (`ilp_running::ServeFault`). Then nothing is saved.
 pub fn serve<R>(rt: &R, path: &str, journal: Option<&str>) -> Result<(), RunFault>
 where
-    R: Host + Files<File = File> + Net<Listener = TcpListener, Stream = TcpStream>,
+    R: Host
+        + Files<File = File>
+        + PlacesFiles<File = File>
+        + Net<Listener = TcpListener, Stream = TcpStream>,
 {
     let config = noticed(rt, path)?;
     serve_configured(rt, &config, journal)
@@ -27,7 +31,10 @@ where
 // The same of a configuration that was read.
 fn serve_configured<R>(rt: &R, config: &Config, journal: Option<&str>) -> Result<(), RunFault>
 where
-    R: Host + Files<File = File> + Net<Listener = TcpListener, Stream = TcpStream>,
+    R: Host
+        + Files<File = File>
+        + PlacesFiles<File = File>
+        + Net<Listener = TcpListener, Stream = TcpStream>,
 {
     let notices = Notices::new(rt.alloc(), config)?;
     let run = Run {

@@ -9,7 +9,7 @@ use Rattle.ilp_running.specs.Serving.{desk_of}
 -- the form of a log: its head is what its file has
 abbrev pub form_of : {D : Type 0} → (D → List ℕ) → Configuration → Option (BegunLog D) → LogForm
 form_of seen C None = no_form
-form_of seen C (Some log) = record { config = C; head = recovered (seen log.file.device); base = log.count }
+form_of seen C (Some log) = record { config = C; head = recovered (seen log.file.device); base = log.start.base }
 
 abbrev pub ghosts-serve_desk-J-Ledger : goal.ghosts-serve_desk-J-Ledger
 ghosts-serve_desk-J-Ledger g a = record { name = a.blanks.name; parts = a.blanks.parts }

@@ -2,7 +2,7 @@
 
 use super::events::{Event, Row, configuration, play};
 use super::hearing::{At, Hearing};
-use ilp_accounts::Config;
+use ilp_accounts::{Config, LogSync};
 use ilp_notices::RecoveryNote;
 use std::io;
 use std::io::{Eprint, ErrorKind};
@@ -394,6 +394,8 @@ fn tell_of_a_journal<R: Clock + Eprint>(rt: &R) {
     ilp_notices::not_synced(rt, "j", "j.log", &error);
     ilp_notices::nothing_to_save(rt, "j", "j.log");
     ilp_notices::log_left(rt, "j.log", &error);
+    ilp_notices::log_begun(rt, "j.log", LogSync::Group);
+    ilp_notices::log_begun(rt, "j.log", LogSync::Off);
     ilp_notices::log_unwritten(rt, "j.log", &error);
     ilp_notices::journal_in_use(rt, "j");
     ilp_notices::journal_not_locked(rt, "j.lock", &error);
@@ -424,11 +426,13 @@ fn what_is_told_of_a_journal(rt: HostRuntime) -> Result<(), Fail> {
 1970-01-01T00:00:00.000Z error journal \"j\": it is the new one, but its folder can't be synced: permission denied: see to the disk, and keep \"j.log\", from which the next start goes on, and the report
 1970-01-01T00:00:00.000Z error journal \"j\": not saved, since the connector was refused: it is as at the start, and what was booked is in \"j.log\", from which the next start goes on
 1970-01-01T00:00:00.000Z warn can't remove \"j.log\": permission denied: the journal has all that it has, and the next start removes it
-1970-01-01T00:00:00.000Z error can't write \"j.log\": permission denied: what is booked from here on is not on the disk
+1970-01-01T00:00:00.000Z info log \"j.log\": begun, and synced before anybody is told
+1970-01-01T00:00:00.000Z warn log \"j.log\": begun, and left to the system to sync: a power cut may take what was told
+1970-01-01T00:00:00.000Z error can't write \"j.log\": permission denied: what is booked from here on is not on the disk: it is tried anew each second
 1970-01-01T00:00:00.000Z error journal \"j\": another connector has it: close that one, or give this one a journal of its own
 1970-01-01T00:00:00.000Z error can't lock \"j.lock\": permission denied: keep the journal where files can be locked
 1970-01-01T00:00:00.000Z error can't make \"j.lock\": permission denied: see that the journal's folder is there, may be written and has room
-1970-01-01T00:00:00.000Z warn \"j.new\" lies there, of a save that did not end: it is not read, and the next save writes over it: move it away to keep it
+1970-01-01T00:00:00.000Z warn \"j.new\" lies there, of a save that did not end: it is not read, and the next save writes over it, which may be this start's
 1970-01-01T00:00:00.000Z error can't read \"a\\nb\": permission denied
 1970-01-01T00:00:00.000Z error can't read \"j\": more than 8589934592 octets
 1970-01-01T00:00:00.000Z error journal \"j\": a connector stopped without saving it (\"j.running\" says \"run r1, begun with 7 entries\"): what it booked is lost, while engines know its keys and a start would use its numbers again

@@ -1,4 +1,4 @@
-use Rattle.std.proofs.Common.{List, ℕ, Bool, sym, subst}
+use Rattle.std.proofs.Common.{List, ℕ, Bool, false, sym, subst, arith}
 use Rattle.ilp_line_file.specs.Device.{LeavesOnly}
 use Rattle.ilp_line_file.specs.Text.{IsBetween}
 use Rattle.ilp_log.specs.Lines.{lines_of, IsGroup}
@@ -39,7 +39,9 @@ invariant_of-self-in-Err g c =
       λ holds.
           let log = subst (λ (b : Bool). IsLog g.D.Device.seen g.D.Device.may_leave g.D.Device.moment g.D.Device.left_since g.K.LogNaming.form c.self.inside.file b c.self.inside.receipt c.self.inside.count c.self.inside.acks) c.if-self.false (c.self.invariant.2 holds) in
           let is = leaves g.D.Device.seen g.D.Device.may_leave g.D.Device.moment g.D.Device.left_since g.K.LogNaming.form c.self.inside.file c.append.new.self.device c.self.inside.receipt c.self.inside.count c.args.group.now.to text c.self.inside.acks log mine (c.append.ensures.any_moment holds) in
-          fails g.D.Device.seen g.D.Device.may_leave g.D.Device.moment g.D.Device.left_since g.K.LogNaming.form c.self.inside.file c.append.new.self c.self.inside.receipt c.self.inside.count c.self.inside.acks (g.met.D.Device.counts_now holds c.append.new.self.device) is log,
+          fails g.D.Device.seen g.D.Device.may_leave g.D.Device.moment g.D.Device.left_since g.K.LogNaming.form c.self.inside.file c.append.new.self false c.self.inside.receipt c.self.inside.count c.self.inside.acks (g.met.D.Device.counts_now holds c.append.new.self.device) is log,
+      c.self.invariant.3,
+      c.self.invariant.4,
     )
 
 pub invariant_of-self : goal.invariant_of-self
@@ -53,4 +55,6 @@ invariant_of-self g c =
           let log = subst (λ (b : Bool). IsLog g.D.Device.seen g.D.Device.may_leave g.D.Device.moment g.D.Device.left_since g.K.LogNaming.form c.self.inside.file b c.self.inside.receipt c.self.inside.count c.self.inside.acks) c.if-self.false (c.self.invariant.2 holds) in
           let is = leaves g.D.Device.seen g.D.Device.may_leave g.D.Device.moment g.D.Device.left_since g.K.LogNaming.form c.self.inside.file c.append.new.self.device c.self.inside.receipt c.self.inside.count c.args.group.now.to text c.self.inside.acks log mine (c.append.ensures.any_moment holds) in
           goes_on g.D.Device.seen g.D.Device.may_leave g.D.Device.moment g.D.Device.left_since g.K.LogNaming.form c.self.inside.file c.append.new.self c.self.inside.receipt c.self.inside.count c.args.group.now.to text c.self.inside.acks mine is (c.in-Ok.ensures.settled holds) (c.in-Ok.ensures.lines holds) log,
+      omega (arith, c.self.invariant.3, mine.later),
+      c.self.invariant.4,
     )

@@ -12,7 +12,7 @@ use Rattle.ilp_log.proofs.open_log.OpenLog.see.Goals as goal
 pub invariant_of-self : goal.invariant_of-self
 invariant_of-self g c =
     let longer : IsPrefix c.self.inside.receipt c.show.new.receipt = subst (λ (l : Entries). IsPrefix c.self.inside.receipt l) (sym c.show.ensures.seen) c.show.ensures.begins in
-    (c.self.invariant.0, omega (arith, c.self.invariant.1, prefix_length c.self.inside.receipt c.show.new.receipt longer), λ holds. sees g.D.Device.seen g.D.Device.may_leave g.D.Device.moment g.D.Device.left_since g.K.LogNaming.form c.self.inside.file c.self.inside.failed c.self.inside.receipt c.show.new.receipt c.self.inside.count c.self.inside.acks longer (c.self.invariant.2 holds))
+    (c.self.invariant.0, omega (arith, c.self.invariant.1, prefix_length c.self.inside.receipt c.show.new.receipt longer), λ holds. sees g.D.Device.seen g.D.Device.may_leave g.D.Device.moment g.D.Device.left_since g.K.LogNaming.form c.self.inside.file c.self.inside.failed c.self.inside.receipt c.show.new.receipt c.self.inside.count c.self.inside.acks longer (c.self.invariant.2 holds), c.self.invariant.3, c.self.invariant.4)
 
 pub returns-clause-any_moment : goal.returns-clause-any_moment
 returns-clause-any_moment g c holds =

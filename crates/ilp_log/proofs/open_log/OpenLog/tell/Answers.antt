@@ -26,6 +26,8 @@ invariant_of-self g c =
           let told = tells g.D.Device.seen g.D.Device.may_leave g.D.Device.moment g.D.Device.left_since g.K.LogNaming.form c.self.inside.file c.self.inside.receipt c.self.inside.count before (g.met.D.Device.only_now holds c.self.inside.file.device) log in
           let now = subst (λ (l : List Ack). IsLog g.D.Device.seen g.D.Device.may_leave g.D.Device.moment g.D.Device.left_since g.K.LogNaming.form c.self.inside.file false c.self.inside.receipt c.self.inside.count l) is told in
           subst (λ (b : Bool). IsLog g.D.Device.seen g.D.Device.may_leave g.D.Device.moment g.D.Device.left_since g.K.LogNaming.form c.self.inside.file b c.self.inside.receipt c.self.inside.count c.seen.new.self) (sym c.if-self.false) now,
+      c.self.invariant.3,
+      c.self.invariant.4,
     )
 
 pub returns-clause-kept : goal.returns-clause-kept

@@ -1,0 +1,162 @@
+//! The two sides of a connector, and the run of a desk between them.
+ghost use Rattle.std.specs.Prelude.{◌≤◌, vec_len};
+
+use crate::accepting::Acceptor;
+use crate::actors::actors_of;
+use crate::fault::Unprinted;
+use crate::intakes::{Intakes, ending_after};
+use crate::open_files::{open_files, waiting_by, wanted};
+use crate::places::Places;
+use crate::threads::{Acceptors, Shared, run};
+use crate::watching::Seen;
+use ilp_accounts::Config;
+use ilp_desk::{Desk, End, Naming, Share};
+use ilp_http::Buffer;
+use ilp_intake::{Intake, IntakeHandle, MOST_WAITING, listen};
+use ilp_keeping::SharedKeeper;
+use ilp_links::Links;
+use ilp_notices::{few_files, listening, no_thread, not_listening, one_worker};
+use ilp_server::Side;
+use std::io::{Eprint, ErrorKind};
+use std::net::{Net, TcpListener, TcpStream};
+use std::rt::Files;
+use std::sync::Wait;
+use std::thread::Threads;
+use std::time::Clock;
+
+/// What takes connections in at both sides, and what reaches it.
+#[derive(Drop)]
+pub struct Sides {
+    acceptors: Acceptors,
+    intakes: Intakes,
+    // How many files the process may have open, where the system says so.
+    open_files: Option<u64>,
+}
+
+impl Sides {
+    /// Listens at both sides, at the places of the configuration.
+    ///
+    /// Refusals: `Listen` where a side can't be listened at, and a line says why; `Memory`.
+    pub fn open<R>(rt: &R, config: &Config) -> Result<Sides, Unprinted>
+    where
+        R: Net<Listener = TcpListener, Stream = TcpStream> + Clock + Eprint + Files,
+    {
+        let open_files = open_files(rt, config.allocator());
+        let most = most_waiting(open_files, config.workers());
+        let (peers, peer_handle) = open_side(rt, config, Side::Ilp, config.listen(), most)?;
+        let (engines, engine_handle) = open_side(
+            rt,
+            config,
+            Side::Engine,
+            config.engine_listen(),
+            most,
+        )?;
+        let after = ending_after(config.max_hold_ms());
+        Ok(Sides {
+            acceptors: Acceptors { peers, engines },
+            intakes: Intakes::new(peer_handle, engine_handle, after),
+            open_files,
+        })
+    }
+}
+
+// How many connections may wait at each side. Where the system does not say how many files may be open,
+// as many wait as ever do.
+fn most_waiting(open_files: Option<u64>, workers: u32) -> usize {
+    match open_files {
+        Some(limit) => waiting_by(limit, workers),
+        None => MOST_WAITING,
+    }
+}
+
+fn open_side<R>(
+    rt: &R,
+    config: &Config,
+    side: Side,
+    place: &str,
+    most: usize,
+) -> Result<(Acceptor, IntakeHandle), Unprinted>
+where
+    R: Net<Listener = TcpListener, Stream = TcpStream> + Clock + Eprint,
+{
+    let alloc = config.allocator();
+    let buffer = Buffer::new(alloc)?;
+    let after = ending_after(config.max_hold_ms());
+    let opened = match listen(rt, place) {
+        Ok(listener) => Intake::new(rt, alloc, listener, most, after),
+        Err(error) => Err(error),
+    };
+    match opened {
+        Ok((intake, handle)) => Ok((
+            Acceptor {
+                side,
+                intake,
+                buffer,
+            },
+            handle,
+        )),
+        Err(error) if error.kind() == ErrorKind::OutOfMemory => Err(Unprinted::Memory),
+        Err(error) => {
+            not_listening(rt, place, &error);
+            Err(Unprinted::Listen(side))
+        }
+    }
+}
+
+/// Runs the actors whose shares of the desk these are, the settler's last and the sweeper's before it, until
+/// the connector is closed and what was accepted is answered. Then it gives what they hand in. Each has a
+/// keeper of its own of the same journal.
+///
+/// Refusals: `Spawn` where a thread can't be started, and a line says so; `Memory`. All that ran has ended
+/// then.
+pub fn run_desk<J, R, L, K>(
+    rt: &R,
+    desk: &Desk<J>,
+    shares: Vec<Share<J>>,
+    links: &L,
+    sides: Sides,
+    keeper: K,
+) -> Result<Vec<End<J>>, Unprinted>
+where
+    J: Naming + Send + Sync,
+    R: Threads + Wait + Clock + Eprint + Sync,
+    L: Links,
+    K: SharedKeeper<J> + Drop + Send,
+    requires { 2 ≤ vec_len shares }
+{
+    let config = desk.config();
+    let actors = actors_of(rt, desk, shares, links, keeper)?;
+    let places = Places::new(config.allocator(), config.workers(), config.peers())?;
+    let seen = Seen::new();
+    let Sides {
+        acceptors,
+        intakes,
+        open_files,
+    } = sides;
+    tell_start(rt, config, open_files);
+    let shared = Shared {
+        rt,
+        desk,
+        places: &places,
+        intakes: &intakes,
+        notices: links.notices(),
+        seen: &seen,
+    };
+    let ends = run(shared, actors, acceptors, links.hurry());
+    if let Err(Unprinted::Spawn) = &ends {
+        no_thread(rt);
+    }
+    ends
+}
+
+// Tells that the connector listens, and what it can't do with one worker or so many open files.
+fn tell_start<R: Clock + Eprint>(rt: &R, config: &Config, open_files: Option<u64>) {
+    listening(rt, config);
+    one_worker(rt, config);
+    let wanted = wanted(config.workers());
+    if let Some(limit) = open_files {
+        if limit < wanted {
+            few_files(rt, limit, wanted);
+        }
+    }
+}

@@ -1,0 +1,160 @@
+//! What the watcher's thread does: it looks each second at what an operator is to know.
+
+use crate::actors::WatcherLinks;
+use crate::places::Places;
+use crate::shutdown::Shutdown;
+use ilp_book::Book;
+use ilp_desk::{Desk, Naming};
+use ilp_keeping::SharedKeeper;
+use ilp_notices::Notices;
+use ilp_workers::{Clock, Keeper};
+use std::io::Eprint;
+use std::sync::Wait;
+use std::sync::atomic::{AtomicBool, Ordering};
+use std::time;
+use std::time::Duration;
+
+// How long the watcher rests between two looks, in milliseconds.
+const REST_MS: u64 = 1_000;
+
+// By how many milliseconds the clock may lie behind the book before that is told.
+const SLACK_MS: u64 = 1_000;
+
+/// What other threads have seen that the watcher is to tell. They share it by reference.
+#[derive(Drop)]
+pub(crate) struct Seen {
+    full: AtomicBool,
+}
+
+impl Seen {
+    /// Nothing.
+    pub(crate) fn new() -> Seen {
+        Seen {
+            full: AtomicBool::new(false),
+        }
+    }
+
+    /// The journal had no room for an entry.
+    pub(crate) fn note_full(&self) {
+        self.full.store(true, Ordering::SeqCst);
+    }
+}
+
+/// What the watcher looks at.
+#[derive(Drop)]
+pub(crate) struct Watcher<'a, J: Naming, C: Clock + Drop, K: Keeper<J> + Drop> {
+    pub(crate) desk: &'a Desk<J>,
+    pub(crate) links: WatcherLinks<J, C, K>,
+    pub(crate) places: &'a Places,
+    pub(crate) notices: &'a Notices,
+    pub(crate) seen: &'a Seen,
+}
+
+/// Has the watcher look each second until the connector ends, and once more then.
+pub(crate) fn watch<J, C, K, R>(rt: &R, watcher: Watcher<'_, J, C, K>, shutdown: Shutdown)
+where
+    J: Naming,
+    C: Clock + Drop,
+    K: SharedKeeper<J> + Drop,
+    R: Wait + time::Clock + Eprint,
+{
+    let mut watcher = watcher;
+    let rest = Duration::from_millis(REST_MS);
+    for _ in rt.forever() {
+        let ends = shutdown.rest(rt, rest);
+        watcher.look(rt);
+        if ends {
+            break;
+        }
+        watcher.notices.look(rt, watcher.desk.config());
+    }
+    watcher.notices.last_look(rt, watcher.desk.config());
+}
+
+// What there is to see of a book.
+#[derive(Clone, Copy)]
+struct BookState {
+    entries: u32,
+    // How many entries there are, and how many more those that end open holds will be.
+    taken: u64,
+    // The moment of the last entry, and 0 where there is none, in milliseconds since 1970.
+    last: i64,
+}
+
+impl BookState {
+    fn of(book: &Book) -> BookState {
+        let entries = book.len();
+        let last = match book.entry(entries.saturating_sub(1)) {
+            Some(entry) => entry.moment,
+            None => 0,
+        };
+        BookState {
+            entries,
+            taken: u64::from(entries).saturating_add(open_holds(book)),
+            last,
+        }
+    }
+}
+
+// How many holds are open, of all peers.
+fn open_holds(book: &Book) -> u64 {
+    let mut count = 0u64;
+    for peer in 0..book.config().peers() {
+        count = count.saturating_add(u64::from(book.open_holds(peer)));
+    }
+    count
+}
+
+impl<J: Naming, C: Clock + Drop, K: SharedKeeper<J> + Drop> Watcher<'_, J, C, K> {
+    fn look<R: Wait + time::Clock + Eprint>(&mut self, rt: &R) {
+        // The lock is free again before the clock is asked and anything is told.
+        let state = BookState::of(self.desk.lock(rt).book());
+        self.look_at_clock(rt, state.last);
+        self.look_at_journal(rt, state);
+        self.look_at_work(rt);
+        self.look_at_keeper(rt);
+    }
+
+    // No entry was booked after the clock's moment, unless it was set back.
+    fn look_at_clock<R: time::Clock + Eprint>(&mut self, rt: &R, last: i64) {
+        let now = self.links.clock.now();
+        let behind = if now < last { last.abs_diff(now) } else { 0 };
+        if behind < SLACK_MS {
+            self.notices.clock_right();
+        } else {
+            self.notices.clock_behind(rt, behind);
+        }
+    }
+
+    // Open settlements keep room back too. Where they have the last of it, what was refused tells.
+    fn look_at_journal<R: time::Clock + Eprint>(&self, rt: &R, state: BookState) {
+        let limit = self.desk.config().journal();
+        if state.taken >= u64::from(limit) || self.seen.full.load(Ordering::SeqCst) {
+            self.notices.journal_full(rt, state.entries, limit);
+        } else {
+            self.notices.journal(rt, state.entries, limit);
+        }
+    }
+
+    fn look_at_work<R: Wait + time::Clock + Eprint>(&self, rt: &R) {
+        let seconds = match self.places.waited(rt) {
+            Some(time) => time.as_secs(),
+            None => 0,
+        };
+        if seconds == 0 {
+            self.notices.work_goes_on();
+        } else {
+            self.notices.work_waits(rt, self.desk.config(), seconds);
+        }
+    }
+
+    // Where entries were not kept it is tried again.
+    fn look_at_keeper<R: time::Clock + Eprint>(&mut self, rt: &R) {
+        let links = &mut self.links;
+        if links.keeper.keeps() || links.keeper.mend(&mut links.receipt) {
+            self.notices.journal_kept();
+        } else {
+            self.notices.journal_unkept(rt);
+        }
+    }
+}
