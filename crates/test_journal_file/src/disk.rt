@@ -1,14 +1,14 @@
 //! A disk in memory: a folder with room for a journal and what stands beside it.
 
-use ilp_journal_file::{LinkedFile, LockFile};
+use ilp_journal_file::{LockFile, PlacesFiles, put_in_place};
 use std::alloc::{Alloc, Allocator, Global};
 use std::cell::RefCell;
 use std::fmt::Display;
 use std::fs::{Metadata, OpenFile, OpenOptions, TryLockError};
-use std::io;
 use std::io::{Eprint, ErrorKind, Print, Read, Seek, SeekFrom, Write};
 use std::rt::Files;
 use std::time::{Clock, Duration};
+use std::{fs, io};
 
 /// The names that a file can have.
 pub(crate) const JOURNAL: &str = "journal";
@@ -253,6 +253,24 @@ impl Disk {
         state.sync(None)
     }
 
+    /// Puts the files that are here then on another disk. No call is counted.
+    pub(crate) fn put_on(&self, other: &Disk, when: When) -> io::Result<()> {
+        for name in NAMES {
+            if let Some(text) = self.text(name, when)? {
+                other.put(name, &text)?;
+            }
+        }
+        Ok(())
+    }
+
+    /// From now on so many calls fail, behind so many that don't. The number of the first is told.
+    pub(crate) fn fail_behind(&self, calls: u32, count: u32) -> io::Result<u32> {
+        let mut state = self.state()?;
+        let first = state.calls.saturating_add(calls);
+        state.faults = Faults { first, count };
+        Ok(first)
+    }
+
     /// Takes a file away, as somebody else does. No call is counted.
     pub(crate) fn take_away(&self, path: &str) -> io::Result<()> {
         self.state()?.name(path, None)
@@ -357,6 +375,35 @@ impl<'d> Files for Machine<'d> {
 
     fn remove_dir_all<B: Allocator>(&self, _alloc: B, _path: &str) -> io::Result<()> {
         Err(unsupported())
+    }
+}
+
+impl<'d> PlacesFiles for Machine<'d> {
+    type File = Handle<'d>;
+
+    fn create_anew(&self, path: &str, _mode: u32) -> io::Result<Handle<'d>> {
+        match fs::remove_file(self, path) {
+            Err(error) if error.kind() != ErrorKind::NotFound => return Err(error),
+            _ => {}
+        }
+        OpenOptions::new()
+            .read(true)
+            .write(true)
+            .create_new(true)
+            .open(self, path)
+    }
+
+    fn put_in_place(&self, new: &str, path: &str, folder: &str) -> io::Result<()> {
+        put_in_place(self, new, path, folder)
+    }
+
+    fn is_at(&self, file: &Handle<'d>, path: &str) -> io::Result<bool> {
+        let state = self.0.state()?;
+        Ok(Some(state.content_of(path)?) == file.content)
+    }
+
+    fn most_octets(&self) -> u64 {
+        u64::MAX
     }
 }
 
@@ -481,14 +528,6 @@ impl OpenFile for Handle<'_> {
 
     fn sync_data(&self) -> io::Result<()> {
         self.sync_all()
-    }
-}
-
-impl LinkedFile for Handle<'_> {
-    fn names(&self) -> io::Result<u64> {
-        let state = self.disk.state()?;
-        let named = state.now.iter().filter(|content| **content == self.content);
-        Ok(named.count() as u64)
     }
 }
 

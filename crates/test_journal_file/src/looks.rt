@@ -12,6 +12,19 @@ pub(crate) fn has(disk: &Disk, name: &str, when: When, text: &[u8]) -> io::Resul
     })
 }
 
+/// Whether a file is as it was left: with this text, or not there where there is none.
+pub(crate) fn is_as_left(
+    disk: &Disk,
+    name: &str,
+    when: When,
+    text: Option<&str>,
+) -> io::Result<bool> {
+    match text {
+        Some(text) => has(disk, name, when, text.as_bytes()),
+        None => Ok(!is_there(disk, name, when)?),
+    }
+}
+
 /// Whether a file is there.
 pub(crate) fn is_there(disk: &Disk, name: &str, when: When) -> io::Result<bool> {
     Ok(disk.text(name, when)?.is_some())

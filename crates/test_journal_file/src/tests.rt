@@ -6,6 +6,7 @@ use crate::disk::{
     Disk, Faults, Handle, JOURNAL, LIMITS, LOCK, LOG, LOG_NEW, Machine, NEVER, NEW, RUNNING, When,
 };
 use crate::looks::{has, is_there, lines_of};
+use ilp_accounts::LogSync;
 use ilp_io::{Sink, WriteFault, put_all};
 use ilp_journal_file::{Content, FileFault, JournalFile, LogDevice, look_at};
 use ilp_line_file::{DeviceFault, LineFile};
@@ -22,23 +23,24 @@ const NEW_TEXT: &[u8] = b"the text of this run, which is written in several piec
 
 const OLD_LOG: &[u8] = b"the head of a run that stopped\nan entry of it\nand an unfini";
 
-const HEAD: &[u8] = b"the head of this run\n";
+/// The first line of each log.
+pub(crate) const HEAD: &[u8] = b"the head of this run\n";
 
-// What is appended to a log, one after the other.
-const LINES: [&[u8]; 3] = [
+/// What is appended to a log, one after the other.
+pub(crate) const LINES: [&[u8]; 3] = [
     b"an entry\n",
     b"two entries at once\nand with one sync\n",
     b"the last entry\n",
 ];
 
-// A log with all of them.
-const WHOLE_LOG: &[u8] =
+/// A log with all of them.
+pub(crate) const WHOLE_LOG: &[u8] =
     b"the head of this run\nan entry\ntwo entries at once\nand with one sync\nthe last entry\n";
 
 const REMEMBERED: &[u8] = b"what is to be remembered";
 
-// More calls than a run makes.
-const MOST_CALLS: u32 = 600;
+/// More calls than a run makes.
+pub(crate) const MOST_CALLS: u32 = 600;
 
 // A text that is saved.
 #[derive(Clone, Copy)]
@@ -78,7 +80,8 @@ const NOWHERE: Came = Came {
     is_saved: false,
 };
 
-type Log<'d> = LineFile<LogDevice<'d, Machine<'d>, Handle<'d>>>;
+/// The log of a run over a disk.
+pub(crate) type Log<'d> = LineFile<LogDevice<'d, Machine<'d>, Handle<'d>>>;
 
 // A run from its start to its end, over the disk of a machine.
 fn run<'d>(machine: &'d Machine<'d>, alloc: Global) -> Came {
@@ -99,8 +102,8 @@ fn run<'d>(machine: &'d Machine<'d>, alloc: Global) -> Came {
     }
 }
 
-// What a run does before it serves.
-fn begin<'d>(
+/// What a run does before it serves.
+pub(crate) fn begin<'d>(
     machine: &'d Machine<'d>,
     alloc: Global,
     file: &JournalFile<Handle<'d>>,
@@ -110,15 +113,15 @@ fn begin<'d>(
         file.save_at_start(machine, alloc, &Text(START_TEXT))?;
     }
     file.remember(machine, alloc, REMEMBERED)?;
-    let device = file.begin_log(machine, alloc, HEAD)?;
+    let device = file.begin_log(machine, alloc, HEAD, LogSync::Group)?;
     Ok(LineFile {
         device,
         end: HEAD.len(),
     })
 }
 
-// Appends lines to a log, which is never so long that they have no room behind it.
-fn append(log: &mut Log<'_>, lines: &[u8]) -> Result<(), DeviceFault>
+/// Appends lines to a log, which is never so long that they have no room behind it.
+pub(crate) fn append(log: &mut Log<'_>, lines: &[u8]) -> Result<(), DeviceFault>
     requires { IsText lines.now }
 {
     if log.end >= usize::MAX - lines.len() {
