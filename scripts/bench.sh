@@ -16,15 +16,16 @@
 #     scripts/bench.sh answer
 #     scripts/bench.sh report
 #     scripts/bench.sh serve
+#     scripts/bench.sh log
 #
-# `serve` is another thing: the whole connector, proved and built by scripts/build.sh (or the program that
-# CONNECTOR names), under load beside nginx and plain Rust. It needs wrk and nginx too, and
-# bench/serve/serve.py says what it prints and takes.
+# The last two are another thing: the whole connector, proved and built by scripts/build.sh (or the program
+# that CONNECTOR names), under load beside nginx and plain Rust, and `log` beside PostgreSQL and SQLite too.
+# They need wrk and nginx; bench/serve/serve.py and scripts/benching/log.py say what they print and take.
 #
 # A turn of `carried` is an entry that is saved or carried over.
 #
 # With LARGE=1 in the environment `book` and `carried` have their rows of 16,000,000 entries alone, which
-# take 4 and 6 GB, and count no instructions.
+# take 4 and 6 GB, and count no instructions; `log` has as many before its starts.
 #
 # It works on a copy of the repository in a temporary folder (TMPDIR says where). It needs rt, rustc
 # and python3, and valgrind for the instructions. The Rattle program is proved before it is built
@@ -40,15 +41,18 @@ bench="$top/bench/$name"
 work=$(mktemp -d)
 trap 'rm -rf "$work"' EXIT
 
-if [ "$name" = serve ]; then
-    for part in serve peer; do
-        rustc --edition 2024 -O "$top/bench/baselines/$part.rs" -o "$work/$part"
-    done
+if [ "$name" = serve ] || [ "$name" = log ]; then
+    case $name in
+        serve) baseline=$top/bench/baselines/serve.rs; script=$bench/serve.py ;;
+        log) baseline=$top/scripts/benching/appending.rs; script=$top/scripts/benching/log.py ;;
+    esac
+    rustc --edition 2024 -O "$baseline" -o "$work/baseline"
+    rustc --edition 2024 -O "$top/bench/baselines/peer.rs" -o "$work/peer"
     if [ -z "${CONNECTOR:-}" ]; then
         "$top/scripts/build.sh" "$work/bin" >&2
         CONNECTOR="$work/bin/connector"
     fi
-    python3 "$bench/serve.py" "$CONNECTOR" "$work/serve" "$work/peer"
+    python3 "$script" "$CONNECTOR" "$work/baseline" "$work/peer"
     exit
 fi
 

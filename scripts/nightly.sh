@@ -57,6 +57,7 @@ run wrapper "python3 curl unshare" scripts/try_wrapper.py
 run fronts "python3 nginx curl openssl" scripts/try_front.sh
 run wrong_bodies rt scripts/gate/wrong_bodies.sh
 run load "wrk nginx rustc python3" scripts/bench.sh serve
+run log "wrk rustc python3" scripts/bench.sh log
 run benchmarks "rt rustc python3 valgrind" benchmarks
 echo "what each said: $said"
 exit $failed

@@ -86,6 +86,19 @@ def careless() -> Setup:
 
 
 @case
+def sync_in_a_configuration(laboratory: Laboratory) -> None:
+    """`sync` is one of two texts. Anything else is refused, with a line that has its place and what it is to be."""
+    file = laboratory.folder() / "connector.toml"
+    line = "at the top: sync is to be the text group or off\n"
+    rows = [(sync, (0, "ok 2 peers 1 assets 2 routes\n", "")) for sync in ("group", "off")]
+    rows += [(sync, (1, "refused 23 BadValue sync\n", line)) for sync in ("of", "", "Off", "off ", "fdatasync", 0, 1)]
+    for sync, told in rows:
+        file.write_text(Setup(top={"sync": sync}).text())
+        file.chmod(0o600)
+        expect(f"what is told of {sync!r}", run(laboratory, "check", str(file)), told)
+
+
+@case
 def warnings_of_a_check(laboratory: Laboratory) -> None:
     """What is probably not meant is told behind the answer, which stays as it was, with a journal too; of a
     configuration that is refused only that is told, and of the built-in one nothing."""

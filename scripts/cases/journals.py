@@ -59,9 +59,11 @@ class Kept:
         """A program that was started over it, and may not listen yet."""
         return self.laboratory.start(self.setup, journal=self.path)
 
-    def serve(self) -> Program:
-        """A program that listens."""
-        program = self.start()
+    def serve(self, largest_file: int | None = None, environment: dict[str, str] | None = None) -> Program:
+        """A program that listens, with such a limit and such an environment where these are given."""
+        laboratory = self.laboratory
+        program = laboratory.run(Program(laboratory.binary, laboratory.folder(), self.setup, journal=self.path,
+                                         largest_file=largest_file, environment=environment))
         program.await_listening()
         return program
 

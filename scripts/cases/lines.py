@@ -39,8 +39,9 @@ REACHED_AGAIN = r"reached again, after (1 failure|\d+ failures)"
 # A path, as it is quoted in a line.
 PATH = r'"[^"]*"'
 
-# What is told of a log that can't be written, each time that it is seen, and at the close.
+# What is told of a log that can't be written, each time that it is seen, once it is written anew, and at the close.
 UNKEPT = "journal: what is booked is not kept: packets get T00, credits 503, and no settlement is asked for"
+KEPT_AGAIN = "info journal: all that is booked is kept again"
 INCOMPLETE = "journal: its log lacks what was booked last: keep the report until the journal is saved"
 
 # What is told of each peer to which holds were open at a sudden stop.
@@ -98,9 +99,11 @@ FORMS = [re.compile(form) for form in (
     rf"error journal {PATH}: (it is the new one, but .+|a settlement with .+|what it counts .+)",
     r"error compare with peers and engines what was booked since, .+",
     rf"error can't (make|read|use|lock) {PATH}: .+",
-    rf"error can't write {PATH}: .+: what is booked from here on is not on the disk",
+    rf"info log {PATH}: begun, and synced before anybody is told",
+    rf"warn log {PATH}: begun, and left to the system to sync: a power cut may take what was told",
+    rf"error can't write {PATH}: .+: what is booked from here on is not on the disk: it is tried anew each second",
     rf"error {re.escape(UNKEPT)}{MORE}",
-    r"info journal: all that is booked is kept again",
+    KEPT_AGAIN,
     rf"error {re.escape(INCOMPLETE)}",
     rf"warn can't remove {PATH}: .+: the journal has all that it has, and the next start removes it",
     rf"warn {PATH} lies there, .+",

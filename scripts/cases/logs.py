@@ -1,8 +1,7 @@
-"""The log beside a journal: what a start takes from it behind a sudden stop, what is refused, and a log that can't be
-written."""
+"""The log beside a journal: what a start takes from it behind a sudden stop, what is refused, and copies.
+cases/log_faults.py has a log that can't be written."""
 import hashlib
 import json
-import os
 import re
 import shutil
 import socket
@@ -13,26 +12,30 @@ from dataclasses import replace
 
 from cases.case import case, expect, expect_that
 from cases.conversations import report
-from cases.journals import PACKETS, SETTLEMENTS, Kept, await_one, keys_of
-from cases.laboratory import (Laboratory, close, credit, expect_packet, expect_served, packet_request,
-                              send_packet)
-from cases.lines import INCOMPLETE, MORE, OF_ANOTHER_TEXT, UNKEPT
+from cases.journals import SETTLEMENTS, Kept, await_one, keys_of
+from cases.laboratory import Laboratory, close, credit, expect_served, packet_request, send_packet
+from cases.lines import OF_ANOTHER_TEXT
 from cases.messages import HERE, created, response, soon
 from cases.program import Program, Setup, numbers_in
 from cases.remembered import ANOTHER_ASSET, ANOTHER_RUN, BTC, REMEMBERED, with_asset, with_run
-from cases.stand_ins import (ACCEPTS, FULFILLS, Behaviour, Received, StandIn, engine_of, free_port, in_turn,
+from cases.stand_ins import (ACCEPTS, FULFILLS, Behaviour, Received, engine_of, free_port, in_turn,
                              never_answers)
 from connections import quantity
-from scenes import FULFILL, T00
+from scenes import FULFILL
 
 UNREAD = "73 JournalUnread"
+
+# What is told on a journal that has no file yet.
+ABSENT = ("not there yet, so all balances begin at 0: see that this is its path, and that no earlier start had this "
+          "`run`")
 
 # What is told on a journal beside which a log lies.
 LOGGED = "a connector stopped without saving it, and {} entries come from its log"
 OLDER = "its log is of an older text, and the journal has all that it has: a start removes it"
 
-# In octets: the most of a file where a log has room for some packets alone, and more than that.
-LITTLE, ENOUGH = 8192, 1_000_000
+# What is told of a log that has begun, by the field `sync` of the configuration.
+BEGUN = {"group": "info log {}: begun, and synced before anybody is told",
+         "off": "warn log {}: begun, and left to the system to sync: a power cut may take what was told"}
 
 
 def head(kept: Kept, run: str = "r1") -> str:
@@ -48,12 +51,13 @@ def log_of(kept: Kept) -> str:
 
 
 def expect_begun(kept: Kept, program: Program, *said: str) -> None:
-    """A start tells of the journal just this, each with its level; and a log that has its head alone goes on from
-    there."""
+    """A start tells of the journal just this, each with its level, and then of the log, which has its head alone and
+    goes on from there."""
     told = [line.said for line in program.lines()]
     listening = next(place for place, line in enumerate(told) if line.startswith("info listening at "))
     lines = [f"{level} {kept.said(text)}" for level, _, text in (line.partition(" ") for line in said)]
-    expect("what is told of the journal", told[:listening], lines)
+    begun = BEGUN[str(kept.setup.top.get("sync", "group"))].format(json.dumps(str(kept.beside("log"))))
+    expect("what is told of the journal", told[:listening], [*lines, begun])
     expect("the log", log_of(kept), head(kept))
 
 
@@ -144,13 +148,12 @@ def killed_again_and_again(laboratory: Laboratory) -> None:
 def killed_before_anything(laboratory: Laboratory) -> None:
     """A connector that booked nothing leaves a log without entries, and the next start makes no journal."""
     kept = Kept(laboratory)
-    absent = "warn not there yet, so all balances begin at 0: see that this is its path, and that no earlier start had this `run`"
     program = kept.serve()
-    expect_begun(kept, program, absent)
+    expect_begun(kept, program, f"warn {ABSENT}")
     program.kill()
     kept.expect_checked(program, LOGGED.format(0), entries=0)
     program = kept.serve()
-    expect_begun(kept, program, f"warn {LOGGED.format(0)}", absent)
+    expect_begun(kept, program, f"warn {LOGGED.format(0)}", f"warn {ABSENT}")
     expect("the files", kept.files(), ["journal.lock", "journal.log"])
     close(program)
 
@@ -404,97 +407,6 @@ def two_starts_on_one_log(laboratory: Laboratory) -> None:
     expect("what the others print", {program.output() for program in ended}, {f"refused {UNREAD}\n"})
     expect_begun(kept, running, f"warn {LOGGED.format(2)}", "info begun with its 2 entries")
     close(running, bob=14)
-
-
-# ---- a log that can't be written
-
-def expect_unkept(kept: Kept, program: Program) -> None:
-    """Packets get T00 and credits 503, and lines say so."""
-    path = re.escape(json.dumps(str(kept.beside("log"))))
-    form = rf"error can't write {path}: .+: what is booked from here on is not on the disk"
-    program.await_told(form, within=1.0)
-    for _ in range(2):
-        expect_packet("a packet", program, soon(), T00)
-        expect("a credit", credit(program, 1000, key="unkept"), response(503))
-    program.await_told(rf"error {UNKEPT}{MORE}", count=2)
-    expect_packet("a packet", program, soon(), T00)
-    expect("how many lines say that it can't be written", len(program.told(form)), 1)
-
-
-def owing(laboratory: Laboratory) -> tuple[Kept, Program, StandIn]:
-    """A journal, a connector over it that has fulfilled a packet of 1, and bob's engine."""
-    bob, engine = laboratory.stand_in(FULFILLS), laboratory.stand_in(engine_of())
-    kept = Kept(laboratory, Setup(bob=bob.port, engine=engine.port, top={"settle_ms": 20}))
-    program = kept.serve()
-    expect_served(program, amount=1)
-    return kept, program, engine
-
-
-def expect_all_saved(kept: Kept, program: Program, engine: StandIn) -> None:
-    """What was booked and not kept is saved at the close: two packets of 1, the credit of `expect_unkept`, and the
-    settlement of it. The next start tells its engine of the credit, and asks for the settlement."""
-    expect("the settlements that were asked for", keys_of(engine), [])
-    close(program, alice=-2, bob=200)
-    expect("the last lines", [line.said for line in program.lines()][-2:],
-           [f"error {INCOMPLETE}", f"info {kept.said('saved with 6 entries')}"])
-    expect("the files", kept.files(), ["journal", "journal.lock"])
-    program = kept.serve()
-    expect("the credit", credit(program, 1000, key="unkept"), created(quantity(1000, 2)))
-    program.await_told("info settlement 5 with bob of 802: confirmed")
-    expect("the keys of the settlements", keys_of(engine), [b"r1-5"])
-    close(program, alice=-2, bob=200)
-
-
-@case
-def log_that_is_removed(laboratory: Laboratory) -> None:
-    """A log that is removed under a connector is seen by the next entry that is to be kept. What bob has fulfilled by
-    then is told as fulfilled; from then on nothing is taken on, until the close saves the journal."""
-    kept, program, engine = owing(laboratory)
-    kept.beside("log").unlink()
-    expect_served(program, amount=1)
-    expect_unkept(kept, program)
-    expect_all_saved(kept, program, engine)
-
-
-@case
-def log_that_is_cut(laboratory: Laboratory) -> None:
-    """So is one that is cut, to its head here."""
-    kept, program, engine = owing(laboratory)
-    os.truncate(kept.beside("log"), len(head(kept)))
-    expect_served(program, amount=1)
-    expect_unkept(kept, program)
-    expect_all_saved(kept, program, engine)
-
-
-@case
-def log_that_is_replaced(laboratory: Laboratory) -> None:
-    """And so is one in whose place an empty file comes."""
-    kept, program, engine = owing(laboratory)
-    kept.beside("log").unlink()
-    kept.beside("log").touch()
-    expect_served(program, amount=1)
-    expect_unkept(kept, program)
-    expect_all_saved(kept, program, engine)
-
-
-@case
-def log_without_room(laboratory: Laboratory) -> None:
-    """A disk that is full, as a limit of file sizes, is told and ends no connector. It stays so once there is room,
-    until the next start."""
-    kept = Kept(laboratory)
-    program = laboratory.run(Program(laboratory.binary, laboratory.folder(), kept.setup, journal=kept.path,
-                                     largest_file=LITTLE))
-    program.await_listening()
-    answers = [send_packet(program, soon(1)) for _ in range(PACKETS)]
-    fulfilled = answers.count(response(200, FULFILL))
-    expect_that(f"{fulfilled} of {PACKETS} packets were fulfilled", 10 < fulfilled < PACKETS)
-    expect("the answers", answers, [response(200, FULFILL)] * fulfilled + [response(200, T00)] * (PACKETS - fulfilled))
-    expect_that("the log has more octets than it may have", kept.beside("log").stat().st_size <= LITTLE)
-    program.limit_files(ENOUGH)
-    expect_unkept(kept, program)
-    close(program, alice=-fulfilled, bob=fulfilled + 1000)
-    expect("the entries", kept.entries(), 2 * fulfilled + 1)
-    close(kept.serve(), alice=-fulfilled, bob=fulfilled + 1000)
 
 
 # ---- a copy

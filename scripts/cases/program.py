@@ -134,14 +134,15 @@ class Program:
     """`connector serve` over a configuration, or with another argument that is given. Its two streams
     go to files, or to other descriptors that are given. It can start so many threads where that is
     given. A journal is kept where one is given, and another user runs it where his number is. No file of
-    it may be larger than that, until `limit_files` says otherwise, and streams are closed, where these are
-    given."""
+    it may be larger than that, until `limit_files` says otherwise, streams are closed, and its environment
+    has more, where these are given."""
 
     def __init__(self, binary: Path, folder: Path, setup: Setup, descriptors: int = DESCRIPTORS,
                  errors: int | None = None, argument: str | None = None,
                  output: int | None = None, threads: int | None = None,
                  journal: Path | str | None = None, user: int | None = None,
-                 largest_file: int | None = None, closed: tuple[int, ...] = ()) -> None:
+                 largest_file: int | None = None, closed: tuple[int, ...] = (),
+                 environment: dict[str, str] | None = None) -> None:
         self.setup = setup
         self.folder = folder
         self.binary = binary
@@ -166,7 +167,7 @@ class Program:
             self.child = subprocess.Popen(
                 words, stdin=subprocess.DEVNULL, stdout=printed if output is None else output,
                 stderr=told if errors is None else errors, preexec_fn=limit, user=user,
-                env={**os.environ, "TZ": ZONE})
+                env={**os.environ, "TZ": ZONE, **(environment or {})})
 
     def output(self) -> str:
         """Standard output so far."""

@@ -1,0 +1,68 @@
+/* Preloaded before a program, it stands before the calls that write to files and have the disk keep them. Each call
+ * that has the disk keep one is told as a line in the file that DISK_TOLD names. Where a file lies at the path that
+ * one of these names, there is
+ *
+ *     DISK_BUSY    no end of such a call, until that is gone
+ *     DISK_BROKEN  none that succeeds (EIO)
+ *     DISK_FULL    room for half of what is written to a plain file, and for no single octet (ENOSPC)
+ */
+#include <errno.h>
+#include <fcntl.h>
+#include <stdlib.h>
+#include <string.h>
+#include <sys/stat.h>
+#include <sys/syscall.h>
+#include <unistd.h>
+
+enum { PAUSE_US = 2000 };
+
+static int is_so(const char *name) {
+    const char *path = getenv(name);
+    return path != NULL && access(path, F_OK) == 0;
+}
+
+// ---- what has the disk keep a file
+
+static void tell(const char *line) {
+    const char *path = getenv("DISK_TOLD");
+    int told = path == NULL ? -1 : open(path, O_WRONLY | O_APPEND | O_CREAT | O_CLOEXEC, 0600);
+    if (told < 0)
+        return;
+    (void)!syscall(SYS_write, told, line, strlen(line));
+    close(told);
+}
+
+static int sync_by(long call, const char *line, int file) {
+    tell(line);
+    while (is_so("DISK_BUSY"))
+        usleep(PAUSE_US);
+    if (is_so("DISK_BROKEN")) {
+        errno = EIO;
+        return -1;
+    }
+    return (int)syscall(call, file);
+}
+
+int fsync(int file) {
+    return sync_by(SYS_fsync, "fsync\n", file);
+}
+
+int fdatasync(int file) {
+    return sync_by(SYS_fdatasync, "fdatasync\n", file);
+}
+
+// ---- what writes to one
+
+static int is_on_the_disk(int file) {
+    struct stat found;
+    return file > STDERR_FILENO && fstat(file, &found) == 0 && S_ISREG(found.st_mode);
+}
+
+ssize_t write(int file, const void *octets, size_t count) {
+    size_t taken = is_so("DISK_FULL") && is_on_the_disk(file) ? count / 2 : count;
+    if (taken == 0 && count > 0) {
+        errno = ENOSPC;
+        return -1;
+    }
+    return syscall(SYS_write, file, octets, taken);
+}
