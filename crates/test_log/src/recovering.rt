@@ -62,7 +62,7 @@ fn recover_each(
 ) -> Option<()> {
     let alloc = config.allocator();
     let mut last = Vec::new(alloc);
-    for number in (0..MOST_IMAGES).step_by(step) {
+    for number in (0..MOST_IMAGES).step_by(step.max(1)) {
         let Some(image) = device.image(number).ok()? else {
             return Some(());
         };
