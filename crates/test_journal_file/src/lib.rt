@@ -14,20 +14,10 @@
 //! - A log that somebody removes or cuts, or that would become too large, takes no more lines.
 //! - A log that has failed is made anew: it is at each moment the old one or the new one, as a whole, and the
 //!   new one once that was told. Where that failed it can be done again.
-//! - The same of a book that a run begins with, prints and saves (`ilp_starting::BookFile`); it is saved also
-//!   where nothing can be printed. From whatever a stop leaves, a later run goes on with just the entries
-//!   that were booked.
-//! - A book goes on from a log behind its journal, or behind none. A log that the journal has is passed over,
-//!   and one of another text is refused, with nothing changed.
-//! - A run that gave no book back leaves its log, but for one that could not listen.
 #![tactic(auto)]
 
 #[cfg(test)]
-mod books;
-#[cfg(test)]
 mod disk;
-#[cfg(test)]
-mod left;
 #[cfg(test)]
 mod looks;
 #[cfg(test)]
