@@ -67,8 +67,7 @@ where
         let hurry = Hurry::new();
         let clock = SystemClock::new(*self.rt);
         let links = TcpLinks::new(*self.rt, self.config, clock, self.notices, &hurry);
-        let ClosedRun { book, log: _ } =
-            run_to_close(self.rt, self.config, book, &links, log)?;
+        let ClosedRun { book, log: _ } = run_to_close(self.rt, self.config, book, &links, log)?;
         Ok(book)
     }
 }

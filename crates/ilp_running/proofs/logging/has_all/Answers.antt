@@ -1,5 +1,5 @@
-use Rattle.std.proofs.Common.{◌≡◌, ◌≤◌, ◌∙◌, ℕ, List, ap, sym, subst}
-use Rattle.std.specs.Prelude.{Option, Some, IfSome}
+use Rattle.std.proofs.Common.{◌≡◌, ◌≤◌, ◌∙◌, ap, sym, subst}
+use Rattle.std.specs.Prelude.{Some, IfSome}
 use Rattle.ilp_book.specs.Book.{PlainBook}
 use Rattle.ilp_line_file.specs.Text.{IsBetween}
 use Rattle.ilp_log.specs.declared.ack.Ack.{Ack}
@@ -24,11 +24,11 @@ returns-clause-logged g c claims is =
     let book2 : c.find.new.book.entries ≡ entries = ap (λ (b : PlainBook). b.entries) c.find.ensures.book ∙ book in
     let logged : IsLogged D.seen D.may_leave D.left_since form first.moment entries device =
     is_logged D.seen D.may_leave D.moment D.left_since form entries device first last
-        (subst (λ o. IfSome o (λ (first : Ack). first.lines ≡ form.head)) c.in-Some.is (c.requires claims))
-        (λ crash left. subst (λ es. IsBetween first.lines (lines_of form es) crash) book (c.find.ensures.each claims crash left))
-        (c.in-Ok.ensures.kept claims)
-        (λ crash left. subst (λ es. IsBetween last.lines (lines_of form es) crash) book2
-            (c.find-2.ensures.each claims crash (subst (λ d. D.left_since d last.moment crash) (sym then_) left)))
-        (λ crash left. g.met.D.Device.counts_now claims device last.moment crash (subst (λ d. last.moment ≤ D.moment d) then_ (c.find-2.ensures.earlier claims)) left) in
+    (subst (λ o. IfSome o (λ (first : Ack). first.lines ≡ form.head)) c.in-Some.is (c.requires claims))
+    (λ crash left. subst (λ es. IsBetween first.lines (lines_of form es) crash) book (c.find.ensures.each claims crash left))
+    (c.in-Ok.ensures.kept claims)
+    (λ crash left. subst (λ es. IsBetween last.lines (lines_of form es) crash) book2
+    (c.find-2.ensures.each claims crash (subst (λ d. D.left_since d last.moment crash) (sym then_) left)))
+    (λ crash left. g.met.D.Device.counts_now claims device last.moment crash (subst (λ d. last.moment ≤ D.moment d) then_ (c.find-2.ensures.earlier claims)) left) in
     subst (λ o. EndsLog D.seen D.may_leave D.left_since form (told_at o) entries (Some c.find-2.new.self.device)) (sym c.in-Some.is)
-        (subst (λ d. IsLogged D.seen D.may_leave D.left_since form first.moment entries d) (sym (later ∙ then_)) logged)
+    (subst (λ d. IsLogged D.seen D.may_leave D.left_since form first.moment entries d) (sym (later ∙ then_)) logged)
