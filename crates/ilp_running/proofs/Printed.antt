@@ -1,5 +1,5 @@
 -- A desk that was closed, and the report of whose book was not printed whole.
-use Rattle.std.specs.Prelude.{ℕ, List, Option, Result, Ok, Err, refl}
+use Rattle.std.specs.Prelude.{ℕ, List, Option, Err, refl}
 use Rattle.ilp_book.specs.Book.{PlainBook}
 use Rattle.ilp_desk.specs.Desk.{PlainDesk}
 use Rattle.ilp_running.specs.declared.fault.ServeFault.{ServeFault}
