@@ -5,11 +5,12 @@ ghost use Rattle.std.specs.Prelude.{◌≡◌};
 use ilp_accounts::Config;
 use ilp_book::Book;
 use ilp_io::Recording;
-use ilp_journal_file::JournalFile;
+use ilp_journal_file::{JournalFile, LogDevice};
+use ilp_line_file::LineFile;
 use ilp_running::ServeFault;
 use ilp_starting::{Begun, BookFile, Refused, RunFault};
 use std::alloc::Alloc;
-use test_disk::{Handle, JOURNAL, Log, Machine, append};
+use test_disk::{Handle, JOURNAL, Machine};
 
 // An entry of a run.
 const CREDIT: &[u8] = b"0 1 credited bob 6b 5 2 5\n";
@@ -56,10 +57,10 @@ pub(crate) fn run<'d>(machine: &'d Machine<'d>, config: &'d Config, does: Does) 
 }
 
 // What a run does with the book and the log that it begins with.
-fn go_on(
+fn go_on<'r, 'd: 'r>(
     file: &BookFile<'_, Machine<'_>, Handle<'_>>,
     book: &Book,
-    log: &mut Log<'_>,
+    log: &mut LineFile<LogDevice<'r, Machine<'d>, Handle<'d>>>,
     does: Does,
 ) -> Came
     requires { book.now.config ≡ file.now.config.now }
@@ -70,7 +71,10 @@ fn go_on(
             let _ = file.leave_unsaved(fault);
         }
         Does::Stops => {
-            let _ = append(log, CREDIT);
+            // A log is never so long that this has no room behind it.
+            if log.end < usize::MAX - CREDIT.len() {
+                let _ = log.append(CREDIT);
+            }
         }
     }
     Came::Begun
