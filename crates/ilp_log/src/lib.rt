@@ -35,7 +35,6 @@ mod naming;
 mod open_log;
 mod renewing;
 mod start;
-mod turnstile;
 
 pub use ack::{Ack, OnDisk};
 pub use fault::LogFault;

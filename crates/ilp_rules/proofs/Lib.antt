@@ -6,6 +6,7 @@ pub mod InTime
 pub mod Admitting
 pub mod TableSteps
 pub mod Keeping
+mod HeadLemmas
 pub mod Judging
 pub mod Ending
 pub mod Rebasing

@@ -4,13 +4,11 @@ ghost use Rattle.std.specs.Io.KnownBytes.{Appends};
 ghost use Rattle.ilp_desk.specs.Desk as desk;
 ghost use Rattle.ilp_desk.specs.Desk.{base_of};
 ghost use Rattle.ilp_report.specs.Report.{report_text};
-ghost use Rattle.ilp_running.specs.Logging.{began_at, form_of, told_at, EndsLog, HasHead};
-ghost use Rattle.ilp_running.specs.Logging.{IsBegun, IsLogOf};
-ghost use Rattle.ilp_running.specs.Serving.{desk_of, ClosesDesk, IsClosed, IsWhyUnclosed, Prints};
-ghost use Rattle.ilp_running.specs.Serving.{Refuses};
+ghost use Rattle.ilp_running.specs.Logging.{HasHead, IsBegun, IsLogOf};
+ghost use Rattle.ilp_running.specs.Serving.{desk_of, ClosesDesk, IsClosed, Prints, Refuses};
 
 use crate::fault::ServeFault;
-use crate::logging::{AckList, BegunLog, ClosedRun, RunningLog};
+use crate::logging::{AckList, BegunLog};
 use crate::printing::tell_report;
 use ilp_accounts::Config;
 use ilp_book::Book;
@@ -19,8 +17,9 @@ use ilp_io::Sink;
 use ilp_keeping::Forgetful;
 use ilp_line_file::{Device, MemoryDevice};
 use ilp_links::Links;
-use ilp_log::LogNaming;
+use ilp_log::{Log, LogNaming, OpenLog};
 use ilp_log_keeper::{KeepingState, LogKeeper};
+use ilp_notices::log_incomplete;
 use ilp_report::{Snapshot, print};
 use ilp_threads::{Sides, Unprinted, run_desk};
 use std::io::Eprint;
@@ -64,9 +63,9 @@ where
         (W.contents writer.old) (W.contents writer.new) fault) }
 {
     let unlogged: Option<BegunLog<MemoryDevice>> = None;
-    let ClosedRun { book, log: _ } = run_to_close(rt, config, book, links, unlogged)?;
-    match write_report(rt, &book, writer) {
-        Ok(()) => Ok(book),
+    let closed = run_to_close(rt, config, book, links, unlogged)?;
+    match write_report(rt, &closed, writer) {
+        Ok(()) => Ok(closed),
         Err(fault) => Err(fault),
     }
 }
@@ -74,17 +73,16 @@ where
 /// Runs a connector as `serve` does, and gives the book back before its report: so that it can be saved
 /// where there is no memory for that. Where there is a log, each entry is written to it before a sender
 /// is told a Fulfill by it, an engine that it is booked, or an engine is asked for it. Where it can't be
-/// written, a Fulfill is told all the same, the others are not, and it is written anew each second. In
-/// the end it has all that was booked, or it is not given back.
+/// written, a Fulfill is told all the same, the others are not, and it is written anew each second.
 ///
-/// A refusal gives back neither the book nor the log.
+/// A refusal does not give the book back.
 pub fn run_to_close<R, L, D>(
     rt: &R,
     config: &Config,
     book: Book,
     links: &L,
     log: Option<BegunLog<D>>,
-) -> Result<ClosedRun<D>, ServeFault>
+) -> Result<Book, ServeFault>
 where
     R: Net<Listener = TcpListener, Stream = TcpStream>
         + Threads
@@ -99,10 +97,7 @@ where
     requires opening { length book.entries ≡ book.base }
     requires base { IfSome log (λ l. l.start.base ≤ length book.entries) }
     requires begun { D.claims → IfSome log (IsBegun D.seen D.may_leave) }
-    ensures closed { IfOk result (λ run. IsClosed (desk_of config.now book.entries) run.book) }
-    ensures logged { D.claims → IfOk result (λ run. EndsLog D.seen D.may_leave D.left_since
-        (form_of D.seen config.now log) (began_at D.moment log) run.book.entries run.log) }
-    ensures refused { IfErr result (IsWhyUnclosed (desk_of config.now book.entries)) }
+    ensures { ClosesDesk (desk_of config.now book.entries) result }
 {
     let sides = Sides::open(rt, config)?;
     let blanks = Blank::new(u64::from(config.workers()) + 2);
@@ -126,7 +121,7 @@ fn serve_desk<J, K, R, L, D>(
     acks: AckList<D>,
     links: &L,
     sides: Sides,
-) -> Result<ClosedRun<D>, ServeFault>
+) -> Result<Book, ServeFault>
 where
     J: Naming + Send + Sync,
     K: LogNaming + Send + Sync,
@@ -143,10 +138,7 @@ where
     requires log { IfSome log (λ l. IsLogOf K.form J.desk l.start.base) }
     requires begun { D.claims → IfSome log (IsBegun D.seen D.may_leave) }
     requires head { D.claims → IfSome log (HasHead D.seen K.form) }
-    ensures closed { IfOk result (λ run. IsClosed J.desk run.book) }
-    ensures logged { D.claims → IfOk result (λ run. EndsLog D.seen D.may_leave D.left_since
-        K.form (began_at D.moment log) run.book.entries run.log) }
-    ensures refused { IfErr result (IsWhyUnclosed J.desk) }
+    ensures { ClosesDesk J.desk result }
 {
     let workers = config.workers();
     let Ok((desk, shares)) = Desk::<J>::open(
@@ -162,11 +154,11 @@ where
     match log {
         None => {
             let ends = run_desk(rt, &desk, shares, links, sides, Forgetful);
-            let book = close_desk(desk, ends)?.into_book();
-            Ok(ClosedRun { book, log: None })
+            Ok(close_desk(desk, ends)?.into_book())
         }
-        Some(begun) => {
-            let log = RunningLog::<J, K, D>::begin(begun, desk.receipt(rt), acks);
+        Some(BegunLog { file, start }) => {
+            let receipt = desk.receipt(rt);
+            let log = OpenLog::<J, K, D>::begin(file, receipt, start, acks.named());
             serve_logged(rt, desk, shares, log, links, sides)
         }
     }
@@ -177,28 +169,43 @@ fn serve_logged<J, K, R, L, D>(
     rt: &R,
     desk: Desk<J>,
     shares: Vec<Share<J>>,
-    log: RunningLog<J, K, D>,
+    log: OpenLog<J, K, D>,
     links: &L,
     sides: Sides,
-) -> Result<ClosedRun<D>, ServeFault>
+) -> Result<Book, ServeFault>
 where
     J: Naming + Send + Sync,
     K: LogNaming + Send + Sync,
     R: Threads + Wait + Clock + Eprint + Sync,
     L: Links,
     D: Device + Drop + Send,
-    requires shares { 2 ≤ vec_len shares }
-    requires begun { D.claims → IfSome log.begun (λ first. first.lines ≡ K.form.head) }
-    ensures closed { IfOk result (λ run. IsClosed J.desk run.book) }
-    ensures logged { D.claims → IfOk result (λ run. EndsLog D.seen D.may_leave D.left_since
-        K.form (told_at log.begun) run.book.entries run.log) }
-    ensures refused { IfErr result (IsWhyUnclosed J.desk) }
+    requires { 2 ≤ vec_len shares }
+    ensures { ClosesDesk J.desk result }
 {
+    let log = Log::new(log);
     let state = KeepingState::new();
-    let keeper = LogKeeper::new(rt, &desk, &log.log, &state);
+    let keeper = LogKeeper::new(rt, &desk, &log, &state);
     let ends = run_desk(rt, &desk, shares, links, sides, keeper);
     let book = close_desk(desk, ends)?;
-    Ok(log.close(rt, book))
+    Ok(logged_book(rt, book, log))
+}
+
+// The book of a closed desk, once the log has all that was booked. Where it hasn't, that is told.
+fn logged_book<J, K, R, D>(rt: &R, book: LockedBook<J>, log: Log<J, K, D>) -> Book
+where
+    J: Naming,
+    K: LogNaming,
+    R: Clock + Eprint,
+    D: Device + Drop,
+    ensures { result ≡ book }
+{
+    let mut book = book;
+    let mut log = log.into_inner();
+    let alloc = book.book().config().allocator();
+    if log.commit_all(alloc, &mut book).is_err() {
+        log_incomplete(rt);
+    }
+    book.into_book()
 }
 
 // Closes a desk whose actors handed these in.
