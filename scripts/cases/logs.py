@@ -418,11 +418,13 @@ def packets_until(program: Program, stop: threading.Event, answered: list[bytes]
 
 
 def copy_of(laboratory: Laboratory, kept: Kept) -> Kept:
-    """A copy of the journal and then of its log, for a connector at other ports."""
+    """A copy of the journal and then of its log, with what is remembered of their run, for a connector at other
+    ports."""
     listen, engine_listen = (f"{HERE}:{free_port()}" for _ in range(2))
     copy = Kept(laboratory, replace(kept.setup, listen=listen, engine_listen=engine_listen))
     shutil.copy(kept.path, copy.path)
-    shutil.copy(kept.beside("log"), copy.beside("log"))
+    for kind in ("log", "lock"):
+        shutil.copy(kept.beside(kind), copy.beside(kind))
     return copy
 
 
@@ -471,3 +473,17 @@ def copy_of_a_running_journal(laboratory: Laboratory) -> None:
     for before, copy in copies:
         lines = expect_goes_on(copy, before)
         expect("the entries of a copy", lines, entries[:len(lines)])
+
+
+@case
+def standby_takes_over(laboratory: Laboratory) -> None:
+    """Another connector goes on from a folder that has what the first's has as it is killed: an engine that tells a
+    credit again is answered as before, and it is made once. A folder of an earlier moment lacks what was told since."""
+    kept = Kept(laboratory)
+    saved(kept, "k0")
+    program = credited(kept, "k1")
+    early = copy_of(laboratory, kept)
+    expect("a credit", credit(program, 7, key="k2"), created(quantity(7, 2)))
+    program.kill()
+    close(credited(copy_of(laboratory, kept), "k2"), bob=21)
+    close(early.serve(), bob=14)

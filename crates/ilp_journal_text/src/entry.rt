@@ -1,8 +1,8 @@
 //! The line of an entry.
-ghost use Rattle.std.specs.Prelude.{◌≡◌, ◌+◌, ◌≤◌, ◌++◌, length};
+ghost use Rattle.std.specs.Prelude.{◌≡◌, ◌≤◌, ◌++◌, length};
 ghost use Rattle.std.specs.List.{flat_map};
 ghost use Rattle.ilp_journal_text.specs.Reading.{CauseStands, CreditIsTyped, HasNoNul, HoldIsTyped, IsLine, IsTyped, WhatIsTyped};
-ghost use Rattle.ilp_journal_text.specs.Text.{after_space, name_at, cause_fields, credited_fields, what_fields, entry_line};
+ghost use Rattle.ilp_journal_text.specs.Text.{after_space, name_at, cause_fields, what_fields, entry_line};
 
 use crate::line::Line;
 use ilp_accounts::Config;
@@ -10,9 +10,6 @@ use ilp_journal::{Cause, Credited, Entry, Hold, What};
 
 // The most octets that stand before what an entry's line tells.
 const LONGEST_FRONT: usize = 81;
-
-// The most octets of the word for what happened, with the space before it.
-const LONGEST_WORD: usize = 10;
 
 /// The line of an entry, as it stands in the text of a journal, with the peers' names in the
 /// configuration. A peer that isn't there has no name. Its only line feed is its end, and no octet of it
@@ -53,10 +50,7 @@ fn put_what(line: &mut Line, config: &Config, what: &What)
             line.number(u64::from(*hold));
             put_cause(line, *cause);
         }
-        What::Credited(credited) => {
-            line.word("credited");
-            put_credit(line, config, credited);
-        }
+        What::Credited(credited) => put_credited(line, config, credited),
         What::Asked(ask) => {
             line.word("asked");
             line.word(name_of(config, ask.peer));
@@ -69,21 +63,6 @@ fn put_what(line: &mut Line, config: &Config, what: &What)
         What::Undone { ask } => {
             line.word("undone");
             line.number(u64::from(*ask));
-        }
-        What::Opened { peer, balance } => {
-            line.word("opened");
-            line.word(name_of(config, *peer));
-            line.moment(*balance);
-        }
-        What::Known(credited) => {
-            line.word("known");
-            put_credit(line, config, credited);
-        }
-        What::Pending { peer, amount, key } => {
-            line.word("pending");
-            line.word(name_of(config, *peer));
-            line.number(*amount);
-            line.hexadecimal(key.as_slice());
         }
     }
 }
@@ -106,14 +85,15 @@ fn put_hold(line: &mut Line, config: &Config, hold: &Hold)
     line.hexadecimal(&hold.condition);
 }
 
-// Adds what a credit tells.
-fn put_credit(line: &mut Line, config: &Config, credited: &Credited)
-    requires front { length line.old ≤ LONGEST_FRONT + LONGEST_WORD }
+// Adds a credit.
+fn put_credited(line: &mut Line, config: &Config, credited: &Credited)
+    requires front { length line.old ≤ LONGEST_FRONT }
     ensures octets { line.new ≡ line.old
-        ++ flat_map after_space (credited_fields config.now credited.now) }
+        ++ flat_map after_space (what_fields config.now (What.Credited credited.now)) }
     ensures short { length line.new ≤ 511 }
     ensures typed { CreditIsTyped credited.now }
 {
+    line.word("credited");
     line.word(name_of(config, credited.peer));
     line.hexadecimal(credited.key.as_slice());
     line.wide_number(credited.named);

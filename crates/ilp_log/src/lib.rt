@@ -35,6 +35,7 @@ mod naming;
 mod open_log;
 mod renewing;
 mod start;
+mod turnstile;
 
 pub use ack::{Ack, OnDisk};
 pub use fault::LogFault;

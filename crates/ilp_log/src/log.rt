@@ -7,6 +7,7 @@ use crate::fault::LogFault;
 use crate::kept::Kept;
 use crate::naming::LogNaming;
 use crate::open_log::OpenLog;
+use crate::turnstile::Turnstile;
 use ilp_desk::{Desk, JournalReceipt, Naming};
 use ilp_line_file::Device;
 use std::alloc::Global;
@@ -17,6 +18,7 @@ use std::sync::{Mutex, Wait};
 #[derive(Drop)]
 pub struct Log<J: Naming, K: LogNaming, D: Device + Drop> {
     locked: Mutex<OpenLog<J, K, D>>,
+    turnstile: Turnstile,
 }
 
 impl<J: Naming, K: LogNaming, D: Device + Drop> Log<J, K, D> {
@@ -24,12 +26,31 @@ impl<J: Naming, K: LogNaming, D: Device + Drop> Log<J, K, D> {
     pub fn new(log: OpenLog<J, K, D>) -> Log<J, K, D> {
         Log {
             locked: Mutex::new(log),
+            turnstile: Turnstile::new(),
         }
     }
 
-    /// `OpenLog::commit`, by one thread after the other: who waits here mostly finds that its entries
-    /// were written by one before it.
+    /// `OpenLog::commit`, by one thread after the other: of those who come while one syncs, the first
+    /// syncs for all.
     pub fn commit(
+        &self,
+        rt: &impl Wait,
+        alloc: Global,
+        desk: &Desk<J>,
+        receipt: &mut JournalReceipt<J>,
+    ) -> Result<Kept<D, K>, LogFault>
+        ensures seen { IsPrefix receipt.old receipt.new }
+        ensures kept { D.claims → IfOk result
+            (λ kept. IsPrefix (lines_of K.form receipt.old) kept.lines) }
+    {
+        self.turnstile.enter(rt);
+        let told = self.commit_in_turn(rt, alloc, desk, receipt);
+        self.turnstile.leave(rt);
+        told
+    }
+
+    // The same, of a thread whose turn it is.
+    fn commit_in_turn(
         &self,
         rt: &impl Wait,
         alloc: Global,
@@ -62,7 +83,10 @@ impl<J: Naming, K: LogNaming, D: Device + Drop> Log<J, K, D> {
 
     /// The log, once nobody else has it.
     pub fn into_inner(self) -> OpenLog<J, K, D> {
-        let Log { locked } = self;
+        let Log {
+            locked,
+            turnstile: _,
+        } = self;
         locked.into_inner()
     }
 }

@@ -20,7 +20,6 @@ use Rattle.ilp_journal.proofs.BooksGrowth.{total_in-push, total_out-push, total_
 use Rattle.ilp_rules.specs.Configured.{IsKnown, peer_assets}
 use Rattle.ilp_terms.specs.Expiry.{last_of_all}
 use Rattle.ilp_rules.specs.Book.{PlainBook, with_entries, with_base, pushed}
-use Rattle.ilp_rules.specs.Heads.{StandsInHead}
 use Rattle.ilp_rules.specs.Lawful.{IsLawful, IsWithinLimits, KeepsRule, KeepsRuleOf, IsInTime}
 use Rattle.ilp_rules.proofs.Known.{peer_valid}
 use Rattle.ilp_rules.proofs.Rules.{rule_answers, rule_closes, answers_once, closes_once}
@@ -48,8 +47,8 @@ limits_after book e lawful new =
     let j = book.entries in
     let answers = answers_once book lawful in
     let closings = closes_once book lawful in
-    let answer = rule_answers C book.period book.base j e new.rule in
-    let closing = rule_closes C book.period book.base j e new.rule in
+    let answer = rule_answers C book.base j e new.rule in
+    let closing = rule_closes C book.base j e new.rule in
     record {
       least = λ p known. covered (peer_at C p).least (balance j p) (balance (j ++ e ∷ []) p) (rise j p e.what) (fall p e.what)
           (balance-push j e p answers closings answer closing) (new.cover p known);
@@ -126,10 +125,7 @@ lawful_raised book raised later lawful = record {
       (λ before e within. limits_raised (pushed (with_entries book before) e) raised later within) lawful.limits;
 }
   where
-    in_head : (before : Entries) (w : What) → StandsInHead book.config book.period book.base before w → StandsInHead book.config book.period raised before w
-    in_head before w stands = record { later = stands.later; front = stands.front; begun = omega (arith, stands.begun, later); rule = stands.rule; keys = stands.keys }
-
-    kept : (before : Entries) (m : ℤ) (w : What) → KeepsRule book.config book.period book.base before m w → KeepsRule book.config book.period raised before m w
+    kept : (before : Entries) (m : ℤ) (w : What) → KeepsRule book.config book.base before m w → KeepsRule book.config raised before m w
     kept before m (what.Hold h) rule = rule
     kept before m (what.Fulfilled hold preimage) rule = rule
     kept before m (what.Released hold cause) rule = (rule.0, λ (is : cause ≡ Restart). omega (arith, rule.1 is, later))
@@ -137,6 +133,3 @@ lawful_raised book raised later lawful = record {
     kept before m (what.Asked a) rule = rule
     kept before m (what.Confirmed ask) rule = rule
     kept before m (what.Undone ask) rule = rule
-    kept before m (what.Opened peer b) rule = in_head before (what.Opened peer b) rule
-    kept before m (what.Known c) rule = in_head before (what.Known c) rule
-    kept before m (what.Pending peer amount key) rule = in_head before (what.Pending peer amount key) rule

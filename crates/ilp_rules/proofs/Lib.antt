@@ -6,7 +6,6 @@ pub mod InTime
 pub mod Admitting
 pub mod TableSteps
 pub mod Keeping
-mod HeadLemmas
 pub mod Judging
 pub mod Ending
 pub mod Rebasing

@@ -49,12 +49,16 @@ pub record IsNotGathered (desk : PlainDesk) (reason : WhyNotGathered) : Type 0 w
   pub lawful : IsBookOf desk book
   pub why : IsWhyNotGathered desk book ends reason
 
--- The desk was closed; or its ends were not gathered; or there were none.
+-- Why a desk is not closed: its ends were not gathered; or there were none.
+abbrev pub IsWhyUnclosed : PlainDesk → ServeFault → Type 0
+IsWhyUnclosed desk Write = ⊥
+IsWhyUnclosed desk (NotGathered reason) = IsNotGathered desk reason
+IsWhyUnclosed desk (Unprinted reason) = ⊤
+
+-- The desk was closed, or why it was not.
 abbrev pub ClosesDesk : PlainDesk → Result PlainBook ServeFault → Type 0
 ClosesDesk desk (Ok book) = IsClosed desk book
-ClosesDesk desk (Err Write) = ⊥
-ClosesDesk desk (Err (NotGathered reason)) = IsNotGathered desk reason
-ClosesDesk desk (Err (Unprinted reason)) = ⊤
+ClosesDesk desk (Err fault) = IsWhyUnclosed desk fault
 
 -- The report of the book was printed; or a write of it failed; or nothing was printed.
 abbrev pub Prints : PlainBook → Option (List ℕ) → Option (List ℕ) → Result (Unit {0}) ServeFault → Type 0

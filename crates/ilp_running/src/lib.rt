@@ -13,6 +13,12 @@
 //! - After a failed write a proper front of such a report was written; after any other refusal
 //!   nothing (`refused`). `NotGathered` comes only where ends are not gathered with a book of the
 //!   desk, for that reason. `ServeFault::refusal` is the table of what each fault is printed as.
+//! - `run_to_close` does as `serve` without the report, beside a log where one is given. Where its
+//!   device claims what a device does (`specs/Logging.antt`, `EndsLog`), a log that is given back has
+//!   the lines of all entries of the closed book and no other, and has them behind a crash too. A crash
+//!   at any moment of the run left its head and the lines of the first so many of these entries. No
+//!   clause says when it is given back, nor that the threads that ran had its keeper
+//!   (`ilp_log_keeper`).
 //! - `serve` says nothing of what was served (README.md, "what is only tested and what is
 //!   neither").
 #![tactic(auto)]
@@ -24,5 +30,5 @@ mod serving;
 
 pub use fault::ServeFault;
 pub use ilp_threads::Unprinted;
-pub use logging::BegunLog;
+pub use logging::{BegunLog, ClosedRun};
 pub use serving::{run_to_close, serve, write_report};

@@ -4,11 +4,13 @@ ghost use Rattle.std.specs.Io.KnownBytes.{Appends};
 ghost use Rattle.ilp_desk.specs.Desk as desk;
 ghost use Rattle.ilp_desk.specs.Desk.{base_of};
 ghost use Rattle.ilp_report.specs.Report.{report_text};
-ghost use Rattle.ilp_running.specs.Logging.{HasHead, IsBegun, IsLogOf};
-ghost use Rattle.ilp_running.specs.Serving.{desk_of, ClosesDesk, IsClosed, Prints, Refuses};
+ghost use Rattle.ilp_running.specs.Logging.{began_at, form_of, told_at, EndsLog, HasHead};
+ghost use Rattle.ilp_running.specs.Logging.{IsBegun, IsLogOf};
+ghost use Rattle.ilp_running.specs.Serving.{desk_of, ClosesDesk, IsClosed, IsWhyUnclosed, Prints};
+ghost use Rattle.ilp_running.specs.Serving.{Refuses};
 
 use crate::fault::ServeFault;
-use crate::logging::{AckList, BegunLog};
+use crate::logging::{AckList, BegunLog, ClosedRun, RunningLog};
 use crate::printing::tell_report;
 use ilp_accounts::Config;
 use ilp_book::Book;
@@ -17,9 +19,8 @@ use ilp_io::Sink;
 use ilp_keeping::Forgetful;
 use ilp_line_file::{Device, MemoryDevice};
 use ilp_links::Links;
-use ilp_log::{Log, LogNaming, OpenLog};
+use ilp_log::LogNaming;
 use ilp_log_keeper::{KeepingState, LogKeeper};
-use ilp_notices::log_incomplete;
 use ilp_report::{Snapshot, print};
 use ilp_threads::{Sides, Unprinted, run_desk};
 use std::io::Eprint;
@@ -63,9 +64,9 @@ where
         (W.contents writer.old) (W.contents writer.new) fault) }
 {
     let unlogged: Option<BegunLog<MemoryDevice>> = None;
-    let closed = run_to_close(rt, config, book, links, unlogged)?;
-    match write_report(rt, &closed, writer) {
-        Ok(()) => Ok(closed),
+    let ClosedRun { book, log: _ } = run_to_close(rt, config, book, links, unlogged)?;
+    match write_report(rt, &book, writer) {
+        Ok(()) => Ok(book),
         Err(fault) => Err(fault),
     }
 }
@@ -73,16 +74,17 @@ where
 /// Runs a connector as `serve` does, and gives the book back before its report: so that it can be saved
 /// where there is no memory for that. Where there is a log, each entry is written to it before a sender
 /// is told a Fulfill by it, an engine that it is booked, or an engine is asked for it. Where it can't be
-/// written, a Fulfill is told all the same, the others are not, and it is written anew each second.
+/// written, a Fulfill is told all the same, the others are not, and it is written anew each second. In
+/// the end it has all that was booked, or it is not given back.
 ///
-/// A refusal does not give the book back.
+/// A refusal gives back neither the book nor the log.
 pub fn run_to_close<R, L, D>(
     rt: &R,
     config: &Config,
     book: Book,
     links: &L,
     log: Option<BegunLog<D>>,
-) -> Result<Book, ServeFault>
+) -> Result<ClosedRun<D>, ServeFault>
 where
     R: Net<Listener = TcpListener, Stream = TcpStream>
         + Threads
@@ -97,7 +99,10 @@ where
     requires opening { length book.entries ≡ book.base }
     requires base { IfSome log (λ l. l.start.base ≤ length book.entries) }
     requires begun { D.claims → IfSome log (IsBegun D.seen D.may_leave) }
-    ensures { ClosesDesk (desk_of config.now book.entries) result }
+    ensures closed { IfOk result (λ run. IsClosed (desk_of config.now book.entries) run.book) }
+    ensures logged { D.claims → IfOk result (λ run. EndsLog D.seen D.may_leave D.left_since
+        (form_of D.seen config.now log) (began_at D.moment log) run.book.entries run.log) }
+    ensures refused { IfErr result (IsWhyUnclosed (desk_of config.now book.entries)) }
 {
     let sides = Sides::open(rt, config)?;
     let blanks = Blank::new(u64::from(config.workers()) + 2);
@@ -121,7 +126,7 @@ fn serve_desk<J, K, R, L, D>(
     acks: AckList<D>,
     links: &L,
     sides: Sides,
-) -> Result<Book, ServeFault>
+) -> Result<ClosedRun<D>, ServeFault>
 where
     J: Naming + Send + Sync,
     K: LogNaming + Send + Sync,
@@ -138,7 +143,10 @@ where
     requires log { IfSome log (λ l. IsLogOf K.form J.desk l.start.base) }
     requires begun { D.claims → IfSome log (IsBegun D.seen D.may_leave) }
     requires head { D.claims → IfSome log (HasHead D.seen K.form) }
-    ensures { ClosesDesk J.desk result }
+    ensures closed { IfOk result (λ run. IsClosed J.desk run.book) }
+    ensures logged { D.claims → IfOk result (λ run. EndsLog D.seen D.may_leave D.left_since
+        K.form (began_at D.moment log) run.book.entries run.log) }
+    ensures refused { IfErr result (IsWhyUnclosed J.desk) }
 {
     let workers = config.workers();
     let Ok((desk, shares)) = Desk::<J>::open(
@@ -154,11 +162,11 @@ where
     match log {
         None => {
             let ends = run_desk(rt, &desk, shares, links, sides, Forgetful);
-            Ok(close_desk(desk, ends)?.into_book())
+            let book = close_desk(desk, ends)?.into_book();
+            Ok(ClosedRun { book, log: None })
         }
-        Some(BegunLog { file, start }) => {
-            let receipt = desk.receipt(rt);
-            let log = OpenLog::<J, K, D>::begin(file, receipt, start, acks.named());
+        Some(begun) => {
+            let log = RunningLog::<J, K, D>::begin(begun, desk.receipt(rt), acks);
             serve_logged(rt, desk, shares, log, links, sides)
         }
     }
@@ -169,43 +177,28 @@ fn serve_logged<J, K, R, L, D>(
     rt: &R,
     desk: Desk<J>,
     shares: Vec<Share<J>>,
-    log: OpenLog<J, K, D>,
+    log: RunningLog<J, K, D>,
     links: &L,
     sides: Sides,
-) -> Result<Book, ServeFault>
+) -> Result<ClosedRun<D>, ServeFault>
 where
     J: Naming + Send + Sync,
     K: LogNaming + Send + Sync,
     R: Threads + Wait + Clock + Eprint + Sync,
     L: Links,
     D: Device + Drop + Send,
-    requires { 2 ≤ vec_len shares }
-    ensures { ClosesDesk J.desk result }
+    requires shares { 2 ≤ vec_len shares }
+    requires begun { D.claims → IfSome log.begun (λ first. first.lines ≡ K.form.head) }
+    ensures closed { IfOk result (λ run. IsClosed J.desk run.book) }
+    ensures logged { D.claims → IfOk result (λ run. EndsLog D.seen D.may_leave D.left_since
+        K.form (told_at log.begun) run.book.entries run.log) }
+    ensures refused { IfErr result (IsWhyUnclosed J.desk) }
 {
-    let log = Log::new(log);
     let state = KeepingState::new();
-    let keeper = LogKeeper::new(rt, &desk, &log, &state);
+    let keeper = LogKeeper::new(rt, &desk, &log.log, &state);
     let ends = run_desk(rt, &desk, shares, links, sides, keeper);
     let book = close_desk(desk, ends)?;
-    Ok(logged_book(rt, book, log))
-}
-
-// The book of a closed desk, once the log has all that was booked. Where it hasn't, that is told.
-fn logged_book<J, K, R, D>(rt: &R, book: LockedBook<J>, log: Log<J, K, D>) -> Book
-where
-    J: Naming,
-    K: LogNaming,
-    R: Clock + Eprint,
-    D: Device + Drop,
-    ensures { result ≡ book }
-{
-    let mut book = book;
-    let mut log = log.into_inner();
-    let alloc = book.book().config().allocator();
-    if log.commit_all(alloc, &mut book).is_err() {
-        log_incomplete(rt);
-    }
-    book.into_book()
+    Ok(log.close(rt, book))
 }
 
 // Closes a desk whose actors handed these in.

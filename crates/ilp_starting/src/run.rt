@@ -12,7 +12,7 @@ use ilp_book::Book;
 use ilp_line_file::{Device, MemoryDevice};
 use ilp_links::{Hurry, SystemClock, TcpLinks};
 use ilp_notices::{Notices, no_journal};
-use ilp_running::{BegunLog, ServeFault, run_to_close};
+use ilp_running::{BegunLog, ClosedRun, ServeFault, run_to_close};
 use std::fs::File;
 use std::net::{Net, TcpListener, TcpStream};
 use std::rt::Files;
@@ -67,6 +67,7 @@ where
         let hurry = Hurry::new();
         let clock = SystemClock::new(*self.rt);
         let links = TcpLinks::new(*self.rt, self.config, clock, self.notices, &hurry);
-        run_to_close(self.rt, self.config, book, &links, log)
+        let ClosedRun { book, log: _ } = run_to_close(self.rt, self.config, book, &links, log)?;
+        Ok(book)
     }
 }

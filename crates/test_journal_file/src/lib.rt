@@ -1,8 +1,5 @@
-//! Tests of a journal's file, over a disk in memory that keeps what is written, synced and renamed, and on
-//! which each call can fail, once or from there on.
-//!
-//! What the disk has after each run is what a machine that stops there finds at its next start: so a disk
-//! that fails from a call on shows each sudden stop.
+//! Tests of a journal's file, over a disk in memory (`test_disk`) on which each call fails, once or from
+//! there on.
 //!
 //! - The journal is at each moment the text of before or that of the run, as a whole.
 //! - The log has at each moment its head and a beginning of what was appended, and all that was told to be
@@ -16,10 +13,6 @@
 //!   new one once that was told. Where that failed it can be done again.
 #![tactic(auto)]
 
-#[cfg(test)]
-mod disk;
-#[cfg(test)]
-mod looks;
 #[cfg(test)]
 mod renewals;
 #[cfg(test)]

@@ -1,14 +1,15 @@
 //! Logs that fail over a disk, and are made anew.
 
-use crate::disk::{Disk, JOURNAL, LOG, LOG_NEW, Machine, NEVER, When};
-use crate::looks::{has, is_there};
-use crate::tests::{HEAD, LINES, Log, MOST_CALLS, WHOLE_LOG, append, begin};
+use crate::tests::{HEAD, LINES, WHOLE_LOG, begin};
 use ilp_journal_file::{FileFault, JournalFile};
 use ilp_line_file::{Device, DeviceFault};
 use std::alloc::Global;
 use std::io;
 use std::process::Abort;
 use std::test::Fail;
+use test_disk::{
+    Disk, JOURNAL, LOG, LOG_NEW, Log, MOST_CALLS, Machine, NEVER, When, append, has, is_there,
+};
 
 // What a log has when it fails.
 const OLD_LOG: &[u8] = b"the head of this run\nan entry\n";

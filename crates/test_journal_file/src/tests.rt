@@ -1,19 +1,17 @@
 //! Runs over a disk.
 
-ghost use Rattle.ilp_line_file.specs.Text.{IsText};
-
-use crate::disk::{
-    Disk, Faults, Handle, JOURNAL, LIMITS, LOCK, LOG, LOG_NEW, Machine, NEVER, NEW, RUNNING, When,
-};
-use crate::looks::{has, is_there, lines_of};
 use ilp_accounts::LogSync;
 use ilp_io::{Sink, WriteFault, put_all};
-use ilp_journal_file::{Content, FileFault, JournalFile, LogDevice, look_at};
+use ilp_journal_file::{Content, FileFault, JournalFile, look_at};
 use ilp_line_file::{DeviceFault, LineFile};
 use std::alloc::Global;
 use std::io;
 use std::process::Abort;
 use std::test::Fail;
+use test_disk::{
+    Disk, Faults, Handle, JOURNAL, LIMITS, LOCK, LOG, LOG_NEW, Log, MOST_CALLS, Machine, NEVER,
+    NEW, RUNNING, When, append, has, is_there, lines_of,
+};
 
 const OLD_TEXT: &[u8] = b"the text that an earlier run has saved";
 
@@ -38,9 +36,6 @@ pub(crate) const WHOLE_LOG: &[u8] =
     b"the head of this run\nan entry\ntwo entries at once\nand with one sync\nthe last entry\n";
 
 const REMEMBERED: &[u8] = b"what is to be remembered";
-
-/// More calls than a run makes.
-pub(crate) const MOST_CALLS: u32 = 600;
 
 // A text that is saved.
 #[derive(Clone, Copy)]
@@ -80,9 +75,6 @@ const NOWHERE: Came = Came {
     is_saved: false,
 };
 
-/// The log of a run over a disk.
-pub(crate) type Log<'d> = LineFile<LogDevice<'d, Machine<'d>, Handle<'d>>>;
-
 // A run from its start to its end, over the disk of a machine.
 fn run<'d>(machine: &'d Machine<'d>, alloc: Global) -> Came {
     let Ok(file) = JournalFile::take(machine, alloc, JOURNAL) else {
@@ -118,16 +110,6 @@ pub(crate) fn begin<'d>(
         device,
         end: HEAD.len(),
     })
-}
-
-/// Appends lines to a log, which is never so long that they have no room behind it.
-pub(crate) fn append(log: &mut Log<'_>, lines: &[u8]) -> Result<(), DeviceFault>
-    requires { IsText lines.now }
-{
-    if log.end >= usize::MAX - lines.len() {
-        return Err(DeviceFault::Failed);
-    }
-    log.append(lines)
 }
 
 // A disk as an earlier run left it.

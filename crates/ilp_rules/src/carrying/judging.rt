@@ -1,5 +1,5 @@
 //! Whether an entry may come next in a journal.
-ghost use Rattle.std.specs.Prelude.{◌≡◌, ℕ, ◌<◌, ℤ, pos, ◌+ℤ◌, ◌≤ℤ◌, ◌↔◌, None, nat_eq, IsTrue, IsSome, IsOkAnd, IfErr, OnOk, OnErr};
+ghost use Rattle.std.specs.Prelude.{◌≡◌, ℤ, pos, ◌+ℤ◌, ◌≤ℤ◌, ◌↔◌, None, IsTrue, IsSome, IsOkAnd, IfErr, OnOk, OnErr};
 ghost use Rattle.ilp_terms.specs.Expiry.{last_of_all};
 ghost use Rattle.ilp_assets.specs.declared.quote.Quote.{Quote};
 ghost use Rattle.ilp_journal.specs.declared.entry.What.TheVariants as what;
@@ -12,8 +12,6 @@ ghost use Rattle.ilp_rules.specs.declared.rule.BrokenRule.TheVariants as BrokenR
 ghost use Rattle.ilp_rules.specs.Book.{pushed};
 ghost use Rattle.ilp_rules.specs.Broken.{Breaks, BreaksRule};
 ghost use Rattle.ilp_rules.specs.Configured.{IsKnown, quote_between};
-ghost use Rattle.std.specs.List.{starts_with};
-ghost use Rattle.ilp_rules.specs.Heads.{IsHead, StandsInHead, pending_at, key_front};
 ghost use Rattle.ilp_rules.specs.Judging.{behind_all, HasRoom, KeepsLimits};
 ghost use Rattle.ilp_rules.specs.Lawful.{IsLawful, KeepsRule, KeepsRuleOf, HasTerms, IsFreshCredit, IsDueAsk, IsInTime};
 
@@ -23,10 +21,9 @@ use crate::holds::{is_short, open_hold_at, quote_between};
 use crate::moments::{after, last_moment};
 use crate::rule::BrokenRule;
 use ilp_accounts::Config;
-use ilp_journal::{Ask, Cause, Credited, Entry, Hold, Journal, Key, What};
+use ilp_journal::{Ask, Cause, Credited, Entry, Hold, What};
 use ilp_settlement::{Quantity, credited};
 use ilp_terms::{LAST_OF_ALL, meets};
-use itoa::Buffer;
 use std::alloc::Allocator;
 
 impl<A: Allocator> Carrying<A> {
@@ -34,7 +31,7 @@ impl<A: Allocator> Carrying<A> {
     pub(crate) fn judge(&self, entry: &Entry) -> Result<(), BrokenRule>
         ensures ok { OnOk result (IsLawful (pushed self.now entry.now)) }
         ensures err { OnErr result (IsLawful (pushed self.now entry.now) → ⊥) }
-        ensures broken { IfErr result (Breaks self.now.config self.now.period self.now.entries entry.now) }
+        ensures broken { IfErr result (Breaks self.now.config self.now.entries entry.now) }
     {
         self.judge_moment(entry)?;
         self.judge_rule(entry)?;
@@ -45,7 +42,7 @@ impl<A: Allocator> Carrying<A> {
     fn judge_moment(&self, entry: &Entry) -> Result<(), BrokenRule>
         ensures ok { OnOk result (IsInTime self.now.entries entry.now) }
         ensures err { OnErr result (IsInTime self.now.entries entry.now → ⊥) }
-        ensures broken { IfErr result (Breaks self.now.config self.now.period self.now.entries entry.now) }
+        ensures broken { IfErr result (Breaks self.now.config self.now.entries entry.now) }
         ensures valid { IsValid self.now.config }
         ensures lawful { IsLawful self.now }
         ensures behind { self.now.base ≡ behind_all }
@@ -62,7 +59,7 @@ impl<A: Allocator> Carrying<A> {
         requires last { entry.now.moment ≤ℤ last_of_all }
         ensures ok { OnOk result (KeepsRuleOf self.now self.now.entries entry.now) }
         ensures err { OnErr result (KeepsRuleOf self.now self.now.entries entry.now → ⊥) }
-        ensures broken { IfErr result (BreaksRule self.now.config self.now.period self.now.entries
+        ensures broken { IfErr result (BreaksRule self.now.config self.now.entries
             entry.now.moment entry.now.what) }
     {
         let moment = entry.moment;
@@ -73,9 +70,6 @@ impl<A: Allocator> Carrying<A> {
             What::Credited(credited) => self.judge_credited(credited),
             What::Asked(ask) => self.judge_asked(ask),
             What::Confirmed { ask } | What::Undone { ask } => self.judge_closing(*ask),
-            What::Opened { peer, balance } => self.judge_opened(*peer, *balance),
-            What::Known(credited) => self.judge_known(credited),
-            What::Pending { peer, amount, key } => self.judge_pending(*peer, *amount, key),
         }
     }
 
@@ -86,14 +80,11 @@ impl<A: Allocator> Carrying<A> {
         number: u32,
         preimage: &[u8; 32],
     ) -> Result<(), BrokenRule>
-        ensures ok { OnOk result (KeepsRule self.now.config self.now.period self.now.base
-            self.now.entries moment
+        ensures ok { OnOk result (KeepsRule self.now.config self.now.base self.now.entries moment
             (what.Fulfilled number preimage.now)) }
-        ensures err { OnErr result (KeepsRule self.now.config self.now.period self.now.base
-            self.now.entries moment
+        ensures err { OnErr result (KeepsRule self.now.config self.now.base self.now.entries moment
             (what.Fulfilled number preimage.now) → ⊥) }
-        ensures broken { IfErr result (BreaksRule self.now.config self.now.period
-            self.now.entries moment
+        ensures broken { IfErr result (BreaksRule self.now.config self.now.entries moment
             (what.Fulfilled number preimage.now)) }
     {
         let Some(hold) = open_hold_at(&self.journal, number) else {
@@ -110,14 +101,11 @@ impl<A: Allocator> Carrying<A> {
 
     // Whether the hold of this number is released for this cause.
     fn judge_released(&self, moment: i64, number: u32, cause: Cause) -> Result<(), BrokenRule>
-        ensures ok { OnOk result (KeepsRule self.now.config self.now.period self.now.base
-            self.now.entries moment
+        ensures ok { OnOk result (KeepsRule self.now.config self.now.base self.now.entries moment
             (what.Released number cause)) }
-        ensures err { OnErr result (KeepsRule self.now.config self.now.period self.now.base
-            self.now.entries moment
+        ensures err { OnErr result (KeepsRule self.now.config self.now.base self.now.entries moment
             (what.Released number cause) → ⊥) }
-        ensures broken { IfErr result (BreaksRule self.now.config self.now.period
-            self.now.entries moment
+        ensures broken { IfErr result (BreaksRule self.now.config self.now.entries moment
             (what.Released number cause)) }
     {
         let Some(hold) = open_hold_at(&self.journal, number) else {
@@ -133,8 +121,7 @@ impl<A: Allocator> Carrying<A> {
     fn judge_credited(&self, credit: &Credited) -> Result<(), BrokenRule>
         ensures ok { OnOk result (IsFreshCredit self.now.config self.now.entries credit.now) }
         ensures err { OnErr result (IsFreshCredit self.now.config self.now.entries credit.now → ⊥) }
-        ensures broken { (moment : ℤ) → IfErr result (BreaksRule self.now.config self.now.period
-            self.now.entries moment
+        ensures broken { (moment : ℤ) → IfErr result (BreaksRule self.now.config self.now.entries moment
             (what.Credited credit.now)) }
     {
         if self.config.peers() <= credit.peer {
@@ -162,8 +149,7 @@ impl<A: Allocator> Carrying<A> {
     fn judge_asked(&self, ask: &Ask) -> Result<(), BrokenRule>
         ensures ok { OnOk result (IsDueAsk self.now.config self.now.entries ask.now) }
         ensures err { OnErr result (IsDueAsk self.now.config self.now.entries ask.now → ⊥) }
-        ensures broken { (moment : ℤ) → IfErr result (BreaksRule self.now.config self.now.period
-            self.now.entries moment
+        ensures broken { (moment : ℤ) → IfErr result (BreaksRule self.now.config self.now.entries moment
             (what.Asked ask.now)) }
     {
         if self.config.peers() <= ask.peer {
@@ -195,104 +181,12 @@ impl<A: Allocator> Carrying<A> {
         }
     }
 
-    // Whether a balance may be brought forward: one that isn't 0, of a peer that has none yet.
-    fn judge_opened(&self, peer: u32, balance: i64) -> Result<(), BrokenRule>
-        ensures ok { OnOk result (StandsInHead self.now.config self.now.period self.now.base
-            self.now.entries (what.Opened peer balance)) }
-        ensures err { OnErr result (StandsInHead self.now.config self.now.period self.now.base
-            self.now.entries (what.Opened peer balance) → ⊥) }
-        ensures broken { (moment : ℤ) → IfErr result (BreaksRule self.now.config self.now.period
-            self.now.entries moment (what.Opened peer balance)) }
-    {
-        if self.config.peers() <= peer {
-            return Err(BrokenRule::Peer);
-        }
-        self.judge_head()?;
-
-        // In a head no other kind moves a balance, and none is opened at 0.
-        if balance == 0 || self.tables.tallies.balance(peer) != 0 {
-            return Err(BrokenRule::Opening);
-        }
-        Ok(())
-    }
-
-    // Whether a credit of an earlier period may be brought forward: under a key that is new.
-    fn judge_known(&self, credit: &Credited) -> Result<(), BrokenRule>
-        ensures ok { OnOk result (StandsInHead self.now.config self.now.period self.now.base
-            self.now.entries (what.Known credit.now)) }
-        ensures err { OnErr result (StandsInHead self.now.config self.now.period self.now.base
-            self.now.entries (what.Known credit.now) → ⊥) }
-        ensures broken { (moment : ℤ) → IfErr result (BreaksRule self.now.config self.now.period
-            self.now.entries moment (what.Known credit.now)) }
-    {
-        if self.config.peers() <= credit.peer {
-            return Err(BrokenRule::Peer);
-        }
-        self.judge_head()?;
-        let key = credit.key.as_slice();
-        if self.tables.keys.find(credit.peer, key).is_some() {
-            return Err(BrokenRule::KeyTaken);
-        }
-        Ok(())
-    }
-
-    // Whether a settlement of an earlier period may be brought forward: where few enough are open, and
-    // no other has its key.
-    fn judge_pending(&self, peer: u32, amount: u64, key: &Key) -> Result<(), BrokenRule>
-        ensures ok { OnOk result (StandsInHead self.now.config self.now.period self.now.base
-            self.now.entries (what.Pending peer amount key.now)) }
-        ensures err { OnErr result (StandsInHead self.now.config self.now.period self.now.base
-            self.now.entries (what.Pending peer amount key.now) → ⊥) }
-        ensures broken { (moment : ℤ) → IfErr result (BreaksRule self.now.config self.now.period
-            self.now.entries moment (what.Pending peer amount key.now)) }
-    {
-        if self.config.peers() <= peer {
-            return Err(BrokenRule::Peer);
-        }
-        self.judge_head()?;
-        if !are_few_open(&self.tables.tallies, peer) {
-            return Err(BrokenRule::StillOpen);
-        }
-        let key = key.as_slice();
-        if is_brought_under(&self.journal, key) || is_of_period(&self.config, self.period, key) {
-            return Err(BrokenRule::SettlementKey);
-        }
-        Ok(())
-    }
-
-    // Whether something may still be brought forward.
-    fn judge_head(&self) -> Result<(), BrokenRule>
-        ensures ok { OnOk result ((0 < self.now.period) × IsHead self.now.entries) }
-        ensures err { OnErr result ((0 < self.now.period) × IsHead self.now.entries → ⊥) }
-        ensures broken { IfErr result (λ rule. rule ≡ BrokenRule.Head) }
-    {
-        if self.period == 0 || !self.is_head() {
-            return Err(BrokenRule::Head);
-        }
-        Ok(())
-    }
-
-    // Whether all that came was brought forward: then the last is, and the rule of that tells it of all
-    // before it.
-    fn is_head(&self) -> bool
-        ensures { IsTrue result ↔ IsHead self.now.entries }
-    {
-        let len = self.journal.len();
-        if len == 0 {
-            return true;
-        }
-        match self.journal.get(len - 1) {
-            Some(last) => last.what.is_brought_forward(),
-            None => true,
-        }
-    }
-
     // Whether the limits are kept with it.
     fn judge_limits(&self, entry: &Entry) -> Result<(), BrokenRule>
         requires rule { KeepsRuleOf self.now self.now.entries entry.now }
         ensures ok { OnOk result (KeepsLimits self.now entry.now.what) }
         ensures err { OnErr result (KeepsLimits self.now entry.now.what → ⊥) }
-        ensures broken { IfErr result (BreaksRule self.now.config self.now.period self.now.entries
+        ensures broken { IfErr result (BreaksRule self.now.config self.now.entries
             entry.now.moment entry.now.what) }
     {
         match &entry.what {
@@ -300,12 +194,8 @@ impl<A: Allocator> Carrying<A> {
                 self.judge_room(2)?;
                 self.judge_balance(hold)
             }
-            What::Credited(_) | What::Known(_) => self.judge_room(1),
-            What::Asked(_) | What::Pending { .. } => self.judge_room(2),
-            What::Opened { peer, balance } => {
-                self.judge_room(1)?;
-                self.judge_opening(*peer, *balance)
-            }
+            What::Credited(_) => self.judge_room(1),
+            What::Asked(_) => self.judge_room(2),
             _ => Ok(()),
         }
     }
@@ -339,57 +229,6 @@ impl<A: Allocator> Carrying<A> {
         }
         Ok(())
     }
-
-    // Whether a balance that is brought forward leaves its peer at its least or above it.
-    fn judge_opening(&self, peer: u32, opened: i64) -> Result<(), BrokenRule>
-        requires known { IsKnown self.now.config peer }
-        ensures ok { OnOk result ((peer_at self.now.config peer).least
-            ≤ℤ (balance self.now.entries peer +ℤ opened)) }
-        ensures err { OnErr result ((peer_at self.now.config peer).least
-            ≤ℤ (balance self.now.entries peer +ℤ opened) → ⊥) }
-        ensures broken { IfErr result (λ rule. rule ≡ BrokenRule.Least) }
-    {
-        let balance = self.tables.tallies.balance(peer) + i128::from(opened);
-        if balance < i128::from(self.config.least(peer)) {
-            return Err(BrokenRule::Least);
-        }
-        Ok(())
-    }
-}
-
-// Whether a settlement is brought forward under the key.
-fn is_brought_under<A: Allocator>(journal: &Journal<A>, key: &[u8]) -> bool
-    ensures { IsTrue result ↔ IsSome (pending_at journal.now.entries key.now) }
-{
-    for number in 0..journal.len() {
-        if let Some(other) = journal.earlier_key(number)
-            && other.as_slice() == key
-        {
-            return true;
-        }
-    }
-    false
-}
-
-// Whether a settlement of the period could have the key.
-fn is_of_period(config: &Config, period: u32, key: &[u8]) -> bool
-    ensures { IsTrue result ↔ IsTrue (starts_with nat_eq key.now (key_front config.now period)) }
-{
-    let Some(rest) = key.strip_prefix(config.run().as_bytes()) else {
-        return false;
-    };
-    if period == 0 {
-        return rest.starts_with(b"-");
-    }
-    let mut digits = Buffer::new();
-    let number = digits.format(period);
-    let Some(rest) = rest.strip_prefix(b".") else {
-        return false;
-    };
-    let Some(rest) = rest.strip_prefix(number.as_bytes()) else {
-        return false;
-    };
-    rest.starts_with(b"-")
 }
 
 // Whether it is the cause of what came too late.
@@ -407,8 +246,8 @@ fn judge_terms(config: &Config, moment: i64, hold: &Hold) -> Result<(), BrokenRu
     requires last { moment ≤ℤ last_of_all }
     ensures ok { OnOk result (HasTerms config.now moment hold.now) }
     ensures err { OnErr result (HasTerms config.now moment hold.now → ⊥) }
-    ensures broken { (period : ℕ) (before : Entries) → IfErr result (BreaksRule config.now period before
-        moment (what.Hold hold.now)) }
+    ensures broken { (before : Entries) → IfErr result (BreaksRule config.now before moment
+        (what.Hold hold.now)) }
 {
     let peers = config.peers();
     if peers <= hold.from || peers <= hold.to || hold.from == hold.to {

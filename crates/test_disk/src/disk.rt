@@ -1,0 +1,307 @@
+//! A disk in memory: a folder with room for a journal and what stands beside it.
+
+use std::alloc::Global;
+use std::cell::{RefCell, RefMut};
+use std::fs::OpenOptions;
+use std::io;
+use std::io::ErrorKind;
+
+/// The name of the journal.
+pub const JOURNAL: &str = "journal";
+
+/// Of the file that a connector locks, and which keeps what is remembered.
+pub const LOCK: &str = "journal.lock";
+
+/// Of the mark of an earlier version, that it runs or has stopped.
+pub const RUNNING: &str = "journal.running";
+
+/// Of a journal that is to take the place of the old one.
+pub const NEW: &str = "journal.new";
+
+/// Of the log.
+pub const LOG: &str = "journal.log";
+
+/// Of a log that is to take the place of the old one.
+pub const LOG_NEW: &str = "journal.log.new";
+
+/// Where Linux says what a process may have.
+pub const LIMITS: &str = "/proc/self/limits";
+
+// The names that a file can have.
+const NAMES: [&str; 7] = [JOURNAL, LOCK, RUNNING, NEW, LOG, LOG_NEW, LIMITS];
+
+// The folder's own name.
+pub(crate) const FOLDER: &str = ".";
+
+/// Which calls on a disk fail: so many from the first on, counted from 0.
+#[derive(Clone, Copy)]
+pub struct Faults {
+    /// The first of them.
+    pub first: u32,
+    /// How many they are.
+    pub count: u32,
+}
+
+/// None does.
+pub const NEVER: Faults = Faults { first: 0, count: 0 };
+
+/// More calls than a run makes.
+pub const MOST_CALLS: u32 = 600;
+
+impl Faults {
+    fn has(self, call: u32) -> bool {
+        self.first <= call && call - self.first < self.count
+    }
+}
+
+// What a file has, for whoever reads it now and on the device.
+#[derive(Drop)]
+pub(crate) struct Content {
+    pub(crate) now: Vec<u8>,
+    kept: Vec<u8>,
+}
+
+impl Content {
+    // Writes octets from a place on, behind zeros where that lies past the end.
+    pub(crate) fn write(&mut self, alloc: Global, at: usize, octets: &[u8]) -> io::Result<()> {
+        let before = self.now.get(..at).unwrap_or(&self.now);
+        let behind = self.now.get(at.saturating_add(octets.len())..);
+        let mut now = Vec::from_slice(alloc, before)?;
+        now.resize(at, 0)?;
+        now.extend_from_slice(octets)?;
+        now.extend_from_slice(behind.unwrap_or(&[]))?;
+        self.now = now;
+        Ok(())
+    }
+}
+
+// Which content each name has, if it has one.
+type Folder = [Option<usize>; 7];
+
+// What is on a disk, and what was printed.
+#[derive(Drop)]
+pub(crate) struct State {
+    pub(crate) alloc: Global,
+    now: Folder,
+    kept: Folder,
+    pub(crate) contents: Vec<Content>,
+    calls: u32,
+    faults: Faults,
+    pub(crate) told: String,
+    pub(crate) printed: Vec<u8>,
+}
+
+/// A disk, and what is printed beside it.
+#[derive(Drop)]
+pub struct Disk {
+    pub(crate) alloc: Global,
+    state: RefCell<State>,
+    /// Whether another has locked what is locked on it.
+    pub is_locked: bool,
+    /// Whether standard output takes nothing.
+    pub is_mute: bool,
+}
+
+/// When a disk is looked at.
+#[derive(Clone, Copy)]
+pub enum When {
+    /// While the machine runs.
+    Now,
+    /// After it has stopped.
+    Stopped,
+}
+
+// Of a file that is not there.
+pub(crate) fn absent() -> io::Error {
+    io::Error::from(ErrorKind::NotFound)
+}
+
+// What no disk does.
+pub(crate) fn unsupported() -> io::Error {
+    io::Error::from(ErrorKind::Unsupported)
+}
+
+// The place of a name.
+fn place_of(path: &str) -> io::Result<usize> {
+    NAMES.iter().position(|name| *name == path).ok_or(absent())
+}
+
+impl State {
+    // Counts a call, which may be one that fails.
+    pub(crate) fn call(&mut self) -> io::Result<()> {
+        let call = self.calls;
+        self.calls = call.saturating_add(1);
+        if self.faults.has(call) {
+            return Err(io::Error::from(ErrorKind::StorageFull));
+        }
+        Ok(())
+    }
+
+    // The content of a name.
+    pub(crate) fn content_of(&self, path: &str) -> io::Result<usize> {
+        let place = place_of(path)?;
+        self.now.get(place).copied().flatten().ok_or(absent())
+    }
+
+    // Gives a name a content, or none.
+    pub(crate) fn name(&mut self, path: &str, content: Option<usize>) -> io::Result<()> {
+        let place = place_of(path)?;
+        if let Some(named) = self.now.get_mut(place) {
+            *named = content;
+        }
+        Ok(())
+    }
+
+    // A new file of this name, with nothing in it.
+    fn make(&mut self, path: &str) -> io::Result<usize> {
+        let content = self.contents.len();
+        let (now, kept) = (Vec::new(self.alloc), Vec::new(self.alloc));
+        self.contents.push(Content { now, kept })?;
+        self.name(path, Some(content))?;
+        Ok(content)
+    }
+
+    // Opens a file by its options.
+    pub(crate) fn open(&mut self, how: &OpenOptions, path: &str) -> io::Result<Option<usize>> {
+        if path == FOLDER {
+            return Ok(None);
+        }
+        let found = match self.content_of(path) {
+            Ok(_) if how.asks_create_new() => return Err(io::Error::from(ErrorKind::AlreadyExists)),
+            Ok(content) => content,
+            Err(_) if how.asks_create_new() || how.asks_create() => self.make(path)?,
+            Err(error) => return Err(error),
+        };
+        if let (true, Some(content)) = (how.asks_truncate(), self.contents.get_mut(found)) {
+            content.now.clear();
+        }
+        Ok(Some(found))
+    }
+
+    // Has the device keep the content of a file, or the names of the folder.
+    pub(crate) fn sync(&mut self, content: Option<usize>) -> io::Result<()> {
+        let Some(content) = content else {
+            self.kept = self.now;
+            return Ok(());
+        };
+        if let Some(content) = self.contents.get_mut(content) {
+            content.kept = Vec::from_slice(self.alloc, &content.now)?;
+        }
+        Ok(())
+    }
+
+    // The content of a name.
+    pub(crate) fn text_of(&self, path: &str, when: When) -> io::Result<Vec<u8>> {
+        let place = place_of(path)?;
+        let folder = match when {
+            When::Now => self.now,
+            When::Stopped => self.kept,
+        };
+        let content = folder.get(place).copied().flatten().ok_or(absent())?;
+        let content = self.contents.get(content).ok_or(absent())?;
+        let text = match when {
+            When::Now => &content.now,
+            When::Stopped => &content.kept,
+        };
+        Ok(Vec::from_slice(self.alloc, text)?)
+    }
+}
+
+impl Disk {
+    /// A disk on which nothing is.
+    pub fn new(alloc: Global, faults: Faults) -> Disk {
+        Disk {
+            alloc,
+            state: RefCell::new(State {
+                alloc,
+                now: [None; 7],
+                kept: [None; 7],
+                contents: Vec::new(alloc),
+                calls: 0,
+                faults,
+                told: String::new(alloc),
+                printed: Vec::new(alloc),
+            }),
+            is_locked: false,
+            is_mute: false,
+        }
+    }
+
+    // What is on it, for a call.
+    pub(crate) fn state(&self) -> io::Result<RefMut<'_, State>> {
+        match self.state.try_borrow_mut() {
+            Ok(state) => Ok(state),
+            Err(_) => Err(io::Error::from(ErrorKind::Deadlock)),
+        }
+    }
+
+    /// Puts a file there, as an earlier run left it. No call is counted.
+    pub fn put(&self, path: &str, text: &[u8]) -> io::Result<()> {
+        let mut state = self.state()?;
+        let alloc = state.alloc;
+        let made = state.make(path)?;
+        if let Some(content) = state.contents.get_mut(made) {
+            content.now = Vec::from_slice(alloc, text)?;
+            content.kept = Vec::from_slice(alloc, text)?;
+        }
+        state.sync(None)
+    }
+
+    /// Puts the files that are here then on another disk. No call is counted.
+    pub fn put_on(&self, other: &Disk, when: When) -> io::Result<()> {
+        for name in NAMES {
+            if let Some(text) = self.text(name, when)? {
+                other.put(name, &text)?;
+            }
+        }
+        Ok(())
+    }
+
+    /// From now on so many calls fail, behind so many that don't. The number of the first is told.
+    pub fn fail_behind(&self, calls: u32, count: u32) -> io::Result<u32> {
+        let mut state = self.state()?;
+        let first = state.calls.saturating_add(calls);
+        state.faults = Faults { first, count };
+        Ok(first)
+    }
+
+    /// Takes a file away, as somebody else does. No call is counted.
+    pub fn take_away(&self, path: &str) -> io::Result<()> {
+        self.state()?.name(path, None)
+    }
+
+    /// Cuts a file to a length, as somebody else does. No call is counted.
+    pub fn cut(&self, path: &str, len: usize) -> io::Result<()> {
+        let mut state = self.state()?;
+        let content = state.content_of(path)?;
+        if let Some(content) = state.contents.get_mut(content) {
+            content.now.truncate(len);
+        }
+        Ok(())
+    }
+
+    /// What a file has, or nothing where it isn't there.
+    pub fn text(&self, path: &str, when: When) -> io::Result<Option<Vec<u8>>> {
+        match self.state()?.text_of(path, when) {
+            Ok(text) => Ok(Some(text)),
+            Err(error) if error.kind() == ErrorKind::NotFound => Ok(None),
+            Err(error) => Err(error),
+        }
+    }
+
+    /// Whether a line on standard error has had this.
+    pub fn has_told(&self, words: &str) -> io::Result<bool> {
+        Ok(self.state()?.told.contains(words))
+    }
+
+    /// What was printed on standard output.
+    pub fn printed(&self) -> io::Result<Vec<u8>> {
+        let state = self.state()?;
+        Ok(Vec::from_slice(state.alloc, &state.printed)?)
+    }
+
+    /// How many calls there were.
+    pub fn calls(&self) -> io::Result<u32> {
+        Ok(self.state()?.calls)
+    }
+}

@@ -1,0 +1,23 @@
+//! A disk in memory for tests, which keeps what is written, synced and renamed, and on which each call can
+//! fail, once or from there on.
+//!
+//! What it has after a run is what a machine that stops there finds at its next start: so a disk that fails
+//! from a call on shows each sudden stop.
+//!
+//! Its files stand in a cell, since all that is open shares them. No clause can tell what a cell has: so its
+//! calls promise nothing, and tests show what they do.
+#![tactic(auto)]
+
+mod disk;
+mod handle;
+mod log;
+mod looks;
+mod machine;
+
+pub use disk::{
+    Disk, Faults, JOURNAL, LIMITS, LOCK, LOG, LOG_NEW, MOST_CALLS, NEVER, NEW, RUNNING, When,
+};
+pub use handle::Handle;
+pub use log::{Log, append};
+pub use looks::{has, is_as_left, is_there, lines_of};
+pub use machine::Machine;

@@ -1,0 +1,162 @@
+//! What runs over a disk.
+
+use crate::disk::{Disk, FOLDER, When, unsupported};
+use crate::handle::Handle;
+use ilp_journal_file::{PlacesFiles, put_in_place};
+use std::alloc::{Alloc, Allocator, Global};
+use std::fmt::Display;
+use std::fs::{Metadata, OpenOptions};
+use std::io::{Eprint, ErrorKind, Print};
+use std::rt::Files;
+use std::time::{Clock, Duration};
+use std::{fs, io};
+
+/// What runs over a disk. Its clock stands still.
+#[derive(Clone, Copy)]
+pub struct Machine<'d>(pub &'d Disk);
+
+impl<'d> Files for Machine<'d> {
+    type File = Handle<'d>;
+
+    type Dir = Handle<'d>;
+
+    fn open_file(&self, how: &OpenOptions, path: &str) -> io::Result<Handle<'d>> {
+        let mut state = self.0.state()?;
+        state.call()?;
+        let content = state.open(how, path)?;
+        Ok(Handle {
+            disk: self.0,
+            content,
+            at: 0,
+        })
+    }
+
+    fn open_dir(&self, _path: &str) -> io::Result<Handle<'d>> {
+        Err(unsupported())
+    }
+
+    fn metadata(&self, path: &str) -> io::Result<Metadata> {
+        self.symlink_metadata(path)
+    }
+
+    fn symlink_metadata(&self, path: &str) -> io::Result<Metadata> {
+        let mut state = self.0.state()?;
+        state.call()?;
+        if path == FOLDER {
+            return Ok(Metadata::of_dir());
+        }
+        let text = state.text_of(path, When::Now)?;
+        Ok(Metadata::of_file(text.len() as u64))
+    }
+
+    fn copy(&self, _from: &str, _to: &str) -> io::Result<u64> {
+        Err(unsupported())
+    }
+
+    fn rename(&self, from: &str, to: &str) -> io::Result<()> {
+        let mut state = self.0.state()?;
+        state.call()?;
+        let content = state.content_of(from)?;
+        state.name(from, None)?;
+        state.name(to, Some(content))
+    }
+
+    fn remove_file(&self, path: &str) -> io::Result<()> {
+        let mut state = self.0.state()?;
+        state.call()?;
+        state.content_of(path)?;
+        state.name(path, None)
+    }
+
+    fn create_dir(&self, _path: &str) -> io::Result<()> {
+        Err(unsupported())
+    }
+
+    fn remove_dir(&self, _path: &str) -> io::Result<()> {
+        Err(unsupported())
+    }
+
+    fn remove_dir_all<B: Allocator>(&self, _alloc: B, _path: &str) -> io::Result<()> {
+        Err(unsupported())
+    }
+}
+
+impl<'d> PlacesFiles for Machine<'d> {
+    type File = Handle<'d>;
+
+    fn create_anew(&self, path: &str, _mode: u32) -> io::Result<Handle<'d>> {
+        match fs::remove_file(self, path) {
+            Err(error) if error.kind() != ErrorKind::NotFound => return Err(error),
+            _ => {}
+        }
+        OpenOptions::new()
+            .read(true)
+            .write(true)
+            .create_new(true)
+            .open(self, path)
+    }
+
+    fn put_in_place(&self, new: &str, path: &str, folder: &str) -> io::Result<()> {
+        put_in_place(self, new, path, folder)
+    }
+
+    fn is_at(&self, file: &Handle<'d>, path: &str) -> io::Result<bool> {
+        let state = self.0.state()?;
+        Ok(Some(state.content_of(path)?) == file.content)
+    }
+
+    fn most_octets(&self) -> u64 {
+        u64::MAX
+    }
+}
+
+impl Clock for Machine<'_> {
+    fn monotonic(&self) -> io::Result<Duration> {
+        Ok(Duration::ZERO)
+    }
+
+    fn since_1970(&self) -> io::Result<Duration> {
+        Ok(Duration::ZERO)
+    }
+}
+
+impl Eprint for Machine<'_> {
+    fn eprint<D: Display + Drop>(&self, value: D) -> io::Result<()> {
+        let mut state = self.0.state()?;
+        let alloc = state.alloc;
+        let text = format!(in alloc; "{value}")?;
+        state.told.push_str(text.as_str())?;
+        Ok(())
+    }
+
+    fn eprintln<D: Display + Drop>(&self, value: D) -> io::Result<()> {
+        self.eprint(value)
+    }
+}
+
+impl Alloc for Machine<'_> {
+    type A = Global;
+
+    fn alloc(&self) -> Global {
+        self.0.alloc
+    }
+}
+
+impl Print for Machine<'_> {
+    fn print<D: Display + Drop>(&self, value: D) -> io::Result<()> {
+        let text = format!(in self.0.alloc; "{value}")?;
+        self.write_all(text.as_bytes())
+    }
+
+    fn println<D: Display + Drop>(&self, value: D) -> io::Result<()> {
+        self.print(value)
+    }
+
+    fn write_all(&self, octets: &[u8]) -> io::Result<()> {
+        if self.0.is_mute {
+            return Err(io::Error::from(ErrorKind::BrokenPipe));
+        }
+        self.0.state()?.printed.extend_from_slice(octets)?;
+        Ok(())
+    }
+}

@@ -1,0 +1,24 @@
+//! Numbers that look like any, the same in each run of the tests.
+
+/// A linear congruential generator, whose high bits are taken.
+#[derive(Drop)]
+pub(crate) struct Chance {
+    state: u64,
+}
+
+impl Chance {
+    /// The generator that begins with this seed.
+    pub(crate) fn new(seed: u64) -> Chance {
+        Chance { state: seed }
+    }
+
+    /// The next number, of those below `count`; 0 where there are none.
+    pub(crate) fn below(&mut self, count: u32) -> u32 {
+        self.state = self
+            .state
+            .wrapping_mul(6_364_136_223_846_793_005)
+            .wrapping_add(1_442_695_040_888_963_407);
+        let high = (self.state >> 32) as u32;
+        if count == 0 { 0 } else { high % count }
+    }
+}
