@@ -7,7 +7,7 @@ use crate::fault::LogFault;
 use crate::kept::Kept;
 use crate::naming::LogNaming;
 use crate::open_log::OpenLog;
-use crate::turnstile::Turnstile;
+use crate::turns::Turns;
 use ilp_desk::{Desk, JournalReceipt, Naming};
 use ilp_line_file::Device;
 use std::alloc::Global;
@@ -18,7 +18,7 @@ use std::sync::{Mutex, Wait};
 #[derive(Drop)]
 pub struct Log<J: Naming, K: LogNaming, D: Device + Drop> {
     locked: Mutex<OpenLog<J, K, D>>,
-    turnstile: Turnstile,
+    turns: Turns<J, K, D>,
 }
 
 impl<J: Naming, K: LogNaming, D: Device + Drop> Log<J, K, D> {
@@ -26,12 +26,12 @@ impl<J: Naming, K: LogNaming, D: Device + Drop> Log<J, K, D> {
     pub fn new(log: OpenLog<J, K, D>) -> Log<J, K, D> {
         Log {
             locked: Mutex::new(log),
-            turnstile: Turnstile::new(),
+            turns: Turns::new(),
         }
     }
 
-    /// `OpenLog::commit`, by one thread after the other: of those who come while one syncs, the first
-    /// syncs for all.
+    /// `OpenLog::commit`, by one thread after the other, and by one for all who wait: who finds its entries on
+    /// the disk asks nothing of it.
     pub fn commit(
         &self,
         rt: &impl Wait,
@@ -43,14 +43,14 @@ impl<J: Naming, K: LogNaming, D: Device + Drop> Log<J, K, D> {
         ensures kept { D.claims → IfOk result
             (λ kept. IsPrefix (lines_of K.form receipt.old) kept.lines) }
     {
-        self.turnstile.enter(rt);
-        let told = self.commit_in_turn(rt, alloc, desk, receipt);
-        self.turnstile.leave(rt);
-        told
+        match self.turns.wait(rt, receipt.len()) {
+            Some(pass) => Ok(pass.redeem(rt, desk, receipt)),
+            None => self.take_turn(rt, alloc, desk, receipt),
+        }
     }
 
     // The same, of a thread whose turn it is.
-    fn commit_in_turn(
+    fn take_turn(
         &self,
         rt: &impl Wait,
         alloc: Global,
@@ -62,7 +62,12 @@ impl<J: Naming, K: LogNaming, D: Device + Drop> Log<J, K, D> {
             (λ kept. IsPrefix (lines_of K.form receipt.old) kept.lines) }
     {
         let mut log = self.locked.lock(rt);
-        log.commit(rt, alloc, desk, receipt)
+        let told = log.commit(rt, alloc, desk, receipt);
+        let number = self.turns.end(rt, alloc, desk, &mut log);
+        // Nobody is called to a log that isn't free.
+        drop(log);
+        self.turns.call(number);
+        told
     }
 
     /// `OpenLog::mend`, by one thread after the other.
@@ -83,10 +88,7 @@ impl<J: Naming, K: LogNaming, D: Device + Drop> Log<J, K, D> {
 
     /// The log, once nobody else has it.
     pub fn into_inner(self) -> OpenLog<J, K, D> {
-        let Log {
-            locked,
-            turnstile: _,
-        } = self;
+        let Log { locked, turns: _ } = self;
         locked.into_inner()
     }
 }

@@ -22,7 +22,7 @@ use ilp_links::Links;
 use ilp_log::LogNaming;
 use ilp_log_keeper::{KeepingState, LogKeeper};
 use ilp_report::{Snapshot, print};
-use ilp_threads::{Sides, Unprinted, run_desk};
+use ilp_threads::{Unprinted, run_desk};
 use std::io::Eprint;
 use std::marker::Brand;
 use std::net::{Net, TcpListener, TcpStream};
@@ -104,7 +104,6 @@ where
         (form_of D.seen config.now log) (began_at D.moment log) run.book.entries run.log) }
     ensures refused { IfErr result (IsWhyUnclosed (desk_of config.now book.entries)) }
 {
-    let sides = Sides::open(rt, config)?;
     let blanks = Blank::new(u64::from(config.workers()) + 2);
     let Ok(list) = EntryList::new(config.allocator()) else {
         return Err(ServeFault::Unprinted(Unprinted::Memory));
@@ -112,7 +111,7 @@ where
     let Ok(acks) = AckList::new(config.allocator()) else {
         return Err(ServeFault::Unprinted(Unprinted::Memory));
     };
-    serve_desk::<Brand, Brand, R, L, D>(rt, config, book, blanks, list, log, acks, links, sides)
+    serve_desk::<Brand, Brand, R, L, D>(rt, config, book, blanks, list, log, acks, links)
 }
 
 // Opens a desk over this book, runs it, and closes it.
@@ -125,12 +124,17 @@ fn serve_desk<J, K, R, L, D>(
     log: Option<BegunLog<D>>,
     acks: AckList<D>,
     links: &L,
-    sides: Sides,
 ) -> Result<ClosedRun<D>, ServeFault>
 where
     J: Naming + Send + Sync,
     K: LogNaming + Send + Sync,
-    R: Threads + Wait + Clock + Eprint + Sync,
+    R: Net<Listener = TcpListener, Stream = TcpStream>
+        + Threads
+        + Wait
+        + Clock
+        + Eprint
+        + Files
+        + Sync,
     L: Links,
     D: Device + Drop + Send,
     requires config { (config.now ≡ J.desk.config) × (book.config ≡ J.desk.config) }
@@ -161,13 +165,13 @@ where
     };
     match log {
         None => {
-            let ends = run_desk(rt, &desk, shares, links, sides, Forgetful);
+            let ends = run_desk(rt, &desk, shares, links, Forgetful);
             let book = close_desk(desk, ends)?.into_book();
             Ok(ClosedRun { book, log: None })
         }
         Some(begun) => {
             let log = RunningLog::<J, K, D>::begin(begun, desk.receipt(rt), acks);
-            serve_logged(rt, desk, shares, log, links, sides)
+            serve_logged(rt, desk, shares, log, links)
         }
     }
 }
@@ -179,12 +183,17 @@ fn serve_logged<J, K, R, L, D>(
     shares: Vec<Share<J>>,
     log: RunningLog<J, K, D>,
     links: &L,
-    sides: Sides,
 ) -> Result<ClosedRun<D>, ServeFault>
 where
     J: Naming + Send + Sync,
     K: LogNaming + Send + Sync,
-    R: Threads + Wait + Clock + Eprint + Sync,
+    R: Net<Listener = TcpListener, Stream = TcpStream>
+        + Threads
+        + Wait
+        + Clock
+        + Eprint
+        + Files
+        + Sync,
     L: Links,
     D: Device + Drop + Send,
     requires shares { 2 ≤ vec_len shares }
@@ -196,7 +205,7 @@ where
 {
     let state = KeepingState::new();
     let keeper = LogKeeper::new(rt, &desk, &log.log, &state);
-    let ends = run_desk(rt, &desk, shares, links, sides, keeper);
+    let ends = run_desk(rt, &desk, shares, links, keeper);
     let book = close_desk(desk, ends)?;
     Ok(log.close(rt, book))
 }

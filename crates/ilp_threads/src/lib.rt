@@ -26,4 +26,4 @@ mod turns;
 mod watching;
 
 pub use fault::Unprinted;
-pub use sides::{Sides, run_desk};
+pub use sides::run_desk;

@@ -24,9 +24,9 @@ use std::sync::Wait;
 use std::thread::Threads;
 use std::time::Clock;
 
-/// What takes connections in at both sides, and what reaches it.
+// What takes connections in at both sides, and what reaches it.
 #[derive(Drop)]
-pub struct Sides {
+struct Sides {
     acceptors: Acceptors,
     intakes: Intakes,
     // How many files the process may have open, where the system says so.
@@ -34,10 +34,8 @@ pub struct Sides {
 }
 
 impl Sides {
-    /// Listens at both sides, at the places of the configuration.
-    ///
-    /// Refusals: `Listen` where a side can't be listened at, and a line says why; `Memory`.
-    pub fn open<R>(rt: &R, config: &Config) -> Result<Sides, Unprinted>
+    // Listens at both sides, at the places of the configuration.
+    fn open<R>(rt: &R, config: &Config) -> Result<Sides, Unprinted>
     where
         R: Net<Listener = TcpListener, Stream = TcpStream> + Clock + Eprint + Files,
     {
@@ -103,13 +101,38 @@ where
     }
 }
 
-/// Runs the actors whose shares of the desk these are, the settler's last and the sweeper's before it, until
-/// the connector is closed and what was accepted is answered. Then it gives what they hand in. Each has a
-/// keeper of its own of the same journal.
+/// Listens at both sides, at the places of the configuration, and runs the actors whose shares of the desk
+/// these are, the settler's last and the sweeper's before it, until the connector is closed and what was
+/// accepted is answered. Then it gives what they hand in. Each has a keeper of its own of the same journal.
 ///
-/// Refusals: `Spawn` where a thread can't be started, and a line says so; `Memory`. All that ran has ended
-/// then.
+/// Refusals: `Listen` where a side can't be listened at, and `Spawn` where a thread can't be started, and a
+/// line says so; `Memory`. All that ran has ended then.
 pub fn run_desk<J, R, L, K>(
+    rt: &R,
+    desk: &Desk<J>,
+    shares: Vec<Share<J>>,
+    links: &L,
+    keeper: K,
+) -> Result<Vec<End<J>>, Unprinted>
+where
+    J: Naming + Send + Sync,
+    R: Net<Listener = TcpListener, Stream = TcpStream>
+        + Threads
+        + Wait
+        + Clock
+        + Eprint
+        + Files
+        + Sync,
+    L: Links,
+    K: SharedKeeper<J> + Drop + Send,
+    requires { 2 ≤ vec_len shares }
+{
+    let sides = Sides::open(rt, desk.config())?;
+    run_between(rt, desk, shares, links, sides, keeper)
+}
+
+// The same between these sides.
+fn run_between<J, R, L, K>(
     rt: &R,
     desk: &Desk<J>,
     shares: Vec<Share<J>>,

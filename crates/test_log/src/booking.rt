@@ -1,12 +1,12 @@
 //! Calls at a desk, as chance has them.
 
-use crate::chance::Chance;
 use ilp_book::{EngineVerdict, PeerReply};
 use ilp_desk::{Desk, Naming, Share};
 use ilp_journal::Key;
 use ilp_packet::Prepare;
 use ilp_settlement::Quantity;
 use std::sync::Wait;
+use test_chance::Chance;
 
 /// 2025-01-01T00:00:00Z.
 pub(crate) const START: i64 = 1_735_689_600_000;

@@ -16,7 +16,6 @@
 #[cfg(test)]
 mod booking;
 #[cfg(test)]
-mod chance;
 #[cfg(test)]
 mod crashes;
 #[cfg(test)]

@@ -4,7 +4,6 @@ ghost use Rattle.std.specs.Prelude.{◌≡◌, [], IfOk};
 ghost use Rattle.ilp_desk.specs.Desk.{actors_of, base_of};
 
 use crate::booking::book_some;
-use crate::chance::Chance;
 use crate::tearing::{Failures, TearingDevice};
 use ilp_accounts::Config;
 use ilp_book::Book;
@@ -17,6 +16,7 @@ use std::alloc::{AllocError, Global};
 use std::marker::Brand;
 use std::sync::Wait;
 use std::sync::ledger::Blank;
+use test_chance::Chance;
 
 /// More calls than the log of a plan makes.
 pub(crate) const MOST_CALLS: u32 = 1_000;

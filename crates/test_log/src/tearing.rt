@@ -3,9 +3,9 @@
 
 ghost use Rattle.std.specs.Prelude.{[]};
 
-use crate::chance::Chance;
 use ilp_line_file::{Device, DeviceFault};
 use std::alloc::{AllocError, Global};
+use test_chance::Chance;
 
 /// In which calls of a device the disk fails, by their numbers from 0.
 #[derive(Clone, Copy)]

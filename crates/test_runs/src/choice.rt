@@ -1,12 +1,12 @@
 //! Which call comes next, and with what.
 
 use crate::calls::{Call, Made, Payment, Sent};
-use crate::chance::Chance;
 use crate::configured::PEERS;
 use crate::locks::{condition, preimage};
 use crate::walks::{Ends, ask_at, ended_by, open_hold_at, open_settlement};
 use ilp_book::{Book, EngineVerdict, PeerReply};
 use ilp_settlement::Quantity;
+use test_chance::Chance;
 
 // How many keys each peer has.
 const KEYS: u32 = 30;

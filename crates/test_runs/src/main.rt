@@ -15,7 +15,6 @@
 
 mod calls;
 mod carried;
-mod chance;
 mod choice;
 mod configured;
 mod entries;

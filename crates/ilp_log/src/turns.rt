@@ -1,0 +1,166 @@
+//! Whose turn it is to write a log, and who waits for whom.
+ghost use Rattle.std.specs.Prelude.{◌≤◌, IfSome};
+
+use crate::naming::LogNaming;
+use crate::open_log::OpenLog;
+use crate::pass::Pass;
+use ilp_desk::{Desk, Naming};
+use ilp_line_file::Device;
+use std::alloc::Global;
+use std::sync::{Condvar, Mutex, Wait};
+
+/// Gives threads their turns to write a log, one after the other. In its turn one writes all that is booked by
+/// then, so those who came before it began need no turn of their own: they get passes, and never wait for the
+/// next sync.
+///
+/// A lock alone is given to whoever comes first once it is free, and so to one who needs a sync before those who
+/// sleep and whose entries are on the disk already: each sync would be for few.
+#[derive(Drop)]
+pub(crate) struct Turns<J: Naming, K: LogNaming, D: Device + Drop> {
+    turn: Mutex<Turn<J, K, D>>,
+    // Where those wait who are served by a turn with an even number, and by one with an odd number.
+    even: Condvar,
+    odd: Condvar,
+}
+
+// The last turn that began. No machine sees 2^64 of them.
+#[derive(Drop)]
+struct Turn<J: Naming, K: LogNaming, D: Device + Drop> {
+    number: u64,
+    goes_on: bool,
+    // How many threads wait for this turn or the next.
+    waiting: u32,
+    // How many entries were on the disk at the end of the last turn that is over, and passes that say so. A turn
+    // brings the heap.
+    count: u32,
+    passes: Option<Vec<Pass<J, K, D>>>,
+}
+
+impl<J: Naming, K: LogNaming, D: Device + Drop> Turns<J, K, D> {
+    /// Nobody has had a turn. The first to come has one at once.
+    pub(crate) fn new() -> Turns<J, K, D> {
+        Turns {
+            turn: Mutex::new(Turn::none()),
+            even: Condvar::new(),
+            odd: Condvar::new(),
+        }
+    }
+
+    /// Waits for a pass by which so many entries are on the disk. Without one it is the caller's turn, who is to
+    /// end it.
+    pub(crate) fn wait(&self, rt: &impl Wait, upto: u32) -> Option<Pass<J, K, D>>
+        ensures enough { IfSome result (λ pass. upto ≤ pass.count) }
+    {
+        let mut turn = self.turn.lock(rt);
+        // The next turn serves it at the latest.
+        let mut mine = turn.number.wrapping_add(1);
+        for _ in rt.forever() {
+            if let Some(pass) = turn.pass(upto) {
+                let awaited = turn.is_awaited(mine);
+                drop(turn);
+                if awaited {
+                    // It may be the one that was called for that turn, and needs none.
+                    self.place(mine).notify_one();
+                }
+                return Some(pass);
+            }
+            if turn.begin() {
+                return None;
+            }
+            mine = mine.max(turn.number);
+            turn.waiting = turn.waiting.saturating_add(1);
+            turn = self.place(mine).wait(rt, turn);
+            turn.waiting = turn.waiting.saturating_sub(1);
+        }
+        None
+    }
+
+    /// Ends a turn: those who wait get passes for what is on the disk. They are to be called, by the turn's number.
+    pub(crate) fn end(
+        &self,
+        rt: &impl Wait,
+        alloc: Global,
+        desk: &Desk<J>,
+        log: &mut OpenLog<J, K, D>,
+    ) -> u64 {
+        let mut turn = self.turn.lock(rt);
+        if turn.waiting > 0 {
+            turn.serve(rt, alloc, desk, log);
+        }
+        turn.goes_on = false;
+        turn.number
+    }
+
+    /// Calls those whom a turn has served, and one of those who wait for the next.
+    pub(crate) fn call(&self, number: u64) {
+        self.place(number).notify_all();
+        self.place(number.wrapping_add(1)).notify_one();
+    }
+
+    // Where those wait who are served by the turn with a number.
+    fn place(&self, number: u64) -> &Condvar {
+        if number % 2 == 0 {
+            &self.even
+        } else {
+            &self.odd
+        }
+    }
+}
+
+impl<J: Naming, K: LogNaming, D: Device + Drop> Turn<J, K, D> {
+    fn none() -> Turn<J, K, D> {
+        Turn {
+            number: 0,
+            goes_on: false,
+            waiting: 0,
+            count: 0,
+            passes: None,
+        }
+    }
+
+    // A pass by which so many entries are on the disk.
+    fn pass(&mut self, upto: u32) -> Option<Pass<J, K, D>>
+        ensures enough { IfSome result (λ pass. upto ≤ pass.count) }
+    {
+        if self.count < upto {
+            return None;
+        }
+        let pass = self.passes.as_mut()?.pop()?;
+        if pass.count() < upto {
+            return None;
+        }
+        Some(pass)
+    }
+
+    // Begins the next turn, unless this one goes on.
+    fn begin(&mut self) -> bool {
+        if self.goes_on {
+            return false;
+        }
+        self.goes_on = true;
+        self.number = self.number.wrapping_add(1);
+        true
+    }
+
+    // Whether the turn with a number hasn't begun, and may.
+    fn is_awaited(&self, number: u64) -> bool {
+        !self.goes_on && self.number < number
+    }
+
+    // Makes a pass for each that waits. Whom memory is denied for has a turn of its own.
+    fn serve(&mut self, rt: &impl Wait, alloc: Global, desk: &Desk<J>, log: &mut OpenLog<J, K, D>) {
+        self.count = log.count();
+        let mut passes = self.passes.take().unwrap_or(Vec::new(alloc));
+        passes.clear();
+        let mut book = desk.lock(rt);
+        for _ in 0..self.waiting {
+            let Ok(pass) = Pass::of(log, &mut book) else {
+                break;
+            };
+            if passes.push(pass).is_err() {
+                break;
+            }
+        }
+        self.passes = Some(passes);
+    }
+}
