@@ -26,7 +26,7 @@ use Rattle.ilp_book.specs.declared.fault.AskFault.{AskFault}
 use Rattle.ilp_book.specs.declared.fault.AskFault.TheVariants as ask_fault
 use Rattle.ilp_rules.specs.Configured.{IsKnown}
 use Rattle.ilp_rules.specs.Book.{PlainBook, By, Does, Growth, granted, denied, entry_by, has_room, moment_at, pushed, with_entry}
-use Rattle.ilp_journal.specs.Credits.{as_credit, credit_at, has_key, kept_at}
+use Rattle.ilp_rules.specs.Open.{as_credit, credit_at, has_key, kept_at}
 use Rattle.ilp_rules.specs.Lawful.{IsLawful, IsWithinLimits, IsInTime, IsFreshCredit, IsDueAsk, owed_above}
 use Rattle.ilp_settlement.specs.declared.verdict.EngineVerdict.{EngineVerdict}
 use Rattle.ilp_settlement.specs.declared.verdict.EngineVerdict.TheVariants as engine

@@ -23,7 +23,7 @@ use Rattle.ilp_book.specs.declared.fault.AskFault.TheVariants as ask_fault
 use Rattle.ilp_book.specs.declared.fault.NotOpen.{NotOpen}
 use Rattle.ilp_rules.specs.Configured.{scale_at}
 use Rattle.ilp_rules.specs.Book.{PlainBook, By, Growth, granted, denied, Made, says, books, extended, has_room}
-use Rattle.ilp_journal.specs.Credits.{credit_at, kept_at}
+use Rattle.ilp_rules.specs.Open.{credit_at, kept_at}
 use Rattle.ilp_rules.specs.Lawful.{most_open_asks, due_amount}
 
 -- ---- credits

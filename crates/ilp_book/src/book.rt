@@ -37,7 +37,6 @@ use std::marker::Model;
 #[derive(Drop)]
 pub struct Book<A: Allocator = Global> {
     config: Config,
-    period: u32,
     base: u32,
     journal: Journal<A>,
     tables: Tables<A>,
@@ -50,17 +49,16 @@ impl<A: Allocator> Model for Book<A> {
 
     ghost Value = { PlainBook };
 
-    ghost view = { λ b. book_of b.config b.period b.base b.journal };
+    ghost view = { λ b. book_of b.config b.base b.journal };
 
     ghost invariant = { λ b.
-        AreParts b.config b.period b.base b.journal b.tables.tallies b.tables.holds
-        b.tables.keys
+        AreParts b.config b.base b.journal b.tables.tallies b.tables.holds b.tables.keys
         × IsBase b.journal.entries b.base };
 }
 
 impl<A: Allocator + Clone> Book<A> {
-    /// A book of the first period without entries, with a copy of the configuration. `AllocError`
-    /// tells that memory is short.
+    /// A book of no entries, with a copy of the configuration. `AllocError` tells that memory is
+    /// short.
     pub fn new(alloc: A, config: &Config) -> Result<Book<A>, AllocError>
         ensures { IfOk result (λ b. b ≡ new_book config.now) }
     {
@@ -68,7 +66,6 @@ impl<A: Allocator + Clone> Book<A> {
         let tables = Tables::new(alloc, config, 0)?;
         Ok(Book {
             config: config.copy()?,
-            period: 0,
             base: 0,
             journal,
             tables,
@@ -83,13 +80,6 @@ impl<A: Allocator> Book<A> {
         ensures valid { IsValid self.now.config }
     {
         &self.config
-    }
-
-    /// The number of the book's period, from 0.
-    pub fn period(&self) -> u32
-        ensures { result ≡ self.now.period }
-    {
-        self.period
     }
 
     /// How many entries there were when the book was opened. None of their holds was open then.

@@ -2,13 +2,13 @@
 ghost use Rattle.std.specs.Prelude.{◌≡◌, option_map};
 ghost use Rattle.std.specs.Option.{option_copied};
 ghost use Rattle.ilp_journal.specs.Keys.{IsKey};
-ghost use Rattle.ilp_journal.specs.Credits as credits;
+ghost use Rattle.ilp_rules.specs.Open as opens;
 ghost use Rattle.ilp_book.specs.SettleStep as settles;
 ghost use Rattle.ilp_rules.specs.Tables.{AreKept};
 
 use crate::calls::Kept;
 use crate::fault::CreditFault;
-use ilp_journal::{Credited, Journal, Key};
+use ilp_journal::{Credited, Journal, Key, What};
 use ilp_settlement::{KeyTable, Quantity};
 use std::alloc::Allocator;
 
@@ -39,7 +39,10 @@ pub(crate) fn kept_reply<A: Allocator>(
 
 // The credit under a number.
 fn credit_at<A: Allocator>(journal: &Journal<A>, number: u32) -> Option<&Credited>
-    ensures { option_copied result ≡ credits.credit_at journal.now.entries number }
+    ensures { option_copied result ≡ opens.credit_at journal.now.entries number }
 {
-    journal.get(number)?.what.credit()
+    match &journal.get(number)?.what {
+        What::Credited(credited) => Some(credited),
+        _ => None,
+    }
 }

@@ -19,14 +19,12 @@
 //!   its least, `sums` that the books of the asset balance. `balance`, `open_holds`, `fulfilled`
 //!   and `sums` are the sums of the journal, and balances and sums are within 2^96 of 0; `new` is a
 //!   book of no entries; `HoldFault::reject_code` is the RFC's code.
-//! - `period` is the number of the book's period: 0 of a new book, and that of its text of one that
-//!   is carried over or recovered.
 //! - `open_settlement` is the open settlement to a peer with the least number behind the one that
 //!   was tried last, else of all, with its amount; `most_open_asks`, four, may be open at once.
-//! - `save` writes exactly the text of the period with its journal; where a write fails or takes no
-//!   octet, a front of it that is not all. It has no allocator. Its condition: the configuration is
-//!   the book's own. What it wrote is carried over by that configuration, and refused for nothing
-//!   but want of memory.
+//! - `save` writes exactly the text of the journal; where a write fails or takes no octet, a front
+//!   of it that is not all. It has no allocator. Its condition: the configuration is the book's
+//!   own. What it wrote is carried over by that configuration, and refused for nothing but want of
+//!   memory.
 //! - `carry_over` answers the book that `ilp_rules` makes of a text, or why there is none. `recover`
 //!   does so of a text and the lines of entries that were logged behind it.
 //! - `runs_are_lawful`: over a valid configuration, for every list of the six calls within their

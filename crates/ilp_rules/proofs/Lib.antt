@@ -6,10 +6,6 @@ pub mod InTime
 pub mod Admitting
 pub mod TableSteps
 pub mod Keeping
-mod HeadLemmas
-mod JudgingHeads
-mod KeyFronts
-mod PendingKeys
 pub mod Judging
 pub mod Ending
 pub mod Rebasing
@@ -19,4 +15,3 @@ mod CarriedBooks
 pub mod Saved
 mod Recovered
 mod KeptOnce
-mod OwnKeys

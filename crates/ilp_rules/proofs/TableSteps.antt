@@ -25,7 +25,7 @@ use Rattle.ilp_settlement.specs.KeyTable.{PlainKeyTable, entry_of}
 use Rattle.ilp_tallies.specs.OpenAsks.{HasRoomToAsk}
 use Rattle.ilp_tallies.specs.Tallies.{PlainTallies, AreTallies, KnowsPeers}
 use Rattle.ilp_rules.specs.Configured.{peer_assets}
-use Rattle.ilp_journal.specs.Credits.{as_credit, has_key, kept_at}
+use Rattle.ilp_rules.specs.Open.{as_credit, has_key, kept_at}
 use Rattle.ilp_rules.specs.Lawful.{KeepsRule}
 use Rattle.ilp_rules.proofs.Known.{peers_listed}
 use Rattle.ilp_rules.specs.Tables.{deadline_of, AreTables, AreOpen, AreKept, FollowsHolds, KeepsKey}
@@ -128,40 +128,31 @@ keeps_nothing keys n w none peer key =
 -- ---- what the rules say of an entry's peers
 
 -- the peers of an entry that its rules allow are known
-pub peers_known : (C : Configuration) (period base : ℕ) (j : Entries) (m : ℤ) (w : What) → KeepsRule C period base j m w → KnowsPeers (length (peer_assets C)) w
-peers_known C period base j m (what.Hold h) rule = (rw (peers_listed C) rule.sender, rw (peers_listed C) rule.receiver)
-peers_known C period base j m (what.Fulfilled hold preimage) rule = tt
-peers_known C period base j m (what.Released hold cause) rule = tt
-peers_known C period base j m (what.Credited c) rule = rw (peers_listed C) rule.known
-peers_known C period base j m (what.Asked a) rule = rw (peers_listed C) rule.known
-peers_known C period base j m (what.Confirmed ask) rule = tt
-peers_known C period base j m (what.Undone ask) rule = tt
-peers_known C period base j m (what.Opened peer balance) rule = rw (peers_listed C) rule.rule.0
-peers_known C period base j m (what.Known c) rule = rw (peers_listed C) rule.rule.0
-peers_known C period base j m (what.Pending peer amount key) rule = rw (peers_listed C) rule.rule.0
+pub peers_known : (C : Configuration) (base : ℕ) (j : Entries) (m : ℤ) (w : What) → KeepsRule C base j m w → KnowsPeers (length (peer_assets C)) w
+peers_known C base j m (what.Hold h) rule = (rw (peers_listed C) rule.sender, rw (peers_listed C) rule.receiver)
+peers_known C base j m (what.Fulfilled hold preimage) rule = tt
+peers_known C base j m (what.Released hold cause) rule = tt
+peers_known C base j m (what.Credited c) rule = rw (peers_listed C) rule.known
+peers_known C base j m (what.Asked a) rule = rw (peers_listed C) rule.known
+peers_known C base j m (what.Confirmed ask) rule = tt
+peers_known C base j m (what.Undone ask) rule = tt
 
--- a settlement is opened where fewer are open than there is room for
-pub room_to_ask : (C : Configuration) (period base : ℕ) (j : Entries) (m : ℤ) (w : What) → KeepsRule C period base j m w → HasRoomToAsk j w
-room_to_ask C period base j m (what.Hold h) rule = tt
-room_to_ask C period base j m (what.Fulfilled hold preimage) rule = tt
-room_to_ask C period base j m (what.Released hold cause) rule = tt
-room_to_ask C period base j m (what.Credited c) rule = tt
-room_to_ask C period base j m (what.Asked a) rule = omega (arith, rule.few_open)
-room_to_ask C period base j m (what.Confirmed ask) rule = tt
-room_to_ask C period base j m (what.Undone ask) rule = tt
-room_to_ask C period base j m (what.Opened peer balance) rule = tt
-room_to_ask C period base j m (what.Known c) rule = tt
-room_to_ask C period base j m (what.Pending peer amount key) rule = omega (arith, rule.rule.1)
+-- a settlement is asked for where fewer are open than there is room for
+pub room_to_ask : (C : Configuration) (base : ℕ) (j : Entries) (m : ℤ) (w : What) → KeepsRule C base j m w → HasRoomToAsk j w
+room_to_ask C base j m (what.Hold h) rule = tt
+room_to_ask C base j m (what.Fulfilled hold preimage) rule = tt
+room_to_ask C base j m (what.Released hold cause) rule = tt
+room_to_ask C base j m (what.Credited c) rule = tt
+room_to_ask C base j m (what.Asked a) rule = omega (arith, rule.few_open)
+room_to_ask C base j m (what.Confirmed ask) rule = tt
+room_to_ask C base j m (what.Undone ask) rule = tt
 
 -- a credit's key is not kept yet
-pub key_fresh : (C : Configuration) (period base : ℕ) (j : Entries) (m : ℤ) (w : What) → KeepsRule C period base j m w → IsFresh j w
-key_fresh C period base j m (what.Hold h) rule = tt
-key_fresh C period base j m (what.Fulfilled hold preimage) rule = tt
-key_fresh C period base j m (what.Released hold cause) rule = tt
-key_fresh C period base j m (what.Credited c) rule = rule.fresh
-key_fresh C period base j m (what.Asked a) rule = tt
-key_fresh C period base j m (what.Confirmed ask) rule = tt
-key_fresh C period base j m (what.Undone ask) rule = tt
-key_fresh C period base j m (what.Opened peer balance) rule = tt
-key_fresh C period base j m (what.Known c) rule = rule.rule.1
-key_fresh C period base j m (what.Pending peer amount key) rule = tt
+pub key_fresh : (C : Configuration) (base : ℕ) (j : Entries) (m : ℤ) (w : What) → KeepsRule C base j m w → IsFresh j w
+key_fresh C base j m (what.Hold h) rule = tt
+key_fresh C base j m (what.Fulfilled hold preimage) rule = tt
+key_fresh C base j m (what.Released hold cause) rule = tt
+key_fresh C base j m (what.Credited c) rule = rule.fresh
+key_fresh C base j m (what.Asked a) rule = tt
+key_fresh C base j m (what.Confirmed ask) rule = tt
+key_fresh C base j m (what.Undone ask) rule = tt

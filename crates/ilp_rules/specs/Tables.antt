@@ -9,7 +9,7 @@ use Rattle.ilp_journal.specs.declared.entry.Hold.{Hold}
 use Rattle.ilp_journal.specs.Journal.{Entries, as_hold, answered, is_number, open_hold_at}
 use Rattle.ilp_settlement.specs.KeyTable.{PlainKeyTable, entry_of}
 use Rattle.ilp_tallies.specs.Tallies.{PlainTallies, AreTallies}
-use Rattle.ilp_journal.specs.Credits.{has_key, kept_at}
+use Rattle.ilp_rules.specs.Open.{has_key, kept_at}
 
 -- the deadline of a hold, if there is one
 abbrev pub deadline_of : Option Hold → Option ℤ
@@ -38,6 +38,6 @@ abbrev pub FollowsHolds : FinMap nat_cmp ℤ → FinMap nat_cmp ℤ → ℕ → 
 FollowsHolds old new n w = (k : ℕ) → fin_map.get new k
     ≡ (if k == n then deadline_of (as_hold w) else (if is_number k (answered w) then None else fin_map.get old k))
 
--- the key of the credit that the entry n books or brings forward is kept under that number, and the others are as they were
+-- the key of the credit that the entry n books is kept under that number, and the others are as they were
 abbrev pub KeepsKey : PlainKeyTable → PlainKeyTable → ℕ → What → Type 0
 KeepsKey old new n w = (peer : ℕ) (key : List ℕ) → entry_of new peer key ≡ (if has_key peer key w then Some n else entry_of old peer key)

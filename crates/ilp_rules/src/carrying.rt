@@ -1,6 +1,5 @@
 //! A journal that is carried over: its entries are taken up one by one.
 mod ending;
-mod heads;
 mod judging;
 mod reading;
 
@@ -26,7 +25,6 @@ const BEHIND_ALL: u32 = u32::MAX;
 #[derive(Drop)]
 pub(crate) struct Carrying<A: Allocator> {
     pub(crate) config: Config,
-    pub(crate) period: u32,
     pub(crate) journal: Journal<A>,
     pub(crate) tables: Tables<A>,
 }
@@ -38,22 +36,21 @@ impl<A: Allocator> Model for Carrying<A> {
 
     ghost Value = { PlainBook };
 
-    ghost view = { λ c. book_of c.config c.period behind_all c.journal };
+    ghost view = { λ c. book_of c.config behind_all c.journal };
 
     ghost invariant = { λ c.
-        AreCarried c.config c.period c.journal c.tables.tallies c.tables.holds c.tables.keys };
+        AreCarried c.config c.journal c.tables.tallies c.tables.holds c.tables.keys };
 }
 
 impl<A: Allocator + Clone> Carrying<A> {
-    /// A book of a period without entries yet. `AllocError` tells that memory is short.
-    pub(crate) fn new(alloc: A, config: &Config, period: u32) -> Result<Carrying<A>, AllocError>
-        ensures { IfOk result (λ c. c ≡ carrying config.now period) }
+    /// A book of no entries yet. `AllocError` tells that memory is short.
+    pub(crate) fn new(alloc: A, config: &Config) -> Result<Carrying<A>, AllocError>
+        ensures { IfOk result (λ c. c ≡ carrying config.now) }
     {
         let journal = Journal::new(alloc.clone()?, config.journal())?;
         let tables = Tables::new(alloc, config, BEHIND_ALL)?;
         Ok(Carrying {
             config: config.copy()?,
-            period,
             journal,
             tables,
         })

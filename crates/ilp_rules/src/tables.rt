@@ -42,8 +42,7 @@ impl<A: Allocator + Clone> Tables<A> {
     }
 
     /// Makes the room that an entry of this number takes in the tables, and keeps the key of a
-    /// credit, also of one that is brought forward. `AllocError` tells that memory is short, and
-    /// leaves all as it was.
+    /// credit. `AllocError` tells that memory is short, and leaves all as it was.
     pub fn prepare(&mut self, number: u32, what: &What) -> Result<(), AllocError>
         ensures tallies { self.new.tallies ≡ self.old.tallies }
         ensures holds { self.new.holds.map ≡ self.old.holds.map }
@@ -53,7 +52,7 @@ impl<A: Allocator + Clone> Tables<A> {
     {
         match what {
             What::Hold(_) => self.holds.reserve(1),
-            What::Credited(credited) | What::Known(credited) => {
+            What::Credited(credited) => {
                 self.keys
                     .keep(credited.peer, credited.key.as_slice(), number)
             }
