@@ -47,6 +47,6 @@ pub use locking::LockFile;
 pub use log_device::LogDevice;
 pub use looking::{Found, look_at};
 pub use noting::Noting;
-pub use placing::{PlacesFiles, put_in_place};
+pub use placing::{FileIdentity, FileThere, PlacesFiles, put_in_place};
 pub use taking::JournalFile;
 pub use writing::Content;

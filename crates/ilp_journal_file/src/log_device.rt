@@ -11,7 +11,7 @@ use ilp_notices::{log_begun, log_unwritten};
 use std::alloc::Global;
 use std::fs::{File, OpenFile};
 use std::io;
-use std::io::{Eprint, ErrorKind, Read, Seek, SeekFrom, Write};
+use std::io::{Eprint, ErrorKind, Read, Seek, Write};
 use std::time::Clock;
 
 /// Where a log lies, and what it may be.
@@ -55,8 +55,7 @@ where
 {
     /// A log with these first lines, in place of one that is there.
     pub(crate) fn create(rt: &'r R, place: LogPlace, head: &[u8]) -> io::Result<Self> {
-        let file = rt.create_anew(place.new.as_str(), place.mode)?;
-        let mut file = GivenFile::new(file);
+        let mut file = GivenFile::create(rt, place.new.as_str(), place.mode)?;
         file.put(0, head, place.most)?;
         file.take_name(rt, &place)?;
         Ok(LogDevice {
@@ -71,10 +70,8 @@ where
 
     // Makes the new file.
     fn create_anew(&mut self) -> io::Result<()> {
-        let file = self
-            .rt
-            .create_anew(self.place.new.as_str(), self.place.mode)?;
-        self.anew = Some(GivenFile::new(file));
+        let file = GivenFile::create(self.rt, self.place.new.as_str(), self.place.mode)?;
+        self.anew = Some(file);
         self.place.most = self.rt.most_octets();
         Ok(())
     }
@@ -82,7 +79,10 @@ where
     // Writes behind what the new file has.
     fn add_anew(&mut self, octets: &[u8]) -> io::Result<()> {
         match &mut self.anew {
-            Some(file) => file.add(octets, self.place.most),
+            Some(file) => {
+                file.expect_at(self.rt, self.place.new.as_str())?;
+                file.add(octets, self.place.most)
+            }
             None => Err(io::Error::from(ErrorKind::NotFound)),
         }
     }
@@ -100,33 +100,28 @@ where
 
     // Writes these octets from a place on.
     fn put(&mut self, at: u64, octets: &[u8]) -> io::Result<()> {
-        self.expect_there()?;
+        self.expect_whole()?;
         self.file.put(at, octets, self.place.most)
     }
 
     // Has the disk keep what was written, where that is asked for, and finds all of it.
     fn keep(&mut self) -> io::Result<()> {
         if self.place.sync == LogSync::Group {
-            self.file.file.sync_data()?;
+            self.file.sync_data()?;
         }
-        self.file.expect_whole()?;
-        self.expect_there()
+        self.expect_whole()
     }
 
-    // Finds that the file is the one that lies at its path.
-    fn expect_there(&self) -> io::Result<()> {
-        match self.rt.is_at(&self.file.file, self.place.path.as_str()) {
-            Ok(true) => Ok(()),
-            Ok(false) => Err(io::Error::from(ErrorKind::NotFound)),
-            Err(error) => Err(error),
-        }
+    // Finds that the file lies at its path, with all that it was given.
+    fn expect_whole(&self) -> io::Result<()> {
+        self.file.expect_at(self.rt, self.place.path.as_str())
     }
 }
 
 impl<F: Write + Seek + OpenFile> GivenFile<F> {
     // Takes the name of a log, once the disk has it.
     fn take_name<R: PlacesFiles>(&self, rt: &R, place: &LogPlace) -> io::Result<()> {
-        self.file.sync_all()?;
+        self.sync_all()?;
         rt.put_in_place(
             place.new.as_str(),
             place.path.as_str(),
@@ -182,10 +177,10 @@ where
     ghost only_now = { λ none. absurd none };
 
     fn read(&mut self, alloc: Global) -> Result<Vec<u8>, DeviceFault> {
-        if self.file.file.seek(SeekFrom::Start(0)).is_err() {
+        let Ok(file) = self.file.first_octet() else {
             return Err(DeviceFault::Failed);
-        }
-        match read_to_limit(alloc, &mut self.file.file, TEXT_LIMIT) {
+        };
+        match read_to_limit(alloc, file, TEXT_LIMIT) {
             Ok(text) => Ok(text),
             Err(ReadFault::Memory) => Err(DeviceFault::Memory),
             Err(_) => Err(DeviceFault::Failed),

@@ -2,10 +2,24 @@
 
 use crate::limited::most_octets;
 use crate::writing::create_anew;
-use std::fs::{File, OpenFile};
+use std::fs::{File, Metadata, OpenFile};
 use std::os::unix::fs::MetadataExt;
 use std::rt::{Files, HostRuntime};
 use std::{fs, io};
+
+/// Which file of a system it is: no two that lie there at once have the same.
+#[derive(Clone, Copy, PartialEq, Eq)]
+pub struct FileIdentity {
+    pub device: u64,
+    pub inode: u64,
+}
+
+/// What lies at a path: which file it is, and how many octets it has.
+#[derive(Clone, Copy)]
+pub struct FileThere {
+    pub identity: FileIdentity,
+    pub len: u64,
+}
 
 /// A system in whose folders new files take the place of others, also for a log that threads share.
 ///
@@ -21,12 +35,24 @@ pub trait PlacesFiles {
     /// even where the machine stops. Both are in the folder.
     fn put_in_place(&self, new: &str, path: &str, folder: &str) -> io::Result<()>;
 
-    /// Whether the file is the one that lies at the path.
-    fn is_at(&self, file: &Self::File, path: &str) -> io::Result<bool>;
+    /// Which file it is.
+    fn identity(&self, file: &Self::File) -> io::Result<FileIdentity>;
+
+    /// What lies at the path. A link is not followed.
+    fn look(&self, path: &str) -> io::Result<FileThere>;
 
     /// The most octets that a file of this process may have now. Of more the system would end it by a signal
     /// (SIGXFSZ).
     fn most_octets(&self) -> u64;
+}
+
+impl FileIdentity {
+    fn of(file: &Metadata) -> FileIdentity {
+        FileIdentity {
+            device: file.dev(),
+            inode: file.ino(),
+        }
+    }
 }
 
 impl PlacesFiles for HostRuntime {
@@ -40,9 +66,16 @@ impl PlacesFiles for HostRuntime {
         put_in_place(self, new, path, folder)
     }
 
-    fn is_at(&self, file: &File, path: &str) -> io::Result<bool> {
-        let (open, there) = (file.metadata()?, fs::symlink_metadata(self, path)?);
-        Ok(open.dev() == there.dev() && open.ino() == there.ino())
+    fn identity(&self, file: &File) -> io::Result<FileIdentity> {
+        Ok(FileIdentity::of(&file.metadata()?))
+    }
+
+    fn look(&self, path: &str) -> io::Result<FileThere> {
+        let there = fs::symlink_metadata(self, path)?;
+        Ok(FileThere {
+            identity: FileIdentity::of(&there),
+            len: there.len(),
+        })
     }
 
     fn most_octets(&self) -> u64 {

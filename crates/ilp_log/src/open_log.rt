@@ -234,6 +234,30 @@ impl<J: Naming, K: LogNaming, D: Device + Drop> OpenLog<J, K, D> {
         self.put(&group)
     }
 
+    // Writes a group where entries that the receipt has seen are not on the disk, and else looks. Either takes
+    // the desk's lock once, for which all workers wait.
+    fn write_or_look(
+        &mut self,
+        rt: &impl Wait,
+        alloc: Global,
+        desk: &Desk<J>,
+        receipt: &mut JournalReceipt<J>,
+    ) -> Result<(), LogFault>
+        ensures begins { IsPrefix receipt.old receipt.new }
+        ensures mine { IsPrefix self.old.seen receipt.new }
+        ensures seen { self.new.seen ≡ receipt.new }
+        ensures within { self.old.count ≤ length self.old.seen }
+        ensures any_moment { D.claims → LeavesOnly D.moment D.left_since
+            self.old.device self.new.device
+            (IsBetween (lines_of K.form (written self.old)) (lines_of K.form receipt.new)) }
+    {
+        if self.count() < receipt.len() {
+            return self.write_group(rt, alloc, desk, receipt);
+        }
+        self.look(rt, desk, receipt);
+        Ok(())
+    }
+
     /// Sees that all entries that the receipt has seen are on the disk: writes those of the desk that are
     /// not, in groups with one sync each, until these are. Then it tells what is on the disk.
     ///
@@ -262,7 +286,7 @@ impl<J: Naming, K: LogNaming, D: Device + Drop> OpenLog<J, K, D> {
             (lines_of K.form receipt.old) kept) }
     {
         let upto = receipt.len();
-        self.look(rt, desk, receipt);
+        self.write_or_look(rt, alloc, desk, receipt)?;
         while self.count() < upto {
             self.write_group(rt, alloc, desk, receipt)?;
         }

@@ -30,9 +30,7 @@ struct Turn<J: Naming, K: LogNaming, D: Device + Drop> {
     goes_on: bool,
     // How many threads wait for this turn or the next.
     waiting: u32,
-    // How many entries were on the disk at the end of the last turn that is over, and passes that say so. A turn
-    // brings the heap.
-    count: u32,
+    // Passes that were made at the end of a turn and that nobody has taken. A turn brings the heap.
     passes: Option<Vec<Pass<J, K, D>>>,
 }
 
@@ -113,7 +111,6 @@ impl<J: Naming, K: LogNaming, D: Device + Drop> Turn<J, K, D> {
             number: 0,
             goes_on: false,
             waiting: 0,
-            count: 0,
             passes: None,
         }
     }
@@ -122,14 +119,11 @@ impl<J: Naming, K: LogNaming, D: Device + Drop> Turn<J, K, D> {
     fn pass(&mut self, upto: u32) -> Option<Pass<J, K, D>>
         ensures enough { IfSome result (λ pass. upto ≤ pass.count) }
     {
-        if self.count < upto {
+        let passes = self.passes.as_mut()?;
+        if passes.last()?.count() < upto {
             return None;
         }
-        let pass = self.passes.as_mut()?.pop()?;
-        if pass.count() < upto {
-            return None;
-        }
-        Some(pass)
+        passes.pop()
     }
 
     // Begins the next turn, unless this one goes on.
@@ -149,7 +143,6 @@ impl<J: Naming, K: LogNaming, D: Device + Drop> Turn<J, K, D> {
 
     // Makes a pass for each that waits. Whom memory is denied for has a turn of its own.
     fn serve(&mut self, rt: &impl Wait, alloc: Global, desk: &Desk<J>, log: &mut OpenLog<J, K, D>) {
-        self.count = log.count();
         let mut passes = self.passes.take().unwrap_or(Vec::new(alloc));
         passes.clear();
         let mut book = desk.lock(rt);

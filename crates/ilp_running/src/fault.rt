@@ -43,14 +43,3 @@ impl ServeFault {
         }
     }
 }
-
-impl From<Unprinted> for ServeFault {
-    ghost use Rattle.std.specs.Prelude.{◌≡◌};
-    ghost use Rattle.ilp_running.specs.declared.fault.ServeFault.TheVariants as serve_fault;
-
-    ghost from_gives = { λ why result. result ≡ serve_fault.Unprinted why };
-
-    fn from(why: Unprinted) -> ServeFault {
-        ServeFault::Unprinted(why)
-    }
-}

@@ -1,8 +1,8 @@
 //! What runs over a disk.
 
-use crate::disk::{Disk, FOLDER, When, unsupported};
+use crate::disk::{Disk, FOLDER, When, absent, unsupported};
 use crate::handle::Handle;
-use ilp_journal_file::{PlacesFiles, put_in_place};
+use ilp_journal_file::{FileIdentity, FileThere, PlacesFiles, put_in_place};
 use std::alloc::{Alloc, Allocator, Global};
 use std::fmt::Display;
 use std::fs::{Metadata, OpenOptions};
@@ -100,13 +100,31 @@ impl<'d> PlacesFiles for Machine<'d> {
         put_in_place(self, new, path, folder)
     }
 
-    fn is_at(&self, file: &Handle<'d>, path: &str) -> io::Result<bool> {
-        let state = self.0.state()?;
-        Ok(Some(state.content_of(path)?) == file.content)
+    fn identity(&self, file: &Handle<'d>) -> io::Result<FileIdentity> {
+        Ok(identity_of(file.content.ok_or(unsupported())?))
+    }
+
+    fn look(&self, path: &str) -> io::Result<FileThere> {
+        let mut state = self.0.state()?;
+        state.call()?;
+        let found = state.content_of(path)?;
+        let content = state.contents.get(found).ok_or(absent())?;
+        Ok(FileThere {
+            identity: identity_of(found),
+            len: content.now.len() as u64,
+        })
     }
 
     fn most_octets(&self) -> u64 {
         u64::MAX
+    }
+}
+
+// All files of a disk lie on one device.
+fn identity_of(content: usize) -> FileIdentity {
+    FileIdentity {
+        device: 0,
+        inode: content as u64,
     }
 }
 
