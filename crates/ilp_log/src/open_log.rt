@@ -247,6 +247,7 @@ impl<J: Naming, K: LogNaming, D: Device + Drop> OpenLog<J, K, D> {
         ensures mine { IsPrefix self.old.seen receipt.new }
         ensures seen { self.new.seen ≡ receipt.new }
         ensures within { self.old.count ≤ length self.old.seen }
+        ensures count { self.old.count ≤ self.new.count }
         ensures any_moment { D.claims → LeavesOnly D.moment D.left_since
             self.old.device self.new.device
             (IsBetween (lines_of K.form (written self.old)) (lines_of K.form receipt.new)) }
