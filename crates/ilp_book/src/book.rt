@@ -34,12 +34,23 @@ use std::marker::Model;
 /// A configuration, and the journal of what was booked by it, with tables of what it comes to. The
 /// journal is lawful, no hold was open where the book began, and there is room in memory for
 /// whatever ends what is open.
-#[derive(Drop)]
 pub struct Book<A: Allocator = Global> {
     config: Config,
     base: u32,
     journal: Journal<A>,
     tables: Tables<A>,
+}
+
+// By hand, so that who owns a book proves one call where it goes, and not what becomes of each of its parts.
+impl<A: Allocator> Drop for Book<A> {
+    fn drop(self) {
+        let Book {
+            config: _,
+            base: _,
+            journal: _,
+            tables: _,
+        } = self;
+    }
 }
 
 impl<A: Allocator> Model for Book<A> {
