@@ -56,27 +56,27 @@ pub(crate) fn reply_text<A: Allocator + Copy>(
     ensures { IfOk result (λ text. text.items ≡ texts.reply_text book.now reply) }
 {
     let text = match reply {
-        LineReply::Silent => String::new(alloc),
-        LineReply::BadLine => String::from_str(alloc, "bad line\n")?,
-        LineReply::BadPacket(refusal) => format!(in alloc; "bad packet {refusal}\n")?,
-        LineReply::Held(held) => held_text(alloc, book, held)?,
-        LineReply::Rejected(fault) => rejected_text(alloc, fault)?,
-        LineReply::Answered { hold, outcome } => outcome_text(alloc, hold, outcome)?,
-        LineReply::NotOpen { number, closer } => not_open_text(alloc, number, closer)?,
-        LineReply::NoneDue => String::from_str(alloc, "none due\n")?,
-        LineReply::Credited(kept) => credited_text(alloc, kept)?,
+        LineReply::Silent => Ok(String::new(alloc)),
+        LineReply::BadLine => String::from_str(alloc, "bad line\n"),
+        LineReply::BadPacket(refusal) => format!(in alloc; "bad packet {refusal}\n"),
+        LineReply::Held(held) => held_text(alloc, book, held),
+        LineReply::Rejected(fault) => rejected_text(alloc, fault),
+        LineReply::Answered { hold, outcome } => outcome_text(alloc, hold, outcome),
+        LineReply::NotOpen { number, closer } => not_open_text(alloc, number, closer),
+        LineReply::NoneDue => String::from_str(alloc, "none due\n"),
+        LineReply::Credited(kept) => credited_text(alloc, kept),
         LineReply::Asked(Asked { number, amount }) => {
-            format!(in alloc; "entry {number} asked {amount}\n")?
+            format!(in alloc; "entry {number} asked {amount}\n")
         }
         LineReply::Confirmed { number, entry } => {
-            format!(in alloc; "entry {entry} confirmed {number}\n")?
+            format!(in alloc; "entry {entry} confirmed {number}\n")
         }
         LineReply::Undone { number, entry } => {
-            format!(in alloc; "entry {entry} undone {number}\n")?
+            format!(in alloc; "entry {entry} undone {number}\n")
         }
-        LineReply::Refused(refusal) => format!(in alloc; "refused {refusal}\n")?,
+        LineReply::Refused(refusal) => format!(in alloc; "refused {refusal}\n"),
         LineReply::Report => return report_text(alloc, book),
-    };
+    }?;
     Ok(text.into_bytes())
 }
 
