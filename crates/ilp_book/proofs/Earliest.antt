@@ -175,14 +175,6 @@ earliest_is j n h is = of (earliest j) refl
         let hold : x.1 ≡ h = some_same x.1 h (sym its.is_open ∙ ap (open_hold_at j) number ∙ is.is_open) in
         ap Some (rw (number, hold) refl)
 
--- where there is none, none is open
-pub none_is_open : (j : Entries) → earliest j ≡ None → (n : ℕ) → open_hold_at j n ≡ None
-none_is_open j none n = of (open_hold_at j n) refl
-  where
-    of : (o : Option Hold) → open_hold_at j n ≡ o → o ≡ None
-    of None e = refl
-    of (Some h) e = let parts = open_stands j n h e in absurd (none_earliest (is_unanswered j) 0 j none n h (subst (λ m. is_unanswered j m ≡ true) (sym (zero-add n)) parts.0) parts.1)
-
 -- where none is open there is none
 pub earliest_none : (j : Entries) → ((n : ℕ) → open_hold_at j n ≡ None) → earliest j ≡ None
 earliest_none j none = of (earliest j) refl

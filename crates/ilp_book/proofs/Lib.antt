@@ -8,12 +8,3 @@ pub mod Earliest
 pub mod SettledForGood
 pub mod RowProofs
 pub mod RejectCodes
-pub mod PeerNames
-pub mod NextHeads
-pub mod NextLawful
-pub mod NextLists
-pub mod NextSteps
-pub mod NextBooks
-pub mod NextJudging
-pub mod KeyLengths
-pub mod NextEntries

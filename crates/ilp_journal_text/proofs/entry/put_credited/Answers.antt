@@ -1,6 +1,6 @@
 use Rattle.std.proofs.Common.{subst, rules}
 use Rattle.hex.specs.Hex.{IsBytes}
-use Rattle.ilp_journal_text.proofs.entry.put_credit.Goals as goal
+use Rattle.ilp_journal_text.proofs.entry.put_credited.Goals as goal
 
 -- the numbers are of their types
 pub returns-clause-typed : goal.returns-clause-typed
