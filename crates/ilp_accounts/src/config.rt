@@ -27,12 +27,23 @@ use toml::Table;
 
 /// The configuration of a connector. It is valid: what each layer relies on stands in `IsValid`,
 /// which `journal`, `assets`, `peers` and `route` tell.
-#[derive(Drop)]
 pub struct Config {
     settings: Settings<String>,
     assets: AssetTable,
     peers: Peers,
     routes: RouteIndex,
+}
+
+// By hand, so that who owns a configuration proves one call where it goes, and not what becomes of each of its parts.
+impl Drop for Config {
+    fn drop(self) {
+        let Config {
+            settings: _,
+            assets: _,
+            peers: _,
+            routes: _,
+        } = self;
+    }
 }
 
 impl Model for Config {
