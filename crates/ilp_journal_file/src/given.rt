@@ -74,8 +74,8 @@ impl<F: Write + Seek + OpenFile> GivenFile<F> {
         self.put(len, octets, most)
     }
 
-    /// The file, from its first octet on.
-    pub(crate) fn first_octet(&mut self) -> io::Result<&mut F> {
+    /// The file, to be read from its start on.
+    pub(crate) fn from_start(&mut self) -> io::Result<&mut F> {
         self.at = None;
         self.file.seek(SeekFrom::Start(0))?;
         Ok(&mut self.file)

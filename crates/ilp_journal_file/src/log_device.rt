@@ -104,11 +104,13 @@ where
         self.file.put(at, octets, self.place.most)
     }
 
-    // Has the disk keep what was written, where that is asked for, and finds all of it.
+    // Has the disk keep what was written, where that is asked for, and finds all of it: a sync takes long
+    // enough for somebody to remove or cut the file meanwhile.
     fn keep(&mut self) -> io::Result<()> {
-        if self.place.sync == LogSync::Group {
-            self.file.sync_data()?;
+        if self.place.sync == LogSync::Off {
+            return Ok(());
         }
+        self.file.sync_data()?;
         self.expect_whole()
     }
 
@@ -177,7 +179,7 @@ where
     ghost only_now = { λ none. absurd none };
 
     fn read(&mut self, alloc: Global) -> Result<Vec<u8>, DeviceFault> {
-        let Ok(file) = self.file.first_octet() else {
+        let Ok(file) = self.file.from_start() else {
             return Err(DeviceFault::Failed);
         };
         match read_to_limit(alloc, file, TEXT_LIMIT) {

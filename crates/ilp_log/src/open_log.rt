@@ -211,8 +211,9 @@ impl<J: Naming, K: LogNaming, D: Device + Drop> OpenLog<J, K, D> {
         self.hand(alloc, &mut book)
     }
 
-    // Writes a group of the desk's entries. The desk's lock is free while the device is asked.
-    fn write_group(
+    // Writes a group of the desk's entries where some that the receipt has seen are not on the disk, and else
+    // looks. Either takes the desk's lock once, for which all workers wait; it is free while the device is asked.
+    fn write_or_look(
         &mut self,
         rt: &impl Wait,
         alloc: Global,
@@ -230,33 +231,12 @@ impl<J: Naming, K: LogNaming, D: Device + Drop> OpenLog<J, K, D> {
             self.old.device self.new.device
             (IsBetween (lines_of K.form (written self.old)) (lines_of K.form receipt.new)) }
     {
+        if receipt.len() <= self.count() {
+            self.look(rt, desk, receipt);
+            return Ok(());
+        }
         let group = self.copy(rt, alloc, desk, receipt)?;
         self.put(&group)
-    }
-
-    // Writes a group where entries that the receipt has seen are not on the disk, and else looks. Either takes
-    // the desk's lock once, for which all workers wait.
-    fn write_or_look(
-        &mut self,
-        rt: &impl Wait,
-        alloc: Global,
-        desk: &Desk<J>,
-        receipt: &mut JournalReceipt<J>,
-    ) -> Result<(), LogFault>
-        ensures begins { IsPrefix receipt.old receipt.new }
-        ensures mine { IsPrefix self.old.seen receipt.new }
-        ensures seen { self.new.seen ≡ receipt.new }
-        ensures within { self.old.count ≤ length self.old.seen }
-        ensures count { self.old.count ≤ self.new.count }
-        ensures any_moment { D.claims → LeavesOnly D.moment D.left_since
-            self.old.device self.new.device
-            (IsBetween (lines_of K.form (written self.old)) (lines_of K.form receipt.new)) }
-    {
-        if self.count() < receipt.len() {
-            return self.write_group(rt, alloc, desk, receipt);
-        }
-        self.look(rt, desk, receipt);
-        Ok(())
     }
 
     /// Sees that all entries that the receipt has seen are on the disk: writes those of the desk that are
@@ -287,11 +267,12 @@ impl<J: Naming, K: LogNaming, D: Device + Drop> OpenLog<J, K, D> {
             (lines_of K.form receipt.old) kept) }
     {
         let upto = receipt.len();
-        self.write_or_look(rt, alloc, desk, receipt)?;
-        while self.count() < upto {
-            self.write_group(rt, alloc, desk, receipt)?;
+        loop {
+            self.write_or_look(rt, alloc, desk, receipt)?;
+            if upto <= self.count() {
+                return self.tell();
+            }
         }
-        self.tell()
     }
 
     /// `commit` of all entries of a desk that no other thread has: the book is what was under its lock.

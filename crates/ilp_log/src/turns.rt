@@ -7,7 +7,13 @@ use crate::pass::Pass;
 use ilp_desk::{Desk, Naming};
 use ilp_line_file::Device;
 use std::alloc::Global;
-use std::sync::{Condvar, Mutex, Wait};
+use std::hint::spin_loop;
+use std::sync::atomic::{AtomicU64, Ordering};
+use std::sync::{Condvar, Mutex, MutexGuard, Wait};
+
+// How often who comes looks whether the turn is over, before it sleeps: for about as long as a turn takes where
+// a sync costs nothing. To fall asleep and be called takes longer.
+const MOST_LOOKS: u32 = 400;
 
 /// Gives threads their turns to write a log, one after the other. In its turn one writes all that is booked by
 /// then, so those who came before it began need no turn of their own: they get passes, and never wait for the
@@ -18,6 +24,8 @@ use std::sync::{Condvar, Mutex, Wait};
 #[derive(Drop)]
 pub(crate) struct Turns<J: Naming, K: LogNaming, D: Device + Drop> {
     turn: Mutex<Turn<J, K, D>>,
+    // The last turn that is over, to look at without the lock.
+    over: AtomicU64,
     // Where those wait who are served by a turn with an even number, and by one with an odd number.
     even: Condvar,
     odd: Condvar,
@@ -39,6 +47,7 @@ impl<J: Naming, K: LogNaming, D: Device + Drop> Turns<J, K, D> {
     pub(crate) fn new() -> Turns<J, K, D> {
         Turns {
             turn: Mutex::new(Turn::none()),
+            over: AtomicU64::new(0),
             even: Condvar::new(),
             odd: Condvar::new(),
         }
@@ -52,6 +61,7 @@ impl<J: Naming, K: LogNaming, D: Device + Drop> Turns<J, K, D> {
         let mut turn = self.turn.lock(rt);
         // The next turn serves it at the latest.
         let mut mine = turn.number.wrapping_add(1);
+        let mut has_looked = false;
         for _ in rt.forever() {
             if let Some(pass) = turn.pass(upto) {
                 let awaited = turn.is_awaited(mine);
@@ -67,10 +77,32 @@ impl<J: Naming, K: LogNaming, D: Device + Drop> Turns<J, K, D> {
             }
             mine = mine.max(turn.number);
             turn.waiting = turn.waiting.saturating_add(1);
-            turn = self.place(mine).wait(rt, turn);
+            turn = if has_looked {
+                self.place(mine).wait(rt, turn)
+            } else {
+                self.look(rt, turn)
+            };
+            has_looked = true;
             turn.waiting = turn.waiting.saturating_sub(1);
         }
         None
+    }
+
+    // Frees the lock and looks for a while whether the turn is over.
+    fn look<'t>(
+        &'t self,
+        rt: &impl Wait,
+        turn: MutexGuard<'t, Turn<J, K, D>>,
+    ) -> MutexGuard<'t, Turn<J, K, D>> {
+        let number = turn.number;
+        drop(turn);
+        for _ in 0..MOST_LOOKS {
+            if self.over.load(Ordering::SeqCst) == number {
+                break;
+            }
+            spin_loop();
+        }
+        self.turn.lock(rt)
     }
 
     /// Ends a turn: those who wait get passes for what is on the disk. They are to be called, by the turn's number.
@@ -86,6 +118,7 @@ impl<J: Naming, K: LogNaming, D: Device + Drop> Turns<J, K, D> {
             turn.serve(rt, alloc, desk, log);
         }
         turn.goes_on = false;
+        self.over.store(turn.number, Ordering::SeqCst);
         turn.number
     }
 

@@ -100,12 +100,22 @@ pub(crate) fn begin<'d>(
     alloc: Global,
     file: &JournalFile<Handle<'d>>,
 ) -> Result<Log<'d>, FileFault> {
+    begin_with(machine, alloc, file, LogSync::Group)
+}
+
+// The same, with syncs or without.
+fn begin_with<'d>(
+    machine: &'d Machine<'d>,
+    alloc: Global,
+    file: &JournalFile<Handle<'d>>,
+    sync: LogSync,
+) -> Result<Log<'d>, FileFault> {
     file.read(machine, alloc)?;
     if file.read_log(machine, alloc)?.is_some() {
         file.save_at_start(machine, alloc, &Text(START_TEXT))?;
     }
     file.remember(machine, alloc, REMEMBERED)?;
-    let device = file.begin_log(machine, alloc, HEAD, LogSync::Group)?;
+    let device = file.begin_log(machine, alloc, HEAD, sync)?;
     Ok(LineFile {
         device,
         end: HEAD.len(),
@@ -328,12 +338,24 @@ fn a_log_in_whose_place_another_lies_takes_no_lines(rt: HostRuntime) -> Result<(
     expect_noticed(&rt, Deed::Replaces)
 }
 
-// Where somebody did this to a log, nothing more is told to be on the disk, and a line says so.
+// Where somebody did this to a log, with syncs or without, nothing more is told to be on the disk, and a line
+// says so.
 fn expect_noticed(rt: &(impl Abort + AllocGlobal), deed: Deed) -> Result<(), Fail> {
+    for sync in [LogSync::Group, LogSync::Off] {
+        expect_noticed_with(rt, deed, sync)?;
+    }
+    Ok(())
+}
+
+fn expect_noticed_with(
+    rt: &(impl Abort + AllocGlobal),
+    deed: Deed,
+    sync: LogSync,
+) -> Result<(), Fail> {
     let disk = old_disk(rt.alloc(), Begins::Saved, NEVER)?;
     let machine = Machine(&disk);
     let file = JournalFile::take(&machine, rt.alloc(), JOURNAL)?;
-    let mut log = begin(&machine, rt.alloc(), &file)?;
+    let mut log = begin_with(&machine, rt.alloc(), &file, sync)?;
     append(&mut log, LINES[0])?;
     assert!(rt; !disk.has_told("is not on the disk")?);
     deed.do_to_log(&disk)?;
