@@ -6,8 +6,8 @@ use ilp_described::{describe_packet, reject_words};
 use ilp_offline::bad_lines;
 use ilp_refusals::Refusal;
 use std::alloc::Global;
+use std::io;
 use std::process::Abort;
-use std::test::Fail;
 use test_allocator::DenyingAllocator;
 
 // A Fulfill of 32 zero octets with the data `0a`.
@@ -19,16 +19,22 @@ const REJECT: &str = "0e1254303108746573742e687562026e6f0200ff";
 // Two bad lines: a word that is none, and digits that are none of hexadecimal.
 const SCRIPT: &[u8] = b"repor\nhold 1 alice 0g\nreport\n";
 
-#[test]
-fn each_description(rt: HostRuntime) -> Result<(), Fail> {
+/// Describes packets and tells the bad lines of a script, with each growth denied in turn.
+pub(super) fn describe_each(rt: &(impl Abort + AllocGlobal)) -> io::Result<()> {
+    each_description(rt)?;
+    words_of_a_reject(rt)?;
+    bad_lines_of_a_script(rt)
+}
+
+fn each_description(rt: &(impl Abort + AllocGlobal)) -> io::Result<()> {
     for packet in [PREPARE, FULFILL, REJECT] {
-        describe(&rt, packet)?;
+        describe(rt, packet)?;
     }
     Ok(())
 }
 
 // Describes a packet with each growth denied in turn.
-fn describe(rt: &(impl Abort + AllocGlobal), packet: &str) -> Result<(), Fail> {
+fn describe(rt: &(impl Abort + AllocGlobal), packet: &str) -> io::Result<()> {
     for granted in 0..GROWTHS {
         let attempt = attempt_description(rt.alloc(), packet, granted);
         assert_eq!(rt;
@@ -62,8 +68,7 @@ fn attempt_description(alloc: Global, packet: &str, granted: u64) -> Described {
     }
 }
 
-#[test]
-fn words_of_a_reject(rt: HostRuntime) -> Result<(), Fail> {
+fn words_of_a_reject(rt: &(impl Abort + AllocGlobal)) -> io::Result<()> {
     for granted in 0..GROWTHS {
         let counted = words_found(rt.alloc(), granted);
         if !counted.is_denied {
@@ -77,14 +82,13 @@ fn words_of_a_reject(rt: HostRuntime) -> Result<(), Fail> {
     Ok(())
 }
 
-#[test]
-fn bad_lines_of_a_script(rt: HostRuntime) -> Result<(), Fail> {
+fn bad_lines_of_a_script(rt: &(impl Abort + AllocGlobal)) -> io::Result<()> {
     let config = built_in(rt.alloc())?;
-    tell_bad_lines(&rt, &config)
+    tell_bad_lines(rt, &config)
 }
 
 // Tells the bad lines with each growth denied in turn.
-fn tell_bad_lines(rt: &(impl Abort + AllocGlobal), config: &Config) -> Result<(), Fail> {
+fn tell_bad_lines(rt: &(impl Abort + AllocGlobal), config: &Config) -> io::Result<()> {
     for granted in 0..GROWTHS {
         let counted = bad_lines_found(rt.alloc(), config, granted);
         if !counted.is_denied {

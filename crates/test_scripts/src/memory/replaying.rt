@@ -5,8 +5,8 @@ use ilp_accounts::Config;
 use ilp_io::{Pieces, Recording};
 use ilp_offline::{ReplayFault, replay};
 use std::alloc::{AllocError, Global};
+use std::io;
 use std::process::Abort;
-use std::test::Fail;
 use test_allocator::DenyingAllocator;
 
 // A Fulfill of 32 zero octets, without data.
@@ -120,14 +120,21 @@ const FULL_REPORT: &str = "balance   alice                                      
     entries                                                   40\n\
     fulfilled                                                 20\n";
 
-#[test]
-fn lines_of_each_form(rt: HostRuntime) -> Result<(), Fail> {
-    let script = each_form(rt.alloc())?;
-    replay_each(&rt, script.as_str(), EACH_TEXT)
+/// Replays scripts with each growth denied in turn.
+pub(super) fn replay_each_script(rt: &(impl Abort + AllocGlobal)) -> io::Result<()> {
+    lines_of_each_form(rt)?;
+    a_journal_that_fills(rt)?;
+    into_a_sink_that_is_denied_memory(rt)?;
+    up_to_a_read_that_fails(rt)?;
+    a_script_that_is_too_long(rt)
 }
 
-#[test]
-fn a_journal_that_fills(rt: HostRuntime) -> Result<(), Fail> {
+fn lines_of_each_form(rt: &(impl Abort + AllocGlobal)) -> io::Result<()> {
+    let script = each_form(rt.alloc())?;
+    replay_each(rt, script.as_str(), EACH_TEXT)
+}
+
+fn a_journal_that_fills(rt: &(impl Abort + AllocGlobal)) -> io::Result<()> {
     let alloc = rt.alloc();
     let mut script = String::new(alloc);
     let mut text = String::new(alloc);
@@ -142,7 +149,7 @@ fn a_journal_that_fills(rt: HostRuntime) -> Result<(), Fail> {
     }
     writeln!(script, "report")?;
     text.push_str(FULL_REPORT)?;
-    replay_each(&rt, script.as_str(), text.as_str())
+    replay_each(rt, script.as_str(), text.as_str())
 }
 
 // A replay of which one growth is denied: how it ended, and what became of reader and writer.
@@ -176,7 +183,7 @@ fn attempt_replay(alloc: Global, config: &Config, mut reader: Pieces<'_>, grante
 
 // Replays with each growth denied in turn. What is written until then is a front of the text,
 // of whole lines, and no shorter than where an earlier growth was denied.
-fn replay_each(rt: &(impl Abort + AllocGlobal), script: &str, text: &str) -> Result<(), Fail> {
+fn replay_each(rt: &(impl Abort + AllocGlobal), script: &str, text: &str) -> io::Result<()> {
     let config = lending(rt.alloc())?;
     replay_over_each(rt, &config, script, text)
 }
@@ -186,7 +193,7 @@ fn replay_over_each(
     config: &Config,
     script: &str,
     text: &str,
-) -> Result<(), Fail> {
+) -> io::Result<()> {
     let mut before = 0;
     for granted in 0..GROWTHS {
         let reader = Pieces::new(script.as_bytes(), PIECE);
@@ -225,18 +232,17 @@ fn denied(rt: &impl Abort, attempt: &Attempt, text: &str, granted: u64) {
     assert!(rt; written.is_empty() || written.ends_with(b"\n"));
 }
 
-#[test]
-fn into_a_sink_that_is_denied_memory(rt: HostRuntime) -> Result<(), Fail> {
+fn into_a_sink_that_is_denied_memory(rt: &(impl Abort + AllocGlobal)) -> io::Result<()> {
     let script = each_form(rt.alloc())?;
     let config = lending(rt.alloc())?;
-    sink_over_each(&rt, &config, script.as_str())
+    sink_over_each(rt, &config, script.as_str())
 }
 
 fn sink_over_each(
     rt: &(impl Abort + AllocGlobal),
     config: &Config,
     script: &str,
-) -> Result<(), Fail> {
+) -> io::Result<()> {
     let mut failed_writes = 0u64;
     for granted in 0..GROWTHS {
         let sunk = attempt_sink(rt, config, script, granted);
@@ -302,18 +308,17 @@ fn into_sink(
     }
 }
 
-#[test]
-fn up_to_a_read_that_fails(rt: HostRuntime) -> Result<(), Fail> {
+fn up_to_a_read_that_fails(rt: &(impl Abort + AllocGlobal)) -> io::Result<()> {
     let script = each_form(rt.alloc())?;
     let config = lending(rt.alloc())?;
-    fail_over_each(&rt, &config, script.as_str())
+    fail_over_each(rt, &config, script.as_str())
 }
 
 fn fail_over_each(
     rt: &(impl Abort + AllocGlobal),
     config: &Config,
     script: &str,
-) -> Result<(), Fail> {
+) -> io::Result<()> {
     for granted in 0..GROWTHS {
         let reader = Pieces::failing(script.as_bytes(), PIECE, script.len());
         let attempt = attempt_replay(rt.alloc(), config, reader, granted);
@@ -339,13 +344,12 @@ fn unwritten(rt: &impl Abort, attempt: &Attempt, fault: ReplayFault) {
     assert!(rt; attempt.written.is_empty());
 }
 
-#[test]
-fn a_script_that_is_too_long(rt: HostRuntime) -> Result<(), Fail> {
+fn a_script_that_is_too_long(rt: &(impl Abort + AllocGlobal)) -> io::Result<()> {
     let script = vec![in rt.alloc(); b'x'; MAX_SCRIPT + 1]?;
-    stop_each(&rt, &script)
+    stop_each(rt, &script)
 }
 
-fn stop_each(rt: &(impl Abort + AllocGlobal), script: &[u8]) -> Result<(), Fail> {
+fn stop_each(rt: &(impl Abort + AllocGlobal), script: &[u8]) -> io::Result<()> {
     let config = lending(rt.alloc())?;
     stop_over_each(rt, &config, script)
 }
@@ -354,7 +358,7 @@ fn stop_over_each(
     rt: &(impl Abort + AllocGlobal),
     config: &Config,
     script: &[u8],
-) -> Result<(), Fail> {
+) -> io::Result<()> {
     for granted in 0..GROWTHS {
         let reader = Pieces::new(script, 65_536);
         let attempt = attempt_replay(rt.alloc(), config, reader, granted);

@@ -5,8 +5,8 @@ use ilp_accounts::Config;
 use ilp_io::{Counting, Narrow, Pieces, Recording, Source, WhenFull};
 use ilp_offline::{ReplayFault, replay};
 use std::alloc::Global;
+use std::io;
 use std::process::Abort;
-use std::test::Fail;
 
 // A Prepare of 100 by alice that bob fulfills, and a report. The moments are 2025-01-01T00:00:00Z
 // and half a second later; the Prepare expires 30 seconds after the first, its condition is the
@@ -69,11 +69,18 @@ impl Replayed {
     }
 }
 
-#[test]
-fn stops_where_a_read_fails(rt: HostRuntime) -> Result<(), Fail> {
+/// Replays a script up to a read or a write that fails, and scripts up to the greatest length.
+pub(super) fn stop_each_replay(rt: &(impl Abort + AllocGlobal)) -> io::Result<()> {
+    stops_where_a_read_fails(rt)?;
+    stops_where_a_write_takes_nothing(rt)?;
+    reads_once_for_each_octet_and_the_end(rt)?;
+    takes_scripts_up_to_their_limit(rt)
+}
+
+fn stops_where_a_read_fails(rt: &(impl Abort + AllocGlobal)) -> io::Result<()> {
     let config = built_in(rt.alloc())?;
     for place in 0..SCRIPT.len() {
-        stops_at(&rt, &config, place);
+        stops_at(rt, &config, place);
     }
     Ok(())
 }
@@ -87,12 +94,11 @@ fn stops_at(rt: &(impl Abort + AllocGlobal), config: &Config, place: usize) {
     assert!(rt; replayed.written.is_empty());
 }
 
-#[test]
-fn stops_where_a_write_takes_nothing(rt: HostRuntime) -> Result<(), Fail> {
+fn stops_where_a_write_takes_nothing(rt: &(impl Abort + AllocGlobal)) -> io::Result<()> {
     let config = built_in(rt.alloc())?;
     for when_full in [WhenFull::TakesNone, WhenFull::Fails] {
         for room in 0..TEXT.len() {
-            is_full(&rt, &config, room, when_full);
+            is_full(rt, &config, room, when_full);
         }
     }
     Ok(())
@@ -111,14 +117,13 @@ fn is_full(rt: &(impl Abort + AllocGlobal), config: &Config, room: usize, when_f
     assert!(rt; TEXT.as_bytes().starts_with(&replayed.written));
 }
 
-#[test]
-fn reads_once_for_each_octet_and_the_end(rt: HostRuntime) -> Result<(), Fail> {
+fn reads_once_for_each_octet_and_the_end(rt: &(impl Abort + AllocGlobal)) -> io::Result<()> {
     let config = built_in(rt.alloc())?;
     let mut reader = Pieces::new(SCRIPT.as_bytes(), 1);
-    is_whole(&rt, &replay_from(rt.alloc(), &config, &mut reader));
+    is_whole(rt, &replay_from(rt.alloc(), &config, &mut reader));
     assert_eq!(rt; reader.reads, SCRIPT.len() as u64 + 1);
     let mut reader = Counting::new(SCRIPT.as_bytes());
-    is_whole(&rt, &replay_from(rt.alloc(), &config, &mut reader));
+    is_whole(rt, &replay_from(rt.alloc(), &config, &mut reader));
     assert_eq!(rt; reader.reads, 2);
     Ok(())
 }
@@ -129,11 +134,10 @@ fn is_whole(rt: &impl Abort, replayed: &Replayed) {
     assert_eq!(rt; replayed.written.as_slice(), TEXT.as_bytes());
 }
 
-#[test]
-fn takes_scripts_up_to_their_limit(rt: HostRuntime) -> Result<(), Fail> {
+fn takes_scripts_up_to_their_limit(rt: &(impl Abort + AllocGlobal)) -> io::Result<()> {
     let config = built_in(rt.alloc())?;
-    is_read(&rt, &config, 1_048_576, Ok(()))?;
-    is_read(&rt, &config, 1_048_577, Err(ReplayFault::ScriptTooLong))
+    is_read(rt, &config, 1_048_576, Ok(()))?;
+    is_read(rt, &config, 1_048_577, Err(ReplayFault::ScriptTooLong))
 }
 
 // A replay of a comment of so many octets.
@@ -142,7 +146,7 @@ fn is_read(
     config: &Config,
     len: usize,
     outcome: Result<(), ReplayFault>,
-) -> Result<(), Fail> {
+) -> io::Result<()> {
     let script = vec![in rt.alloc(); b'#'; len]?;
     let mut reader = Pieces::new(&script, 4096);
     let replayed = replay_from(rt.alloc(), config, &mut reader);

@@ -3,11 +3,17 @@
 use ilp_accounts::Config;
 use ilp_config_file::BUILT_IN;
 use std::alloc::Global;
-use std::test::Fail;
+use std::io;
+use std::io::ErrorKind;
+use std::rt::Runtime;
 
 mod describing;
 mod replaying;
 mod stopping;
+
+use describing::describe_each;
+use replaying::replay_each_script;
+use stopping::stop_each_replay;
 
 // More growths than any of these calls makes.
 const GROWTHS: u64 = 1_000;
@@ -56,12 +62,27 @@ prefix = "test.bob"
 peer = "bob"
 "#;
 
-fn lending(alloc: Global) -> Result<Config, Fail> {
-    let config = Config::read(alloc, LENDING.as_bytes())?;
-    Ok(config)
+/// Tries all of it, and prints what was tried. A result that differs ends the program.
+pub(crate) fn print_tried<R: Runtime + AllocGlobal>(rt: &R) -> io::Result<()> {
+    describe_each(rt)?;
+    println!(rt; "packets in words and faults of lines, each growth denied")?;
+    replay_each_script(rt)?;
+    println!(rt; "replays, each growth denied")?;
+    stop_each_replay(rt)?;
+    println!(rt; "replays that a reader or a writer stops")
 }
 
-fn built_in(alloc: Global) -> Result<Config, Fail> {
-    let config = Config::read(alloc, BUILT_IN.as_bytes())?;
-    Ok(config)
+fn lending(alloc: Global) -> io::Result<Config> {
+    config_of(alloc, LENDING)
+}
+
+fn built_in(alloc: Global) -> io::Result<Config> {
+    config_of(alloc, BUILT_IN)
+}
+
+fn config_of(alloc: Global, text: &str) -> io::Result<Config> {
+    match Config::read(alloc, text.as_bytes()) {
+        Ok(config) => Ok(config),
+        Err(_) => Err(io::Error::from(ErrorKind::InvalidData)),
+    }
 }
