@@ -267,12 +267,11 @@ impl<J: Naming, K: LogNaming, D: Device + Drop> OpenLog<J, K, D> {
             (lines_of K.form receipt.old) kept) }
     {
         let upto = receipt.len();
-        loop {
+        self.write_or_look(rt, alloc, desk, receipt)?;
+        while self.count() < upto {
             self.write_or_look(rt, alloc, desk, receipt)?;
-            if upto <= self.count() {
-                return self.tell();
-            }
         }
+        self.tell()
     }
 
     /// `commit` of all entries of a desk that no other thread has: the book is what was under its lock.

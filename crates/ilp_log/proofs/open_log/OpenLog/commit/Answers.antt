@@ -11,7 +11,7 @@ use Rattle.ilp_log.proofs.open_log.OpenLog.commit.Goals as goal
 pub loop-alloc-preserved : goal.loop-alloc-preserved
 loop-alloc-preserved g c =
     let i = c.loop-alloc.invariant in
-    let w = c.write_group.ensures in
+    let w = c.write_or_look-in-loop-alloc.ensures in
     let seen : IsPrefix c.args.self.now.seen c.loop-alloc.self.seen = subst (λ (l : Entries). IsPrefix c.args.self.now.seen l) (sym i.seen) i.mine in
     record {
       begins = prefix_trans _ _ _ i.begins w.begins;
@@ -20,16 +20,16 @@ loop-alloc-preserved g c =
       mine = prefix_trans _ _ _ i.mine w.begins;
       first = i.first;
       count = omega (arith, i.count, w.count);
-      leaves = λ holds. one_more_group g.D.Device.moment g.D.Device.left_since g.K.LogNaming.form c.args.self.now.device c.loop-alloc.self.device c.write_group.new.self.device c.args.self.now.seen c.loop-alloc.self.seen c.loop-alloc.receipt c.write_group.new.receipt
+      leaves = λ holds. one_more_group g.D.Device.moment g.D.Device.left_since g.K.LogNaming.form c.args.self.now.device c.loop-alloc.self.device c.write_or_look-in-loop-alloc.new.self.device c.args.self.now.seen c.loop-alloc.self.seen c.loop-alloc.receipt c.write_or_look-in-loop-alloc.new.receipt
           c.args.self.now.count c.loop-alloc.self.count i.first i.mine w.begins seen i.count (i.leaves holds) (w.any_moment holds);
     }
 
-pub returns-in_err-write_group-clause-any_moment : goal.returns-in_err-write_group-clause-any_moment
-returns-in_err-write_group-clause-any_moment g c holds =
+pub returns-in_err-write_or_look-2-clause-any_moment : goal.returns-in_err-write_or_look-2-clause-any_moment
+returns-in_err-write_or_look-2-clause-any_moment g c holds =
     let i = c.loop-alloc.invariant in
-    let w = c.write_group.ensures in
+    let w = c.write_or_look-in-loop-alloc.ensures in
     let seen : IsPrefix c.args.self.now.seen c.loop-alloc.self.seen = subst (λ (l : Entries). IsPrefix c.args.self.now.seen l) (sym i.seen) i.mine in
-    one_more_group g.D.Device.moment g.D.Device.left_since g.K.LogNaming.form c.args.self.now.device c.loop-alloc.self.device c.write_group.new.self.device c.args.self.now.seen c.loop-alloc.self.seen c.loop-alloc.receipt c.write_group.new.receipt
+    one_more_group g.D.Device.moment g.D.Device.left_since g.K.LogNaming.form c.args.self.now.device c.loop-alloc.self.device c.write_or_look-in-loop-alloc.new.self.device c.args.self.now.seen c.loop-alloc.self.seen c.loop-alloc.receipt c.write_or_look-in-loop-alloc.new.receipt
     c.args.self.now.count c.loop-alloc.self.count i.first i.mine w.begins seen i.count (i.leaves holds) (w.any_moment holds)
 
 pub returns-clause-kept : goal.returns-clause-kept
