@@ -1,13 +1,12 @@
 //! Packets in words, and what is wrong with lines of a script.
 
-use super::{GROWTHS, PREPARE, built_in};
+use super::{GROWTHS, PREPARE, built_in, differs, expect};
 use ilp_accounts::Config;
 use ilp_described::{describe_packet, reject_words};
 use ilp_offline::bad_lines;
 use ilp_refusals::Refusal;
 use std::alloc::Global;
 use std::io;
-use std::process::Abort;
 use test_allocator::DenyingAllocator;
 
 // A Fulfill of 32 zero octets with the data `0a`.
@@ -20,35 +19,29 @@ const REJECT: &str = "0e1254303108746573742e687562026e6f0200ff";
 const SCRIPT: &[u8] = b"repor\nhold 1 alice 0g\nreport\n";
 
 /// Describes packets and tells the bad lines of a script, with each growth denied in turn.
-pub(super) fn describe_each(rt: &(impl Abort + AllocGlobal)) -> io::Result<()> {
-    each_description(rt)?;
-    words_of_a_reject(rt)?;
-    bad_lines_of_a_script(rt)
+pub(super) fn describe_each(alloc: Global) -> io::Result<()> {
+    each_description(alloc)?;
+    words_of_a_reject(alloc)?;
+    bad_lines_of_a_script(alloc)
 }
 
-fn each_description(rt: &(impl Abort + AllocGlobal)) -> io::Result<()> {
+fn each_description(alloc: Global) -> io::Result<()> {
     for packet in [PREPARE, FULFILL, REJECT] {
-        describe(rt, packet)?;
+        describe(alloc, packet)?;
     }
     Ok(())
 }
 
 // Describes a packet with each growth denied in turn.
-fn describe(rt: &(impl Abort + AllocGlobal), packet: &str) -> io::Result<()> {
+fn describe(alloc: Global, packet: &str) -> io::Result<()> {
     for granted in 0..GROWTHS {
-        let attempt = attempt_description(rt.alloc(), packet, granted);
-        assert_eq!(rt;
-            attempt.refused,
-            attempt.is_denied.then_some(Refusal::Memory),
-            "after {granted} growths"
-        );
+        let attempt = attempt_description(alloc, packet, granted);
+        expect(attempt.refused == attempt.is_denied.then_some(Refusal::Memory))?;
         if !attempt.is_denied {
-            assert!(rt; granted > 1);
-            return Ok(());
+            return expect(granted > 1);
         }
     }
-    assert!(rt; false, "some growth was always denied");
-    Ok(())
+    Err(differs())
 }
 
 // A description of which one growth is denied: whether that was made, and why there is none.
@@ -68,38 +61,34 @@ fn attempt_description(alloc: Global, packet: &str, granted: u64) -> Described {
     }
 }
 
-fn words_of_a_reject(rt: &(impl Abort + AllocGlobal)) -> io::Result<()> {
+fn words_of_a_reject(alloc: Global) -> io::Result<()> {
     for granted in 0..GROWTHS {
-        let counted = words_found(rt.alloc(), granted);
+        let counted = words_found(alloc, granted);
         if !counted.is_denied {
-            assert_eq!(rt; counted.found, Some(1));
-            assert!(rt; granted > 1);
-            return Ok(());
+            expect(counted.found == Some(1))?;
+            return expect(granted > 1);
         }
-        assert!(rt; counted.found.is_none(), "after {granted} growths");
+        expect(counted.found.is_none())?;
     }
-    assert!(rt; false, "some growth was always denied");
-    Ok(())
+    Err(differs())
 }
 
-fn bad_lines_of_a_script(rt: &(impl Abort + AllocGlobal)) -> io::Result<()> {
-    let config = built_in(rt.alloc())?;
-    tell_bad_lines(rt, &config)
+fn bad_lines_of_a_script(alloc: Global) -> io::Result<()> {
+    let config = built_in(alloc)?;
+    tell_bad_lines(alloc, &config)
 }
 
 // Tells the bad lines with each growth denied in turn.
-fn tell_bad_lines(rt: &(impl Abort + AllocGlobal), config: &Config) -> io::Result<()> {
+fn tell_bad_lines(alloc: Global, config: &Config) -> io::Result<()> {
     for granted in 0..GROWTHS {
-        let counted = bad_lines_found(rt.alloc(), config, granted);
+        let counted = bad_lines_found(alloc, config, granted);
         if !counted.is_denied {
-            assert_eq!(rt; counted.found, Some(2));
-            assert!(rt; granted > 0);
-            return Ok(());
+            expect(counted.found == Some(2))?;
+            return expect(granted > 0);
         }
-        assert!(rt; counted.found.is_none(), "after {granted} growths");
+        expect(counted.found.is_none())?;
     }
-    assert!(rt; false, "some growth was always denied");
-    Ok(())
+    Err(differs())
 }
 
 // A call of which one growth is denied: whether that was made, and how much was found; nothing where

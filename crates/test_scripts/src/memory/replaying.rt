@@ -1,12 +1,11 @@
 //! Replaying scripts.
 
-use super::{GROWTHS, PREPARE, PREPARE_BACK, lending};
+use super::{GROWTHS, PREPARE, PREPARE_BACK, differs, expect, lending};
 use ilp_accounts::Config;
 use ilp_io::{Pieces, Recording};
 use ilp_offline::{ReplayFault, replay};
 use std::alloc::{AllocError, Global};
 use std::io;
-use std::process::Abort;
 use test_allocator::DenyingAllocator;
 
 // A Fulfill of 32 zero octets, without data.
@@ -121,21 +120,20 @@ const FULL_REPORT: &str = "balance   alice                                      
     fulfilled                                                 20\n";
 
 /// Replays scripts with each growth denied in turn.
-pub(super) fn replay_each_script(rt: &(impl Abort + AllocGlobal)) -> io::Result<()> {
-    lines_of_each_form(rt)?;
-    a_journal_that_fills(rt)?;
-    into_a_sink_that_is_denied_memory(rt)?;
-    up_to_a_read_that_fails(rt)?;
-    a_script_that_is_too_long(rt)
+pub(super) fn replay_each_script(alloc: Global) -> io::Result<()> {
+    lines_of_each_form(alloc)?;
+    a_journal_that_fills(alloc)?;
+    into_a_sink_that_is_denied_memory(alloc)?;
+    up_to_a_read_that_fails(alloc)?;
+    a_script_that_is_too_long(alloc)
 }
 
-fn lines_of_each_form(rt: &(impl Abort + AllocGlobal)) -> io::Result<()> {
-    let script = each_form(rt.alloc())?;
-    replay_each(rt, script.as_str(), EACH_TEXT)
+fn lines_of_each_form(alloc: Global) -> io::Result<()> {
+    let script = each_form(alloc)?;
+    replay_each(alloc, script.as_str(), EACH_TEXT)
 }
 
-fn a_journal_that_fills(rt: &(impl Abort + AllocGlobal)) -> io::Result<()> {
-    let alloc = rt.alloc();
+fn a_journal_that_fills(alloc: Global) -> io::Result<()> {
     let mut script = String::new(alloc);
     let mut text = String::new(alloc);
     for number in 0..20u32 {
@@ -149,7 +147,7 @@ fn a_journal_that_fills(rt: &(impl Abort + AllocGlobal)) -> io::Result<()> {
     }
     writeln!(script, "report")?;
     text.push_str(FULL_REPORT)?;
-    replay_each(rt, script.as_str(), text.as_str())
+    replay_each(alloc, script.as_str(), text.as_str())
 }
 
 // A replay of which one growth is denied: how it ended, and what became of reader and writer.
@@ -183,78 +181,61 @@ fn attempt_replay(alloc: Global, config: &Config, mut reader: Pieces<'_>, grante
 
 // Replays with each growth denied in turn. What is written until then is a front of the text,
 // of whole lines, and no shorter than where an earlier growth was denied.
-fn replay_each(rt: &(impl Abort + AllocGlobal), script: &str, text: &str) -> io::Result<()> {
-    let config = lending(rt.alloc())?;
-    replay_over_each(rt, &config, script, text)
+fn replay_each(alloc: Global, script: &str, text: &str) -> io::Result<()> {
+    let config = lending(alloc)?;
+    replay_over_each(alloc, &config, script, text)
 }
 
-fn replay_over_each(
-    rt: &(impl Abort + AllocGlobal),
-    config: &Config,
-    script: &str,
-    text: &str,
-) -> io::Result<()> {
+fn replay_over_each(alloc: Global, config: &Config, script: &str, text: &str) -> io::Result<()> {
     let mut before = 0;
     for granted in 0..GROWTHS {
         let reader = Pieces::new(script.as_bytes(), PIECE);
-        let attempt = attempt_replay(rt.alloc(), config, reader, granted);
+        let attempt = attempt_replay(alloc, config, reader, granted);
         if !attempt.is_denied {
-            assert!(rt; granted > 1);
-            whole(rt, &attempt, text);
-            return Ok(());
+            expect(granted > 1)?;
+            return whole(&attempt, text);
         }
-        assert!(rt; before <= attempt.written.len(), "after {granted} growths");
-        denied(rt, &attempt, text, granted);
+        expect(before <= attempt.written.len())?;
+        denied(&attempt, text)?;
         before = attempt.written.len();
     }
-    assert!(rt; false, "some growth was always denied");
-    Ok(())
+    Err(differs())
 }
 
 // A replay of which no growth was denied writes the text.
-fn whole(rt: &impl Abort, attempt: &Attempt, text: &str) {
-    assert_eq!(rt; attempt.outcome, Ok(()));
-    assert_eq!(rt; attempt.written.as_slice(), text.as_bytes());
-    assert_eq!(rt; (attempt.failed_reads, attempt.failed_writes), (0, 0));
+fn whole(attempt: &Attempt, text: &str) -> io::Result<()> {
+    expect(attempt.outcome == Ok(()))?;
+    expect(attempt.written.as_slice() == text.as_bytes())?;
+    expect((attempt.failed_reads, attempt.failed_writes) == (0, 0))
 }
 
 // One of which a growth was denied writes a front of it.
-fn denied(rt: &impl Abort, attempt: &Attempt, text: &str, granted: u64) {
+fn denied(attempt: &Attempt, text: &str) -> io::Result<()> {
     let written = attempt.written.as_slice();
-    assert_eq!(rt;
-        attempt.outcome,
-        Err(ReplayFault::Memory),
-        "after {granted} growths"
-    );
-    assert_eq!(rt; (attempt.failed_reads, attempt.failed_writes), (0, 0));
-    assert!(rt; text.as_bytes().starts_with(written));
-    assert!(rt; written.len() < text.len());
-    assert!(rt; written.is_empty() || written.ends_with(b"\n"));
+    expect(attempt.outcome == Err(ReplayFault::Memory))?;
+    expect((attempt.failed_reads, attempt.failed_writes) == (0, 0))?;
+    expect(text.as_bytes().starts_with(written))?;
+    expect(written.len() < text.len())?;
+    expect(written.is_empty() || written.ends_with(b"\n"))
 }
 
-fn into_a_sink_that_is_denied_memory(rt: &(impl Abort + AllocGlobal)) -> io::Result<()> {
-    let script = each_form(rt.alloc())?;
-    let config = lending(rt.alloc())?;
-    sink_over_each(rt, &config, script.as_str())
+fn into_a_sink_that_is_denied_memory(alloc: Global) -> io::Result<()> {
+    let script = each_form(alloc)?;
+    let config = lending(alloc)?;
+    sink_over_each(alloc, &config, script.as_str())
 }
 
-fn sink_over_each(
-    rt: &(impl Abort + AllocGlobal),
-    config: &Config,
-    script: &str,
-) -> io::Result<()> {
+fn sink_over_each(alloc: Global, config: &Config, script: &str) -> io::Result<()> {
     let mut failed_writes = 0u64;
     for granted in 0..GROWTHS {
-        let sunk = attempt_sink(rt, config, script, granted);
-        assert_eq!(rt; sunk.is_stopped, sunk.is_denied, "after {granted} growths");
+        let sunk = attempt_sink(alloc, config, script, granted)?;
+        expect(sunk.is_stopped == sunk.is_denied)?;
         if !sunk.is_denied {
-            assert!(rt; failed_writes > 1);
-            return Ok(());
+            return expect(failed_writes > 1);
         }
         failed_writes = failed_writes.saturating_add(sunk.failed_writes);
     }
-    assert!(rt; false, "some growth was always denied");
-    Ok(())
+    Err(differs())
 }
 
 // A replay into a sink of the same memory, of which one growth is denied: whether that was made, whether
@@ -267,107 +248,89 @@ struct Sunk {
 }
 
 // Replays into such a sink. The growth behind as many as are granted is denied.
-fn attempt_sink(
-    rt: &(impl Abort + AllocGlobal),
-    config: &Config,
-    script: &str,
-    granted: u64,
-) -> Sunk {
-    let heap = DenyingAllocator::after(rt.alloc(), granted);
-    let failed = into_sink(rt, &heap, config, script);
-    Sunk {
+fn attempt_sink(alloc: Global, config: &Config, script: &str, granted: u64) -> io::Result<Sunk> {
+    let heap = DenyingAllocator::after(alloc, granted);
+    let failed = into_sink(&heap, config, script)?;
+    Ok(Sunk {
         is_denied: heap.has_denied(),
         is_stopped: failed.is_some(),
         failed_writes: failed.unwrap_or(0),
-    }
+    })
 }
 
 // Replays into a sink of the same memory. It writes the whole text, or a front of it and tells how many
 // writes failed.
 fn into_sink(
-    rt: &impl Abort,
     heap: &DenyingAllocator<Global>,
     config: &Config,
     script: &str,
-) -> Option<u64> {
+) -> io::Result<Option<u64>> {
     let mut reader = Pieces::new(script.as_bytes(), PIECE);
     let mut writer = Recording::new(heap);
     let outcome = replay(heap, config, &mut reader, &mut writer);
     let written = writer.octets.as_slice();
     let failures = writer.failures;
-    assert!(rt; EACH_TEXT.as_bytes().starts_with(written));
-    assert_eq!(rt; outcome.is_ok(), written.len() == EACH_TEXT.len());
+    expect(EACH_TEXT.as_bytes().starts_with(written))?;
+    expect(outcome.is_ok() == (written.len() == EACH_TEXT.len()))?;
     match outcome {
-        Ok(()) => None,
+        Ok(()) => Ok(None),
         Err(fault) => {
             let is_write = fault == ReplayFault::WriteFault;
-            assert!(rt; is_write || fault == ReplayFault::Memory);
-            assert_eq!(rt; failures, u64::from(is_write));
-            Some(failures)
+            expect(is_write || fault == ReplayFault::Memory)?;
+            expect(failures == u64::from(is_write))?;
+            Ok(Some(failures))
         }
     }
 }
 
-fn up_to_a_read_that_fails(rt: &(impl Abort + AllocGlobal)) -> io::Result<()> {
-    let script = each_form(rt.alloc())?;
-    let config = lending(rt.alloc())?;
-    fail_over_each(rt, &config, script.as_str())
+fn up_to_a_read_that_fails(alloc: Global) -> io::Result<()> {
+    let script = each_form(alloc)?;
+    let config = lending(alloc)?;
+    fail_over_each(alloc, &config, script.as_str())
 }
 
-fn fail_over_each(
-    rt: &(impl Abort + AllocGlobal),
-    config: &Config,
-    script: &str,
-) -> io::Result<()> {
+fn fail_over_each(alloc: Global, config: &Config, script: &str) -> io::Result<()> {
     for granted in 0..GROWTHS {
         let reader = Pieces::failing(script.as_bytes(), PIECE, script.len());
-        let attempt = attempt_replay(rt.alloc(), config, reader, granted);
-        unwritten(rt, &attempt, ReplayFault::ReadFault);
-        assert_eq!(rt; attempt.failed_reads, u64::from(!attempt.is_denied));
+        let attempt = attempt_replay(alloc, config, reader, granted);
+        unwritten(&attempt, ReplayFault::ReadFault)?;
+        expect(attempt.failed_reads == u64::from(!attempt.is_denied))?;
         if !attempt.is_denied {
-            assert!(rt; granted > 1);
-            return Ok(());
+            return expect(granted > 1);
         }
     }
-    assert!(rt; false, "some growth was always denied");
-    Ok(())
+    Err(differs())
 }
 
 // Nothing is written by a replay that is denied memory, or else stopped by this.
-fn unwritten(rt: &impl Abort, attempt: &Attempt, fault: ReplayFault) {
+fn unwritten(attempt: &Attempt, fault: ReplayFault) -> io::Result<()> {
     let fault = if attempt.is_denied {
         ReplayFault::Memory
     } else {
         fault
     };
-    assert_eq!(rt; attempt.outcome, Err(fault));
-    assert!(rt; attempt.written.is_empty());
+    expect(attempt.outcome == Err(fault))?;
+    expect(attempt.written.is_empty())
 }
 
-fn a_script_that_is_too_long(rt: &(impl Abort + AllocGlobal)) -> io::Result<()> {
-    let script = vec![in rt.alloc(); b'x'; MAX_SCRIPT + 1]?;
-    stop_each(rt, &script)
+fn a_script_that_is_too_long(alloc: Global) -> io::Result<()> {
+    let script = vec![in alloc; b'x'; MAX_SCRIPT + 1]?;
+    stop_each(alloc, &script)
 }
 
-fn stop_each(rt: &(impl Abort + AllocGlobal), script: &[u8]) -> io::Result<()> {
-    let config = lending(rt.alloc())?;
-    stop_over_each(rt, &config, script)
+fn stop_each(alloc: Global, script: &[u8]) -> io::Result<()> {
+    let config = lending(alloc)?;
+    stop_over_each(alloc, &config, script)
 }
 
-fn stop_over_each(
-    rt: &(impl Abort + AllocGlobal),
-    config: &Config,
-    script: &[u8],
-) -> io::Result<()> {
+fn stop_over_each(alloc: Global, config: &Config, script: &[u8]) -> io::Result<()> {
     for granted in 0..GROWTHS {
         let reader = Pieces::new(script, 65_536);
-        let attempt = attempt_replay(rt.alloc(), config, reader, granted);
-        unwritten(rt, &attempt, ReplayFault::ScriptTooLong);
+        let attempt = attempt_replay(alloc, config, reader, granted);
+        unwritten(&attempt, ReplayFault::ScriptTooLong)?;
         if !attempt.is_denied {
-            assert!(rt; granted > 1);
-            return Ok(());
+            return expect(granted > 1);
         }
     }
-    assert!(rt; false, "some growth was always denied");
-    Ok(())
+    Err(differs())
 }

@@ -1,12 +1,11 @@
 //! Replays whose reading or writing is cut short, and the greatest length of a script.
 
-use super::built_in;
+use super::{built_in, expect};
 use ilp_accounts::Config;
 use ilp_io::{Counting, Narrow, Pieces, Recording, Source, WhenFull};
 use ilp_offline::{ReplayFault, replay};
 use std::alloc::Global;
 use std::io;
-use std::process::Abort;
 
 // A Prepare of 100 by alice that bob fulfills, and a report. The moments are 2025-01-01T00:00:00Z
 // and half a second later; the Prepare expires 30 seconds after the first, its condition is the
@@ -70,87 +69,81 @@ impl Replayed {
 }
 
 /// Replays a script up to a read or a write that fails, and scripts up to the greatest length.
-pub(super) fn stop_each_replay(rt: &(impl Abort + AllocGlobal)) -> io::Result<()> {
-    stops_where_a_read_fails(rt)?;
-    stops_where_a_write_takes_nothing(rt)?;
-    reads_once_for_each_octet_and_the_end(rt)?;
-    takes_scripts_up_to_their_limit(rt)
+pub(super) fn stop_each_replay(alloc: Global) -> io::Result<()> {
+    stops_where_a_read_fails(alloc)?;
+    stops_where_a_write_takes_nothing(alloc)?;
+    reads_once_for_each_octet_and_the_end(alloc)?;
+    takes_scripts_up_to_their_limit(alloc)
 }
 
-fn stops_where_a_read_fails(rt: &(impl Abort + AllocGlobal)) -> io::Result<()> {
-    let config = built_in(rt.alloc())?;
+fn stops_where_a_read_fails(alloc: Global) -> io::Result<()> {
+    let config = built_in(alloc)?;
     for place in 0..SCRIPT.len() {
-        stops_at(rt, &config, place);
+        stops_at(alloc, &config, place)?;
     }
     Ok(())
 }
 
 // A replay of which the read at a place fails.
-fn stops_at(rt: &(impl Abort + AllocGlobal), config: &Config, place: usize) {
+fn stops_at(alloc: Global, config: &Config, place: usize) -> io::Result<()> {
     let mut reader = Pieces::failing(SCRIPT.as_bytes(), 50, place);
-    let replayed = replay_from(rt.alloc(), config, &mut reader);
-    assert_eq!(rt; replayed.outcome, Err(ReplayFault::ReadFault), "at {place}");
-    assert_eq!(rt; reader.failures, 1);
-    assert!(rt; replayed.written.is_empty());
+    let replayed = replay_from(alloc, config, &mut reader);
+    expect(replayed.outcome == Err(ReplayFault::ReadFault))?;
+    expect(reader.failures == 1)?;
+    expect(replayed.written.is_empty())
 }
 
-fn stops_where_a_write_takes_nothing(rt: &(impl Abort + AllocGlobal)) -> io::Result<()> {
-    let config = built_in(rt.alloc())?;
+fn stops_where_a_write_takes_nothing(alloc: Global) -> io::Result<()> {
+    let config = built_in(alloc)?;
     for when_full in [WhenFull::TakesNone, WhenFull::Fails] {
         for room in 0..TEXT.len() {
-            is_full(rt, &config, room, when_full);
+            is_full(alloc, &config, room, when_full)?;
         }
     }
     Ok(())
 }
 
 // A replay into a writer with too little room.
-fn is_full(rt: &(impl Abort + AllocGlobal), config: &Config, room: usize, when_full: WhenFull) {
-    let replayed = replay_into(rt.alloc(), config, room, when_full);
-    assert_eq!(rt;
-        replayed.outcome,
-        Err(ReplayFault::WriteFault),
-        "with room for {room}"
-    );
-    assert_eq!(rt; replayed.failed_writes, 1);
-    assert_eq!(rt; replayed.written.len(), room);
-    assert!(rt; TEXT.as_bytes().starts_with(&replayed.written));
+fn is_full(alloc: Global, config: &Config, room: usize, when_full: WhenFull) -> io::Result<()> {
+    let replayed = replay_into(alloc, config, room, when_full);
+    expect(replayed.outcome == Err(ReplayFault::WriteFault))?;
+    expect(replayed.failed_writes == 1)?;
+    expect(replayed.written.len() == room)?;
+    expect(TEXT.as_bytes().starts_with(&replayed.written))
 }
 
-fn reads_once_for_each_octet_and_the_end(rt: &(impl Abort + AllocGlobal)) -> io::Result<()> {
-    let config = built_in(rt.alloc())?;
+fn reads_once_for_each_octet_and_the_end(alloc: Global) -> io::Result<()> {
+    let config = built_in(alloc)?;
     let mut reader = Pieces::new(SCRIPT.as_bytes(), 1);
-    is_whole(rt, &replay_from(rt.alloc(), &config, &mut reader));
-    assert_eq!(rt; reader.reads, SCRIPT.len() as u64 + 1);
+    is_whole(&replay_from(alloc, &config, &mut reader))?;
+    expect(reader.reads == SCRIPT.len() as u64 + 1)?;
     let mut reader = Counting::new(SCRIPT.as_bytes());
-    is_whole(rt, &replay_from(rt.alloc(), &config, &mut reader));
-    assert_eq!(rt; reader.reads, 2);
-    Ok(())
+    is_whole(&replay_from(alloc, &config, &mut reader))?;
+    expect(reader.reads == 2)
 }
 
 // A replay that nothing stopped.
-fn is_whole(rt: &impl Abort, replayed: &Replayed) {
-    assert_eq!(rt; replayed.outcome, Ok(()));
-    assert_eq!(rt; replayed.written.as_slice(), TEXT.as_bytes());
+fn is_whole(replayed: &Replayed) -> io::Result<()> {
+    expect(replayed.outcome == Ok(()))?;
+    expect(replayed.written.as_slice() == TEXT.as_bytes())
 }
 
-fn takes_scripts_up_to_their_limit(rt: &(impl Abort + AllocGlobal)) -> io::Result<()> {
-    let config = built_in(rt.alloc())?;
-    is_read(rt, &config, 1_048_576, Ok(()))?;
-    is_read(rt, &config, 1_048_577, Err(ReplayFault::ScriptTooLong))
+fn takes_scripts_up_to_their_limit(alloc: Global) -> io::Result<()> {
+    let config = built_in(alloc)?;
+    is_read(alloc, &config, 1_048_576, Ok(()))?;
+    is_read(alloc, &config, 1_048_577, Err(ReplayFault::ScriptTooLong))
 }
 
 // A replay of a comment of so many octets.
 fn is_read(
-    rt: &(impl Abort + AllocGlobal),
+    alloc: Global,
     config: &Config,
     len: usize,
     outcome: Result<(), ReplayFault>,
 ) -> io::Result<()> {
-    let script = vec![in rt.alloc(); b'#'; len]?;
+    let script = vec![in alloc; b'#'; len]?;
     let mut reader = Pieces::new(&script, 4096);
-    let replayed = replay_from(rt.alloc(), config, &mut reader);
-    assert_eq!(rt; replayed.outcome, outcome, "of {len} octets");
-    assert!(rt; replayed.written.is_empty());
-    Ok(())
+    let replayed = replay_from(alloc, config, &mut reader);
+    expect(replayed.outcome == outcome)?;
+    expect(replayed.written.is_empty())
 }
