@@ -11,9 +11,10 @@ use std::hint::spin_loop;
 use std::sync::atomic::{AtomicU64, Ordering};
 use std::sync::{Condvar, Mutex, MutexGuard, Wait};
 
-// How often who comes looks whether the turn is over, before it sleeps: for about as long as a turn takes where
-// a sync costs nothing. To fall asleep and be called takes longer.
-const MOST_LOOKS: u32 = 400;
+// How often who waits alone looks whether the turn is over, before it sleeps: for about as long as a turn takes
+// where a sync costs nothing. To fall asleep and be called takes longer. Where others wait too, no processor
+// is idle for it.
+const MOST_LOOKS: u32 = 250;
 
 /// Gives threads their turns to write a log, one after the other. In its turn one writes all that is booked by
 /// then, so those who came before it began need no turn of their own: they get passes, and never wait for the
@@ -76,11 +77,12 @@ impl<J: Naming, K: LogNaming, D: Device + Drop> Turns<J, K, D> {
                 return None;
             }
             mine = mine.max(turn.number);
+            let may_look = turn.waiting == 0 && !has_looked;
             turn.waiting = turn.waiting.saturating_add(1);
-            turn = if has_looked {
-                self.place(mine).wait(rt, turn)
-            } else {
+            turn = if may_look {
                 self.look(rt, turn)
+            } else {
+                self.place(mine).wait(rt, turn)
             };
             has_looked = true;
             turn.waiting = turn.waiting.saturating_sub(1);
