@@ -2,14 +2,12 @@
 
 use crate::helping::is_help;
 
-/// The words that the program is started with: a command, and what it is about.
+/// The words that the program is started with: a command, what it is about, and where a journal is kept.
 #[derive(Drop)]
 pub(crate) struct Words {
     pub(crate) command: String,
-    pub(crate) first: Option<String>,
-    pub(crate) second: Option<String>,
-    pub(crate) third: Option<String>,
-    pub(crate) fourth: Option<String>,
+    pub(crate) argument: Option<String>,
+    pub(crate) journal: Option<String>,
 }
 
 /// A command and what it is about.
@@ -25,35 +23,18 @@ pub(crate) enum Asked<'w> {
     Replay(&'w str),
     /// Of the paths of a configuration and of a journal.
     Serve(&'w str, Option<&'w str>),
-    /// Of the paths of a configuration, of a journal, and of the next configuration.
-    NewPeriod(&'w str, &'w str, Option<&'w str>),
-    /// Of the paths of a configuration and of the period that it has ended, and of the next configuration and of
-    /// the journal.
-    Follows(&'w str, &'w str, &'w str, &'w str),
 }
 
 impl Words {
     /// What these words ask for; none where they are no command.
     pub(crate) fn asked(&self) -> Option<Asked<'_>> {
         let command = self.command.as_str();
-        match (&self.first, &self.second, &self.third, &self.fourth) {
-            (None, ..) => asked_alone(command),
-            (Some(argument), None, ..) => asked_of(command, argument.as_str()),
-            (Some(config), Some(journal), None, _) => {
+        match (&self.argument, &self.journal) {
+            (None, _) => asked_alone(command),
+            (Some(argument), None) => asked_of(command, argument.as_str()),
+            (Some(config), Some(journal)) => {
                 asked_with_journal(command, config.as_str(), journal.as_str())
             }
-            (Some(config), Some(journal), Some(next), None) if command == "new-period" => Some(
-                Asked::NewPeriod(config.as_str(), journal.as_str(), Some(next.as_str())),
-            ),
-            (Some(config), Some(ended), Some(next), Some(journal)) if command == "follows" => {
-                Some(Asked::Follows(
-                    config.as_str(),
-                    ended.as_str(),
-                    next.as_str(),
-                    journal.as_str(),
-                ))
-            }
-            _ => None,
         }
     }
 }
@@ -71,9 +52,7 @@ fn asked_alone<'w>(command: &str) -> Option<Asked<'w>> {
 fn asked_of<'w>(command: &str, argument: &'w str) -> Option<Asked<'w>> {
     match command {
         "help" => Some(Asked::Help),
-        "packet" | "check" | "replay" | "serve" | "new-period" | "follows" if is_help(argument) => {
-            Some(Asked::Help)
-        }
+        "packet" | "check" | "replay" | "serve" if is_help(argument) => Some(Asked::Help),
         "packet" => Some(Asked::Packet(argument)),
         "check" => Some(Asked::Check(argument, None)),
         "replay" => Some(Asked::Replay(argument)),
@@ -85,10 +64,9 @@ fn asked_of<'w>(command: &str, argument: &'w str) -> Option<Asked<'w>> {
 // What a command and the paths of a configuration and a journal ask for.
 fn asked_with_journal<'w>(command: &str, config: &'w str, journal: &'w str) -> Option<Asked<'w>> {
     match command {
-        "check" | "serve" | "new-period" if is_help(journal) => Some(Asked::Help),
+        "check" | "serve" if is_help(journal) => Some(Asked::Help),
         "check" => Some(Asked::Check(config, Some(journal))),
         "serve" => Some(Asked::Serve(config, Some(journal))),
-        "new-period" => Some(Asked::NewPeriod(config, journal, None)),
         _ => None,
     }
 }

@@ -5,4 +5,3 @@ pub mod Fulfilled
 pub mod Splits
 pub mod Walks
 pub mod Gathered
-pub mod Heads

@@ -17,12 +17,12 @@ const TRIES: u32 = 60;
 
 const REST: u64 = 1;
 
-/// How far a save has come.
+// How far a save has come.
 #[derive(Clone, Copy, PartialEq, Eq)]
-pub(crate) enum Reached {
-    /// The journal is as at the start.
+enum Reached {
+    // The journal is as at the start.
     Nothing,
-    /// It is the new one, and the system may forget that where the machine stops.
+    // It is the new one, and the system may forget that where the machine stops.
     Name,
 }
 
@@ -99,8 +99,8 @@ impl<F> JournalFile<F> {
         Err(last)
     }
 
-    /// Goes on with a save from where it is: what has taken the journal's place is not written again.
-    pub(crate) fn go_on<R, C>(
+    // Goes on with a save from where it is: what has taken the journal's place is not written again.
+    fn go_on<R, C>(
         &self,
         rt: &R,
         alloc: Global,
@@ -112,20 +112,14 @@ impl<F> JournalFile<F> {
         C: Content,
     {
         if *reached == Reached::Nothing {
-            self.replace(rt, alloc, content, self.names.journal.as_str())?;
+            self.replace(rt, alloc, content)?;
             *reached = Reached::Name;
         }
         self.names.sync_folder(rt)
     }
 
-    /// Writes `J.new`, and gives it this name once the device has it.
-    pub(crate) fn replace<R, C>(
-        &self,
-        rt: &R,
-        alloc: Global,
-        content: &C,
-        name: &str,
-    ) -> io::Result<()>
+    // Writes `J.new`, and gives it the name of the journal.
+    fn replace<R, C>(&self, rt: &R, alloc: Global, content: &C) -> io::Result<()>
     where
         R: Files,
         C: Content,
@@ -133,7 +127,7 @@ impl<F> JournalFile<F> {
         let new = self.names.new.as_str();
         let file = create_anew(rt, new, self.names.mode(rt))?;
         write_synced(alloc, Limited::new(rt, alloc, file), content)?;
-        fs::rename(rt, new, name)
+        fs::rename(rt, new, self.names.journal.as_str())
     }
 
     fn tell_unsaved<R: Clock + Eprint>(&self, rt: &R, reached: Reached, last: &io::Error) {

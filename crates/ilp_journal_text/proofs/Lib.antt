@@ -8,7 +8,6 @@ mod Peers
 mod Same
 mod Awaited
 mod Inverse
-mod FirstLines
 pub mod OneText
 pub mod FirstBad
 pub mod Read

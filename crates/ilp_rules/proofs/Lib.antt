@@ -6,10 +6,6 @@ pub mod InTime
 pub mod Admitting
 pub mod TableSteps
 pub mod Keeping
-mod HeadLemmas
-mod JudgingHeads
-mod KeyFronts
-mod PendingKeys
 pub mod Judging
 pub mod Ending
 pub mod Rebasing
@@ -18,5 +14,4 @@ mod TakingUp
 mod CarriedBooks
 pub mod Saved
 mod Recovered
-pub mod KeptOnce
-pub mod OwnKeys
+mod KeptOnce

@@ -1,0 +1,30 @@
+use Rattle.std.proofs.Common.{◌<◌, ◌^◌, length, refl, sym, ap, subst, rules}
+use Rattle.std.specs.Option.{IsNone}
+use Rattle.std.proofs.lemmas.Result.{err_from_is_err_and}
+use Rattle.ilp_rules.proofs.TakingUp.{text_goes_on, text_ends, text_is_bad, first_line_is_bad}
+use Rattle.ilp_rules.proofs.carrying.reading.TakingUp.take_text.Goals as goal
+
+pub loop-entry-preserved : goal.loop-entry-preserved
+loop-entry-preserved g c = λ C before start.
+    text_goes_on C before c.args.text.now _ c.loop-entry.lines c.next.new.self c.loop-entry.self.carrying c.take.new.self.carrying c.loop-entry.self.taken c.take.new.self.taken
+    c.in_ok-entry.field-0 c.in-Some.entry (c.loop-entry.invariant C before start) c.in_ok-entry.ensures.entry c.in-Some.is (ap (λ s. s.carrying.config) c.self.view_is)
+    (λ j state. c.take.ensures C j state)
+
+pub returns-clause-ok : goal.returns-clause-ok
+returns-clause-ok g c = λ C before start.
+    text_ends C before c.args.text.now c.loop-entry.lines c.loop-entry.self.carrying c.loop-entry.self.taken (c.loop-entry.invariant C before start)
+    (c.in_ok-entry.ensures.end (subst IsNone (sym c.in_default.is) refl))
+
+-- a bad first line is told
+pub returns-in_err-lines-clause-err : goal.returns-in_err-lines-clause-err
+returns-in_err-lines-clause-err g c = λ C before start.
+    let p = err_from_is_err_and c.from_residual.result c.from_residual.ensures.1 in
+    rw (p.1, p.2) (first_line_is_bad C before c.args.text.now c.in_err-lines.field-0.0 c.in_err-lines.ensures.err c.in_err-lines.ensures.fault)
+
+-- and so is any other
+pub returns-in_err-entry-clause-err : goal.returns-in_err-entry-clause-err
+returns-in_err-entry-clause-err g c = λ C before start.
+    let p = err_from_is_err_and c.from_residual-in_err-entry.result c.from_residual-in_err-entry.ensures.1 in
+    let fits : length c.args.text.now < 2 ^ 64 = search rules in
+    rw (p.1, p.2) (text_is_bad C before c.args.text.now _ c.loop-entry.lines c.loop-entry.self.carrying c.loop-entry.self.taken c.in_err-entry.field-0.0 c.self.invariant.valid fits
+    (c.loop-entry.invariant C before start) (ap (λ s. s.carrying.config) c.self.view_is) c.in_err-entry.ensures.err)
