@@ -1,12 +1,8 @@
 pub mod Rejecting
 pub mod Sessions
 pub mod Sending
-pub mod Booking
-pub mod Halving
+pub mod Passing
 pub mod Outcomes
-pub mod Later
-pub mod Running
-pub mod Asking
 pub mod Standing
 pub mod Behind
 pub mod CreditSessions
