@@ -26,7 +26,7 @@ def journal_changed_by_hand(laboratory: Laboratory) -> None:
     earlier = "1" + entries[1][entries[1].index(" "):]
     cut = entries[1][:-len(" 2 7\n")]
     rows = [(["ilp-journal 2\n", *entries, last], "71 BadJournalText 1", 1,
-             "expected `ilp-journal 1`, ended by LF"),
+             "expected `ilp-journal 1`, or of a period above 0 `ilp-journal 2 PERIOD`, ended by LF"),
             ([first, entries[0], cut, "\n", entries[2], last], "71 BadJournalText 3", 3,
              "expected `MOMENT ACTOR credited PEER KEY AMOUNT SCALE CREDITED`"
              " with peers of the configuration, ended by LF"),

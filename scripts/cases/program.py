@@ -55,6 +55,7 @@ class Setup:
     key: str = field(default_factory=secret)
     out_path: str = "/ilp"
     least: int = -1_000_000
+    fee_ppm: int | None = None
     routes: dict[str, str] = field(
         default_factory=lambda: {"test.alice": "alice", "test.bob": "bob"})
     scale: int = 2
@@ -83,6 +84,8 @@ class Setup:
         lines = ["[[peer]]", f'name = "{name}"', f'asset = "{asset or f"USD/{self.scale}"}"', f'token = "{token}"',
                  f'out_token = "{out_token}"', f'host = "{host}"',
                  f'out_path = "{self.out_path}"', f"least = {self.least}"]
+        if self.fee_ppm is not None:
+            lines.append(f"fee_ppm = {self.fee_ppm}")
         if engine is not None:
             lines.append(f'engine = "{HERE}:{engine}"')
             lines += ["threshold = 1000", "settle_to = 200"] if self.levels else []

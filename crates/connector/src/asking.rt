@@ -2,12 +2,14 @@
 
 use crate::helping::is_help;
 
-/// The words that the program is started with: a command, what it is about, and where a journal is kept.
+/// The words that the program is started with: a command, and what it is about.
 #[derive(Drop)]
 pub(crate) struct Words {
     pub(crate) command: String,
-    pub(crate) argument: Option<String>,
-    pub(crate) journal: Option<String>,
+    pub(crate) first: Option<String>,
+    pub(crate) second: Option<String>,
+    pub(crate) third: Option<String>,
+    pub(crate) fourth: Option<String>,
 }
 
 /// A command and what it is about.
@@ -23,18 +25,35 @@ pub(crate) enum Asked<'w> {
     Replay(&'w str),
     /// Of the paths of a configuration and of a journal.
     Serve(&'w str, Option<&'w str>),
+    /// Of the paths of a configuration, of a journal, and of the next configuration.
+    NewPeriod(&'w str, &'w str, Option<&'w str>),
+    /// Of the paths of a configuration and of the period that it has ended, and of the next configuration and of
+    /// the journal.
+    Follows(&'w str, &'w str, &'w str, &'w str),
 }
 
 impl Words {
     /// What these words ask for; none where they are no command.
     pub(crate) fn asked(&self) -> Option<Asked<'_>> {
         let command = self.command.as_str();
-        match (&self.argument, &self.journal) {
-            (None, _) => asked_alone(command),
-            (Some(argument), None) => asked_of(command, argument.as_str()),
-            (Some(config), Some(journal)) => {
+        match (&self.first, &self.second, &self.third, &self.fourth) {
+            (None, ..) => asked_alone(command),
+            (Some(argument), None, ..) => asked_of(command, argument.as_str()),
+            (Some(config), Some(journal), None, _) => {
                 asked_with_journal(command, config.as_str(), journal.as_str())
             }
+            (Some(config), Some(journal), Some(next), None) if command == "new-period" => Some(
+                Asked::NewPeriod(config.as_str(), journal.as_str(), Some(next.as_str())),
+            ),
+            (Some(config), Some(ended), Some(next), Some(journal)) if command == "follows" => {
+                Some(Asked::Follows(
+                    config.as_str(),
+                    ended.as_str(),
+                    next.as_str(),
+                    journal.as_str(),
+                ))
+            }
+            _ => None,
         }
     }
 }
@@ -52,7 +71,9 @@ fn asked_alone<'w>(command: &str) -> Option<Asked<'w>> {
 fn asked_of<'w>(command: &str, argument: &'w str) -> Option<Asked<'w>> {
     match command {
         "help" => Some(Asked::Help),
-        "packet" | "check" | "replay" | "serve" if is_help(argument) => Some(Asked::Help),
+        "packet" | "check" | "replay" | "serve" | "new-period" | "follows" if is_help(argument) => {
+            Some(Asked::Help)
+        }
         "packet" => Some(Asked::Packet(argument)),
         "check" => Some(Asked::Check(argument, None)),
         "replay" => Some(Asked::Replay(argument)),
@@ -64,9 +85,10 @@ fn asked_of<'w>(command: &str, argument: &'w str) -> Option<Asked<'w>> {
 // What a command and the paths of a configuration and a journal ask for.
 fn asked_with_journal<'w>(command: &str, config: &'w str, journal: &'w str) -> Option<Asked<'w>> {
     match command {
-        "check" | "serve" if is_help(journal) => Some(Asked::Help),
+        "check" | "serve" | "new-period" if is_help(journal) => Some(Asked::Help),
         "check" => Some(Asked::Check(config, Some(journal))),
         "serve" => Some(Asked::Serve(config, Some(journal))),
+        "new-period" => Some(Asked::NewPeriod(config, journal, None)),
         _ => None,
     }
 }

@@ -5,7 +5,7 @@ use std::rt::Runtime;
 
 /// How the program is called, for whoever called it otherwise.
 pub(crate) const USAGE: &str =
-    "usage: connector packet HEX, check CONFIG, replay CONFIG, serve CONFIG [JOURNAL]";
+    "usage: connector packet HEX, check CONFIG, replay CONFIG, serve CONFIG [JOURNAL], new-period CONFIG JOURNAL [NEW-CONFIG], follows CONFIG JOURNAL.P NEW-CONFIG JOURNAL";
 
 // The versions of the program and of the kit that it is made with. The first stands in the file VERSION
 // too, and the manual is made from the help.
@@ -20,6 +20,12 @@ connector check CONFIG [JOURNAL]  says whether a configuration is valid, and wha
                                   a start over a journal would do
 connector replay CONFIG           runs the script of standard input over a
                                   configuration, without sockets
+connector new-period CONFIG JOURNAL [NEW-CONFIG]
+                                  closes the books of a journal, and begins its
+                                  next period, by NEW-CONFIG where it is given
+connector follows CONFIG JOURNAL.P NEW-CONFIG JOURNAL
+                                  says whether a journal begins with what the
+                                  period P before it brought forward
 connector packet HEX              says in words what a packet has
 connector help                    says this, as -h and --help do
 connector --version               says the versions of the program and of the kit

@@ -15,6 +15,7 @@ use asking::{Asked, Words};
 use checking::{run_check, run_check_journal};
 use helping::{USAGE, run_help, run_version};
 use ilp_described::{describe_packet, reject_words};
+use ilp_new_period::{follows, new_period};
 use ilp_refusals::Refusal;
 use ilp_starting::{Host, PlacesFiles, Refused, RunFault, serve};
 use replaying::run_replay;
@@ -62,13 +63,20 @@ fn given_words<R: Runtime + AllocGlobal>(rt: &R) -> Result<Words, Exit> {
         }
         Err(_) => return Err(Exit::Misused),
     };
-    match (words.next(), words.next(), words.next(), words.next()) {
-        (Some(command), argument, journal, None) => Ok(Words {
+    let Some(command) = words.next() else {
+        return Err(Exit::Misused);
+    };
+    let (first, second) = (words.next(), words.next());
+    let (third, fourth) = (words.next(), words.next());
+    match words.next() {
+        None => Ok(Words {
             command,
-            argument,
-            journal,
+            first,
+            second,
+            third,
+            fourth,
         }),
-        _ => Err(Exit::Misused),
+        Some(_) => Err(Exit::Misused),
     }
 }
 
@@ -102,10 +110,14 @@ where
         Asked::Check(config, Some(journal)) => run_check_journal(rt, config, journal),
         Asked::Replay(config) => run_replay(rt, config),
         Asked::Serve(config, journal) => ended(serve(rt, config, journal)),
+        Asked::NewPeriod(config, journal, next) => ended(new_period(rt, config, journal, next)),
+        Asked::Follows(config, kept, next, journal) => {
+            ended(follows(rt, config, kept, next, journal))
+        }
     }
 }
 
-// How the program ends that ran a connector.
+// How the program ends that ran a connector, or looked after its journal.
 fn ended(served: Result<(), RunFault>) -> Exit {
     match served {
         Ok(()) => Exit::Done,

@@ -1,6 +1,6 @@
 -- An answer or an expiry that a step appends to a lawful journal is admitted by its rules.
 use Rattle.std.proofs.Common.{◌≡◌, ℕ, suc, ◌+◌, ℤ, Bool, true, false, cond, not, List, [], ◌∷◌, length, Option, Some, None, refl, sym, ap, ◌∙◌, subst, arith}
-use Rattle.std.specs.Prelude.{Result, Ok, Err, ◌≤ℤ◌, ◌<ℤ◌, int_le, int_lt, ◌↔◌, ◌≢◌, option_map, option_and_then, IsSome, IsNone, IfSome}
+use Rattle.std.specs.Prelude.{Result, Ok, Err, ◌≤ℤ◌, ◌<ℤ◌, int_le, int_lt, ◌↔◌, ◌≢◌, option_map, option_and_then}
 use Rattle.std.proofs.lemmas.Int.{ints}
 use Rattle.ilp_order.specs.Refusals.{◌>>=◌, refuse_if}
 use Rattle.ilp_accounts.specs.Configuration.{Configuration}
@@ -9,7 +9,7 @@ use Rattle.ilp_journal.specs.declared.entry.What.TheVariants as what
 use Rattle.ilp_journal.specs.declared.entry.Cause.{Cause}
 use Rattle.ilp_journal.specs.declared.entry.Cause.TheVariants as cause
 use Rattle.ilp_journal.specs.declared.entry.Hold.{Hold}
-use Rattle.ilp_journal.specs.Journal.{Entries, AnswersOnce, answered, hold_at, as_hold, answer_of, is_unanswered, open_hold_at}
+use Rattle.ilp_journal.specs.Journal.{Entries, hold_at, as_hold, is_unanswered, open_hold_at}
 use Rattle.ilp_book.specs.declared.calls.PeerReply.{PeerReply}
 use Rattle.ilp_book.specs.declared.calls.PeerReply.TheVariants as peer_reply
 use Rattle.ilp_book.specs.declared.calls.Outcome.{Outcome}
@@ -21,7 +21,7 @@ use Rattle.ilp_rules.specs.Open.{earlier, numbered_hold, earliest_from, earliest
 use Rattle.ilp_rules.specs.Lawful.{IsLawful, KeepsRule}
 use Rattle.ilp_book.specs.AnswerStep.{preimage_of, judged_reply, ending, outcome_of, answer_booked, answer_step, due, expire_booked, expire_step}
 use Rattle.ilp_rules.proofs.LawfulGrowth.{Admits, lawful_push, limits_now}
-use Rattle.ilp_order.proofs.RefusalLemmas.{chosen, is_none_at, is_some_at, some_same, ok_same}
+use Rattle.ilp_order.proofs.RefusalLemmas.{chosen, some_same, ok_same}
 use Rattle.ilp_rules.proofs.InTime.{in_time, calm}
 
 -- ---- replies that are judged
@@ -47,9 +47,9 @@ reply_tests false (peer_reply.Reject code) good v e = subst (Tells false good) e
 reply_tests false peer_reply.NoReply good v e = subst (Tells false good) e (λ e. cc, λ e. cc)
 
 -- an answer of an open hold keeps its rule
-answer_rule : (C : Configuration) (base : ℕ) (j : Entries) (n : ℕ) (m : ℤ) (h : Hold) (reply : PeerReply) → open_hold_at j n ≡ Some h → KeepsRule C base j m (ending n (judged_reply h m reply))
+answer_rule : (C : Configuration) (period base : ℕ) (j : Entries) (n : ℕ) (m : ℤ) (h : Hold) (reply : PeerReply) → open_hold_at j n ≡ Some h → KeepsRule C period base j m (ending n (judged_reply h m reply))
 unfolding judged_reply
-answer_rule C base j n m h reply is = of (judged_reply h m reply) (reply_tests (int_le h.deadline m) reply (meets h.condition) (judged_reply h m reply) refl)
+answer_rule C period base j n m h reply is = of (judged_reply h m reply) (reply_tests (int_le h.deadline m) reply (meets h.condition) (judged_reply h m reply) refl)
   where
     late : (a b : ℤ) → int_le a b ≡ true → a ≤ℤ b
     late a b e = omega (arith, ints)
@@ -68,7 +68,7 @@ answer_rule C base j n m h reply is = of (judged_reply h m reply) (reply_tests (
     no_restart true c t is = let same : cause.Late ≡ cause.Restart = sym t ∙ is in cc
     no_restart false c t is = t.1 is
 
-    of : (v : Result (List ℕ) Cause) → Tells (int_le h.deadline m) (meets h.condition) v → KeepsRule C base j m (ending n v)
+    of : (v : Result (List ℕ) Cause) → Tells (int_le h.deadline m) (meets h.condition) v → KeepsRule C period base j m (ending n v)
     of (Ok preimage) t = rw is (t.0, early h.deadline m t.1)
     of (Err c) t = (rw is (released (int_le h.deadline m) c refl t), λ restart. absurd (no_restart (int_le h.deadline m) c t restart))
 
@@ -76,7 +76,7 @@ answer_rule C base j n m h reply is = of (judged_reply h m reply) (reply_tests (
 
 -- the end of an open hold is admitted
 answer_admitted : (book : PlainBook) (caller : By) (n : ℕ) (v : Result (List ℕ) Cause) → IsLawful book
-    → KeepsRule book.config book.base book.entries (moment_at book.entries caller.now) (ending n v) → Admits book (entry_by book caller (ending n v))
+    → KeepsRule book.config book.period book.base book.entries (moment_at book.entries caller.now) (ending n v) → Admits book (entry_by book caller (ending n v))
 answer_admitted book caller n (Ok preimage) lawful rule =
     let r = (limits_now book lawful).room in
     calm book (entry_by book caller (what.Fulfilled n preimage)) lawful rule
@@ -91,7 +91,7 @@ pub answer_keeps : (book : PlainBook) (caller : By) (n : ℕ) (reply : PeerReply
     → IsLawful (pushed book (entry_by book caller (ending n (judged_reply h (moment_at book.entries caller.now) reply))))
 answer_keeps book caller n reply h lawful is =
     let m = moment_at book.entries caller.now in
-    lawful_push book _ lawful (answer_admitted book caller n (judged_reply h m reply) lawful (answer_rule book.config book.base book.entries n m h reply is))
+    lawful_push book _ lawful (answer_admitted book caller n (judged_reply h m reply) lawful (answer_rule book.config book.period book.base book.entries n m h reply is))
 
 -- the entry of an answer keeps the book lawful, where its moment and how its reply is judged are known by equations
 pub answer_keeps_at : (book : PlainBook) (caller : By) (n : ℕ) (reply : PeerReply) (h : Hold) (m : ℤ) (v : Result (List ℕ) Cause) → IsLawful book → open_hold_at book.entries n ≡ Some h

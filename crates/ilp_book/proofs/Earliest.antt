@@ -242,14 +242,6 @@ unswept_has_time book caller taken n h is_open = of (due book.entries (moment_at
 
 -- ---- in a table of deadlines
 
--- nothing is open where the table is empty
-pub none_open : (j : Entries) (m : FinMap nat_cmp ℤ) → AreOpen j m → m ≡ fin_map.empty → (n : ℕ) → open_hold_at j n ≡ None
-none_open j m open_now is n = of (open_hold_at j n) (sym (open_now n) ∙ ap (λ (d : FinMap nat_cmp ℤ). fin_map.get d n) is ∙ get-empty nat_cmp n)
-  where
-    of : (o : Option Hold) → deadline_of o ≡ None → o ≡ None
-    of None e = refl
-    of (Some h) e = cc
-
 -- the hold whose deadline comes first in the table is the earliest
 pub first_is_earliest : (j : Entries) (m : FinMap nat_cmp ℤ) (n : ℕ) (deadline : ℤ) (h : Hold) → AreOpen j m → fin_map.get m n ≡ Some deadline
     → ((k : ℕ) (d : ℤ) → fin_map.get m k ≡ Some d → IsNoLater deadline n d k) → hold_at j n ≡ Some h → earliest j ≡ Some (n, h)

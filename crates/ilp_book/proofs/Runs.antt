@@ -1,5 +1,5 @@
 -- Every run of calls leaves a lawful book.
-use Rattle.std.proofs.Common.{◌≡◌, ℕ, List, [], ◌∷◌, refl, subst}
+use Rattle.std.proofs.Common.{◌≡◌, ℕ, List, [], ◌∷◌, refl, subst, arith}
 use Rattle.ilp_accounts.specs.Configuration.{Configuration}
 use Rattle.ilp_accounts.specs.Valid.{IsValid}
 use Rattle.ilp_journal.specs.TrialBalance.{IsBalanced}
@@ -31,7 +31,7 @@ steps_lawful book (s ∷ ss) valid lawful allowed =
 
 -- from the book of no entries on
 pub runs_lawful : (C : Configuration) (steps : List Step) → IsValid C → AreAllowed C steps → IsLawful (book_after (new_book C) steps)
-runs_lawful C steps valid allowed = steps_lawful (new_book C) steps valid (lawful_empty (new_book C) valid) allowed
+runs_lawful C steps valid allowed = steps_lawful (new_book C) steps valid (lawful_empty (new_book C) valid (omega arith)) allowed
 
 -- a run keeps the configuration
 pub config_kept : (book : PlainBook) (steps : List Step) → (book_after book steps).config ≡ book.config

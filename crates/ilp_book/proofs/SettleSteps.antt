@@ -1,22 +1,18 @@
 -- A credit, an ask or a closing that a step appends to a lawful journal is admitted by its rules.
-use Rattle.std.proofs.Common.{◌≡◌, ℕ, ◌+◌, ◌≤◌, ℤ, pos, negsuc, ◌+ℤ◌, ◌-ℤ◌, true, false, not, ◌&&◌, List, length, Option, Some, None, refl, sym, ap, ◌∙◌, subst, arith}
-use Rattle.std.specs.Prelude.{Result, Ok, Err, ◌≤ℤ◌, ◌<ℤ◌, int_le, nat_lt, nat_le, ◌==◌, unwrap_or, option_map, option_and_then, IsSome, IsNone, IfSome, IsSomeAnd, nat_abs}
-use Rattle.std.specs.Int.{int_min}
+use Rattle.std.proofs.Common.{◌≡◌, ℕ, ℤ, true, false, not, ◌&&◌, List, Option, Some, None, refl, sym, subst, arith}
+use Rattle.std.specs.Prelude.{Result, Ok, Err, nat_lt, ◌==◌, unwrap_or, option_map, option_and_then, IsSome, IsNone}
 use Rattle.std.specs.Str.{bytes_eq}
-use Rattle.std.proofs.lemmas.Int.{ints, clamps}
-use Rattle.std.proofs.lemmas.Bool.{leb-true}
 use Rattle.ilp_order.specs.Refusals.{◌>>=◌, refuse_some, found_or}
 use Rattle.ilp_assets.specs.Quote.{most}
-use Rattle.ilp_accounts.specs.declared.peer.Levels.{Levels}
-use Rattle.ilp_accounts.specs.Configuration.{Configuration, PlainPeer, peer_at}
-use Rattle.ilp_accounts.specs.Valid.{IsValid, AreOrdered}
+use Rattle.ilp_accounts.specs.Configuration.{Configuration, peer_at}
+use Rattle.ilp_accounts.specs.Valid.{IsValid}
 use Rattle.ilp_journal.specs.declared.entry.Entry.{Entry}
 use Rattle.ilp_journal.specs.declared.entry.What.{What}
 use Rattle.ilp_journal.specs.declared.entry.What.TheVariants as what
 use Rattle.ilp_journal.specs.declared.entry.Ask.{Ask}
 use Rattle.ilp_journal.specs.declared.entry.Credited.{Credited}
 use Rattle.ilp_journal.specs.Keys.{IsKey}
-use Rattle.ilp_journal.specs.Journal.{Entries, open_count, open_ask_at}
+use Rattle.ilp_journal.specs.Journal.{Entries, open_ask_at}
 use Rattle.ilp_journal.specs.Balance.{balance}
 use Rattle.ilp_book.specs.declared.calls.Asked.{Asked}
 use Rattle.ilp_book.specs.declared.calls.Kept.{Kept}
@@ -26,8 +22,8 @@ use Rattle.ilp_book.specs.declared.fault.AskFault.{AskFault}
 use Rattle.ilp_book.specs.declared.fault.AskFault.TheVariants as ask_fault
 use Rattle.ilp_rules.specs.Configured.{IsKnown}
 use Rattle.ilp_rules.specs.Book.{PlainBook, By, Does, Growth, granted, denied, entry_by, has_room, moment_at, pushed, with_entry}
-use Rattle.ilp_rules.specs.Open.{as_credit, credit_at, has_key, kept_at}
-use Rattle.ilp_rules.specs.Lawful.{IsLawful, IsWithinLimits, IsInTime, IsFreshCredit, IsDueAsk, owed_above}
+use Rattle.ilp_journal.specs.Credits.{as_credit, credit_at, has_key, kept_at}
+use Rattle.ilp_rules.specs.Lawful.{IsLawful, IsFreshCredit, IsDueAsk}
 use Rattle.ilp_settlement.specs.declared.verdict.EngineVerdict.{EngineVerdict}
 use Rattle.ilp_settlement.specs.declared.verdict.EngineVerdict.TheVariants as engine
 use Rattle.ilp_book.specs.SettleStep.{Payment, closing_of_verdict, amount_of, credit_of, kept, credit_fresh, credit_checked, credit_booked, credit_step, still_open, ask_fitted, ask_checked, ask_booked, ask_step, close_booked, close_step}
@@ -36,7 +32,7 @@ use Rattle.ilp_rules.proofs.Known.{peer_valid}
 use Rattle.ilp_rules.proofs.LawfulGrowth.{Admits, lawful_push, limits_now}
 use Rattle.ilp_rules.proofs.Standing.{first_found}
 use Rattle.ilp_rules.proofs.Admitting.{credit_admits, due_from, ask_admits}
-use Rattle.ilp_order.proofs.RefusalLemmas.{refused_not, none_refused, found, ok_same, some_same, not_true, chosen, is_some_at}
+use Rattle.ilp_order.proofs.RefusalLemmas.{refused_not, none_refused, found, ok_same, not_true, is_some_at}
 use Rattle.ilp_rules.proofs.InTime.{in_time, calm}
 use Rattle.ilp_book.proofs.OpenAsks.{few_open}
 

@@ -16,7 +16,7 @@ use Rattle.ilp_journal.proofs.Naming.{closing_of-push}
 use Rattle.ilp_order.proofs.Sums.{first_from-append, slice_get-append, slice_get-push}
 use Rattle.ilp_book.specs.declared.fault.CreditFault.TheVariants as credit_fault
 use Rattle.ilp_rules.specs.Book.{PlainBook, By, says, entry_by, extended, with_entry, pushed}
-use Rattle.ilp_rules.specs.Open.{as_credit, credit_at, has_key, kept_at}
+use Rattle.ilp_journal.specs.Credits.{as_credit, credit_at, has_key, kept_at}
 use Rattle.ilp_settlement.specs.declared.verdict.EngineVerdict.{EngineVerdict}
 use Rattle.ilp_settlement.specs.declared.verdict.EngineVerdict.TheVariants as engine
 use Rattle.ilp_book.specs.SettleStep.{payment, closing_of_verdict, amount_of, kept, credit_kept, credit_booked, credit_fresh, credit_checked, credit_step, close_booked, close_step, IsClosedBy, IsKeptBy}

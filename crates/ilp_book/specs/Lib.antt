@@ -5,6 +5,8 @@ pub mod AnswerStep
 pub mod SettleStep
 pub mod Run
 pub mod Rows
+pub mod Alike
+pub mod AlikeRows
 pub use Rattle.ilp_order.specs.Refusals
 pub use Rattle.ilp_assets.specs.Quote
 pub use Rattle.ilp_lookup.specs.Route
@@ -15,12 +17,16 @@ pub use Rattle.ilp_accounts.specs.Valid
 pub use Rattle.ilp_journal.specs.Journal
 pub use Rattle.ilp_journal.specs.Keys
 pub use Rattle.ilp_journal.specs.Balance
+pub use Rattle.ilp_journal.specs.Credits
+pub use Rattle.ilp_journal.specs.BroughtForward
 pub use Rattle.ilp_journal.specs.TrialBalance
 pub use Rattle.ilp_settlement.specs.Quantity
 pub use Rattle.ilp_rules.specs.Book
 pub use Rattle.ilp_rules.specs.Configured
 pub use Rattle.ilp_rules.specs.Open
+pub use Rattle.ilp_rules.specs.CreditTables
 pub use Rattle.ilp_rules.specs.Tables
+pub use Rattle.ilp_rules.specs.Heads
 pub use Rattle.ilp_rules.specs.Lawful
 pub use Rattle.ilp_rules.specs.Parts
 pub use Rattle.ilp_rules.specs.Judging
@@ -29,3 +35,4 @@ pub use Rattle.ilp_rules.specs.Carried
 pub use Rattle.ilp_rules.specs.Carry
 pub use Rattle.ilp_rules.specs.Recover
 pub use Rattle.ilp_rules.specs.TakenUp
+pub use Rattle.ilp_next_period.specs.NextPeriod

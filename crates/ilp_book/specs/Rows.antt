@@ -203,9 +203,9 @@ ended_at n c = record { moment = pos (new_year + n); actor = 0; what = what.Rele
 
 -- what is carried over of a payment of 100 cents whose hold is open: before the deadline it ends since the connector starts again
 pub record CarriedRow (c : List ℕ) : Type 0 where
-  pub before : carried (between alice bob) (entries_of (between alice bob) (at_ 0 (pay c 100) ∷ [])) (pos (new_year + 500))
-      ≡ begun_with (between alice bob) (entries_of (between alice bob) (at_ 0 (pay c 100) ∷ []) ++ ended_at 500 cause.Restart ∷ [])
-  pub from_then_on : carried (between alice bob) (entries_of (between alice bob) (at_ 0 (pay c 100) ∷ [])) (pos (new_year + 29000))
-      ≡ begun_with (between alice bob) (entries_of (between alice bob) (at_ 0 (pay c 100) ∷ []) ++ ended_at 29000 cause.Late ∷ [])
-  pub base : (carried (between alice bob) (entries_of (between alice bob) (at_ 0 (pay c 100) ∷ [])) (pos (new_year + 500))).base ≡ 2
-  pub given_back : balance (carried (between alice bob) (entries_of (between alice bob) (at_ 0 (pay c 100) ∷ [])) (pos (new_year + 500))).entries 0 ≡ pos 0
+  pub before : carried (between alice bob) 0 (entries_of (between alice bob) (at_ 0 (pay c 100) ∷ [])) (pos (new_year + 500))
+      ≡ begun_with (between alice bob) 0 (entries_of (between alice bob) (at_ 0 (pay c 100) ∷ []) ++ ended_at 500 cause.Restart ∷ [])
+  pub from_then_on : carried (between alice bob) 0 (entries_of (between alice bob) (at_ 0 (pay c 100) ∷ [])) (pos (new_year + 29000))
+      ≡ begun_with (between alice bob) 0 (entries_of (between alice bob) (at_ 0 (pay c 100) ∷ []) ++ ended_at 29000 cause.Late ∷ [])
+  pub base : (carried (between alice bob) 0 (entries_of (between alice bob) (at_ 0 (pay c 100) ∷ [])) (pos (new_year + 500))).base ≡ 2
+  pub given_back : balance (carried (between alice bob) 0 (entries_of (between alice bob) (at_ 0 (pay c 100) ∷ [])) (pos (new_year + 500))).entries 0 ≡ pos 0

@@ -1,4 +1,5 @@
 //! The book: what was booked by a configuration, and the calls that book more.
+mod bringing_forward;
 mod carrying_over;
 mod settling;
 
@@ -36,6 +37,7 @@ use std::marker::Model;
 /// whatever ends what is open.
 pub struct Book<A: Allocator = Global> {
     config: Config,
+    period: u32,
     base: u32,
     journal: Journal<A>,
     tables: Tables<A>,
@@ -46,6 +48,7 @@ impl<A: Allocator> Drop for Book<A> {
     fn drop(self) {
         let Book {
             config: _,
+            period: _,
             base: _,
             journal: _,
             tables: _,
@@ -60,16 +63,17 @@ impl<A: Allocator> Model for Book<A> {
 
     ghost Value = { PlainBook };
 
-    ghost view = { λ b. book_of b.config b.base b.journal };
+    ghost view = { λ b. book_of b.config b.period b.base b.journal };
 
     ghost invariant = { λ b.
-        AreParts b.config b.base b.journal b.tables.tallies b.tables.holds b.tables.keys
+        AreParts b.config b.period b.base b.journal b.tables.tallies b.tables.holds
+        b.tables.keys
         × IsBase b.journal.entries b.base };
 }
 
 impl<A: Allocator + Clone> Book<A> {
-    /// A book of no entries, with a copy of the configuration. `AllocError` tells that memory is
-    /// short.
+    /// A book of the first period without entries, with a copy of the configuration. `AllocError`
+    /// tells that memory is short.
     pub fn new(alloc: A, config: &Config) -> Result<Book<A>, AllocError>
         ensures { IfOk result (λ b. b ≡ new_book config.now) }
     {
@@ -77,6 +81,7 @@ impl<A: Allocator + Clone> Book<A> {
         let tables = Tables::new(alloc, config, 0)?;
         Ok(Book {
             config: config.copy()?,
+            period: 0,
             base: 0,
             journal,
             tables,
@@ -91,6 +96,13 @@ impl<A: Allocator> Book<A> {
         ensures valid { IsValid self.now.config }
     {
         &self.config
+    }
+
+    /// The number of the book's period, from 0.
+    pub fn period(&self) -> u32
+        ensures { result ≡ self.now.period }
+    {
+        self.period
     }
 
     /// How many entries there were when the book was opened. None of their holds was open then.

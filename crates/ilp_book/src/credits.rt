@@ -1,21 +1,20 @@
 //! Settlements from peers: which credit is kept under a key, and what is answered by it.
 ghost use Rattle.std.specs.Prelude.{◌≡◌, option_map};
-ghost use Rattle.std.specs.Option.{option_copied};
 ghost use Rattle.ilp_journal.specs.Keys.{IsKey};
-ghost use Rattle.ilp_rules.specs.Open as opens;
 ghost use Rattle.ilp_book.specs.SettleStep as settles;
-ghost use Rattle.ilp_rules.specs.Tables.{AreKept};
+ghost use Rattle.ilp_rules.specs.CreditTables.{AreKept};
 
 use crate::calls::Kept;
 use crate::fault::CreditFault;
-use ilp_journal::{Credited, Journal, Key, What};
-use ilp_settlement::{KeyTable, Quantity};
+use ilp_journal::{Journal, Key};
+use ilp_rules::CreditTable;
+use ilp_settlement::Quantity;
 use std::alloc::Allocator;
 
 /// What is answered where a credit of the peer is kept under the key.
 pub(crate) fn kept_reply<A: Allocator>(
     journal: &Journal<A>,
-    keys: &KeyTable<A>,
+    keys: &CreditTable<A>,
     peer: u32,
     key: &Key,
     quantity: &Quantity,
@@ -26,7 +25,7 @@ pub(crate) fn kept_reply<A: Allocator>(
     ensures key { IsKey key.now }
 {
     let number = keys.find(peer, key.as_slice())?;
-    let credited = credit_at(journal, number)?;
+    let credited = journal.credit(number)?;
     if credited.named != quantity.amount || credited.scale != quantity.scale {
         return Some(Err(CreditFault::KeyTaken { kept: number }));
     }
@@ -35,14 +34,4 @@ pub(crate) fn kept_reply<A: Allocator>(
         amount: credited.credited,
         fresh: false,
     }))
-}
-
-// The credit under a number.
-fn credit_at<A: Allocator>(journal: &Journal<A>, number: u32) -> Option<&Credited>
-    ensures { option_copied result ≡ opens.credit_at journal.now.entries number }
-{
-    match &journal.get(number)?.what {
-        What::Credited(credited) => Some(credited),
-        _ => None,
-    }
 }

@@ -10,18 +10,20 @@ ghost use Rattle.ilp_journal.specs.declared.entry.Hold.{Hold};
 ghost use Rattle.ilp_journal.specs.declared.entry.Ask.{Ask};
 ghost use Rattle.ilp_journal.specs.declared.entry.What.TheVariants as What;
 ghost use Rattle.ilp_journal.specs.declared.entry.Credited.{Credited};
+ghost use Rattle.ilp_journal.specs.Credits.{kept_at};
 ghost use Rattle.ilp_journal.specs.Journal.{open_hold_at, open_ask_at};
 ghost use Rattle.ilp_journal.specs.TrialBalance.{IsBalanced};
 ghost use Rattle.ilp_settlement.specs.declared.verdict.EngineVerdict.{EngineVerdict};
 ghost use Rattle.ilp_book.specs.declared.calls.PeerReply.{PeerReply};
 ghost use Rattle.ilp_rules.specs.Book.{PlainBook, By, new_book, with_entry, pushed, entry_by, moment_at};
 ghost use Rattle.ilp_rules.specs.Configured.{peer_assets};
-ghost use Rattle.ilp_rules.specs.Open.{kept_at, IsEarliest};
+ghost use Rattle.ilp_rules.specs.Open.{IsEarliest};
 ghost use Rattle.ilp_rules.specs.Lawful.{IsLawful};
 ghost use Rattle.ilp_book.specs.AnswerStep.{answer_step, expire_step, IsOverBy};
 ghost use Rattle.ilp_book.specs.SettleStep.{kept, close_step, IsClosedBy, IsKeptBy};
 ghost use Rattle.ilp_book.specs.Run.{Step, AreAllowed, book_after};
 ghost use Rattle.ilp_book.specs.Rows.{PaidRow, LateRow, ReleasedRow, ExpiredRow, LeastRow, TermsRow, TotalRow, FullRow, OlderRow, CreditedRow, SettledRow, PartsRow, CarriedRow};
+ghost use Rattle.ilp_book.specs.AlikeRows.{AlikeRow};
 
 pub use ilp_rules::laws::{
     bases_can_rise, carried_books, lawful_books, recovered_begins, saved_texts_are_carried,
@@ -99,4 +101,5 @@ pub fn rows()
     ensures settled { SettledRow }
     ensures parts { PartsRow }
     ensures carried { (c : List ℕ) → CarriedRow c }
+    ensures alike { (c : List ℕ) → AlikeRow c }
 {}

@@ -19,14 +19,21 @@
 //!   its least, `sums` that the books of the asset balance. `balance`, `open_holds`, `fulfilled`
 //!   and `sums` are the sums of the journal, and balances and sums are within 2^96 of 0; `new` is a
 //!   book of no entries; `HoldFault::reject_code` is the RFC's code.
+//! - `period` is the number of the book's period: 0 of a new book, and that of its text of one that
+//!   is carried over or recovered.
 //! - `open_settlement` is the open settlement to a peer with the least number behind the one that
 //!   was tried last, else of all, with its amount; `most_open_asks`, four, may be open at once.
-//! - `save` writes exactly the text of the journal; where a write fails or takes no octet, a front
-//!   of it that is not all. It has no allocator. Its condition: the configuration is the book's
-//!   own. What it wrote is carried over by that configuration, and refused for nothing but want of
-//!   memory.
+//! - `save` writes exactly the text of the period with its journal; where a write fails or takes no
+//!   octet, a front of it that is not all. It has no allocator. Its condition: the configuration is
+//!   the book's own. What it wrote is carried over by that configuration, and refused for nothing
+//!   but want of memory.
 //! - `carry_over` answers the book that `ilp_rules` makes of a text, or why there is none. `recover`
 //!   does so of a text and the lines of entries that were logged behind it.
+//! - `bring_forward` answers the book of the next period by a configuration, which begins with what is
+//!   brought forward (`NextPeriod.antt` of `ilp_next_period`, `next_book`), and only where it may
+//!   (`MayFollow`) and there is room; else it tells which of these is wanting (`IsWhyNotClosed`), or
+//!   memory. The book that it is asked of stays as it is. What this leaves as it was is said by the laws
+//!   of `ilp_next_period::periods`.
 //! - `runs_are_lawful`: over a valid configuration, for every list of the six calls within their
 //!   conditions (known peers, the destination's own route, a key of 1 to 128 octets), of any
 //!   actors, at any times, however short memory is, the journal is lawful, and the books of each
@@ -52,5 +59,6 @@ mod terms;
 pub use book::Book;
 pub use calls::{Asked, Held, Kept, Outcome, PeerReply, Sums};
 pub use fault::{AskFault, CreditFault, HoldFault, NotOpen};
+pub use ilp_next_period::ForwardFault;
 pub use ilp_rules::{BrokenRule, CarryFault, RecoverFault};
 pub use ilp_settlement::EngineVerdict;

@@ -39,14 +39,14 @@ pub fn account_head(engine: &str) -> Outgoing<'_>
 
 /// The head of a request that asks an engine for a settlement under a key (RFC 0038). Its body is
 /// the JSON of a quantity.
-pub fn settlement_head<'a>(engine: &'a str, target: &'a ShortText, key: &'a str) -> Outgoing<'a>
+pub fn settlement_head<'a>(engine: &'a str, target: &'a ShortText, key: &'a [u8]) -> Outgoing<'a>
     ensures { IsHead result engine.now target.now kind.Json (key_line key.now) }
 {
     Outgoing {
         target: target.as_slice(),
         host: engine.as_bytes(),
         kind: Kind::Json,
-        own: OwnField::IdempotencyKey(key.as_bytes()),
+        own: OwnField::IdempotencyKey(key),
     }
 }
 

@@ -84,6 +84,9 @@ named_stays f j more (what.Credited c) once = refl
 named_stays f j more (what.Asked a) once = refl
 named_stays f j more (what.Confirmed ask) once = refl
 named_stays f j more (what.Undone ask) once = refl
+named_stays f j more (what.Opened peer balance) once = refl
+named_stays f j more (what.Known c) once = refl
+named_stays f j more (what.Pending peer amount key) once = refl
 
 -- what is named since a place is no more than what is named at all
 since_less : (f : Hold → ℕ) (base : ℕ) (j : Entries) (o : Option ℕ) → of_named j f (since base o) ≤ of_named j f o

@@ -69,6 +69,9 @@ module _ (f : Hold → ℕ) (g : AnsweredHold → ℕ) (tells : (n : ℕ) (h : H
       of (what.Asked a) = refl
       of (what.Confirmed ask) = kept n (closed ask engine.Accepted) (λ _. 0) (ask_at j ask) (λ a. refl) ∙ nothing (ask_at j ask)
       of (what.Undone ask) = kept n (closed ask engine.Refused) (λ _. 0) (ask_at j ask) (λ a. refl) ∙ nothing (ask_at j ask)
+      of (what.Opened peer balance) = refl
+      of (what.Known c) = refl
+      of (what.Pending peer amount key) = refl
 
   -- all records tell what was fulfilled
   of_entries : (n : ℕ) (es : Entries) → sum_by weight (listed j (λ _. true) n es) ≡ sum_by (λ (e : Entry). of_named j f (fulfilled e.what)) es
@@ -99,6 +102,9 @@ counts_one j more (what.Credited c) once = refl
 counts_one j more (what.Asked a) once = refl
 counts_one j more (what.Confirmed ask) once = refl
 counts_one j more (what.Undone ask) once = refl
+counts_one j more (what.Opened peer balance) once = refl
+counts_one j more (what.Known c) once = refl
+counts_one j more (what.Pending peer amount key) once = refl
 
 count_after : (before es : Entries) → EachAfter AnswersOnce before es → (j : Entries) → j ≡ before ++ es
     → sum_by (λ (e : Entry). of_named j (λ _. 1) (fulfilled e.what)) es ≡ sum_by (λ (e : Entry). cond (is_some (fulfilled e.what)) 1 0) es

@@ -5,3 +5,4 @@ pub mod Fulfilled
 pub mod Splits
 pub mod Walks
 pub mod Gathered
+pub mod Heads

@@ -1,16 +1,18 @@
 -- The desk that is named, and which books are its own.
-use Rattle.std.specs.Prelude.{◌≡◌, ℕ, ◌+◌, ◌<◌, [], ◌++◌, length, drop, All}
+use Rattle.std.specs.Prelude.{◌≡◌, ℕ, ◌+◌, ◌<◌, List, [], ◌++◌, length, drop, All}
 use Rattle.ilp_accounts.specs.Configuration.{Configuration}
 use Rattle.ilp_accounts.specs.declared.settings.LogSync.TheVariants.{Group}
 use Rattle.ilp_journal.specs.declared.entry.Entry.{Entry}
 use Rattle.ilp_journal.specs.Journal.{Entries}
+use Rattle.ilp_rules.specs.SettlementKeys.{settlement_key_at}
 use Rattle.ilp_book.specs.Book.{PlainBook}
 use Rattle.ilp_book.specs.Lawful.{IsLawful}
 
--- a desk: its configuration, how many workers it has, and the journal that it was opened with
+-- a desk: its configuration, how many workers it has, the number of its period, and the journal that it was opened with
 pub record PlainDesk : Type 0 where
   pub config : Configuration
   pub workers : ℕ
+  pub period : ℕ
   pub opening : Entries
 
 -- ---- actors
@@ -32,14 +34,20 @@ base_of desk = length desk.opening
 abbrev pub booked : PlainDesk → Entries → Entries
 booked desk j = drop (base_of desk) j
 
--- A book of the desk is lawful. It has the desk's configuration and base, and its journal is the opening one and then entries of
--- the desk's actors.
+-- A book of the desk is lawful. It has the desk's configuration, period and base, and its journal is the opening one and then
+-- entries of the desk's actors.
 pub record IsBookOf (desk : PlainDesk) (book : PlainBook) : Type 0 where
   pub config : book.config ≡ desk.config
+  pub period : book.period ≡ desk.period
   pub base : book.base ≡ base_of desk
   pub begins : book.entries ≡ desk.opening ++ booked desk book.entries
   pub acted : All (λ (e : Entry). IsActor desk e.actor) (booked desk book.entries)
   pub lawful : IsLawful book
+
+-- The key under which an engine is asked for the settlement of a number. What is brought forward from an earlier period stands in
+-- the journal that the desk was opened with, so it is the same whenever the engine is asked.
+abbrev pub settlement_key_in : PlainDesk → ℕ → List ℕ
+settlement_key_in desk n = settlement_key_at desk.config desk.period desk.opening n
 
 -- ---- no desk
 
@@ -49,4 +57,4 @@ nothing = record { settings = record { address = []; run = []; listen = []; engi
 
 -- what stands for the desk where none is named
 abbrev pub no_desk : PlainDesk
-no_desk = record { config = nothing; workers = 0; opening = [] }
+no_desk = record { config = nothing; workers = 0; period = 0; opening = [] }

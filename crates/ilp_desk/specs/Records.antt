@@ -43,6 +43,9 @@ recorded_of j (what.Credited c) = Some (recorded.Credited c.peer c.credited)
 recorded_of j (what.Asked a) = None
 recorded_of j (what.Confirmed n) = option_map (closed n Accepted) (ask_at j n)
 recorded_of j (what.Undone n) = option_map (closed n Refused) (ask_at j n)
+recorded_of j (what.Opened peer balance) = None
+recorded_of j (what.Known c) = None
+recorded_of j (what.Pending peer amount key) = None
 
 -- the record of an entry of j, which has the number n
 abbrev pub record_of : Entries → ℕ → Entry → Option Record

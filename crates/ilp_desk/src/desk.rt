@@ -76,6 +76,7 @@ impl<J: Naming> Desk<J> {
     ) -> Result<(Desk<J>, Vec<Share<J>, A>), NoDesk>
         requires config { (config.now ≡ J.desk.config) × (book.config ≡ J.desk.config) }
         requires workers { workers ≡ J.desk.workers }
+        requires period { book.period ≡ J.desk.period }
         requires opening { (book.entries ≡ J.desk.opening) × (book.base ≡ base_of J.desk) }
         requires ledger { (blanks.name ≡ J.name) × (blanks.parts ≡ J.parts) }
         requires parts { J.parts ≡ actors_of J.desk }

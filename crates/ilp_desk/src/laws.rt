@@ -10,7 +10,8 @@ ghost use Rattle.ilp_book.specs.Configured.{peer_assets};
 ghost use Rattle.ilp_book.specs.Lawful.{IsLawful};
 ghost use Rattle.ilp_desk.specs.declared.gathering.WhyNotGathered.{WhyNotGathered};
 ghost use Rattle.ilp_desk.specs.declared.gathering.WhyNotGathered.TheVariants as Why;
-ghost use Rattle.ilp_desk.specs.Desk.{PlainDesk, IsActor};
+ghost use Rattle.ilp_rules.specs.SettlementKeys.{settlement_key_at};
+ghost use Rattle.ilp_desk.specs.Desk.{PlainDesk, IsActor, IsBookOf, settlement_key_in};
 ghost use Rattle.ilp_desk.specs.Portion.{Holding};
 ghost use Rattle.ilp_desk.specs.Totals.{taken_since, sold_since};
 ghost use Rattle.ilp_desk.specs.Gathering.{IsWhole, IsWhyNotGathered, holders};
@@ -31,6 +32,12 @@ pub fn packets_fit()
         → total_in (peer_assets book.config) book.base book.entries asset ≤ most }
     ensures most_out { (book : PlainBook) (asset : ℕ) → IsLawful book
         → total_out (peer_assets book.config) book.base book.entries asset ≤ most }
+{}
+
+/// A settlement has one key, whichever book of its desk is looked at.
+pub fn settlements_keep_their_keys()
+    ensures { (desk : PlainDesk) (book : PlainBook) (n : ℕ) → IsBookOf desk book
+        → settlement_key_at book.config book.period book.entries n ≡ settlement_key_in desk n }
 {}
 
 /// Where each actor hands in one end, the only reason not to gather is that one disagrees; where

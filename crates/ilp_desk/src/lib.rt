@@ -24,6 +24,9 @@
 //! - `Desk::hold_shown` and the five others are sessions with a receipt: what it had seen begins the
 //!   journal that was found, and then it has seen the one that was left, with the session's entry
 //!   (`IsShownAt`). `open_settlement_shown` is a look with a receipt (`IsShownLook`).
+//! - `LockedBook::earlier_key` tells the key of a settlement that was brought forward from an earlier
+//!   period. `settlements_keep_their_keys`: a settlement has one key, whichever book of the desk is
+//!   looked at.
 //! - `LockedBook::snapshot` copies what the report tells of its book, and `open_settlement` tells the
 //!   open settlement that comes next; those of `Desk` tell it of some book of the desk. Nothing
 //!   changes.

@@ -1,8 +1,10 @@
 //! What the lock of a desk lends: the book, and its calls as sessions of the desk's actors.
 ghost use Rattle.std.specs.Prelude.{◌≡◌, ◌+◌, ◌≤◌, IfOk, IfErr, OnErr, length, sum_by};
+ghost use Rattle.std.specs.Option.{option_copied};
 ghost use mathlib.Core.List.{IsPrefix};
 ghost use Rattle.ilp_packet.specs.Packet.{plain_prepare};
 ghost use Rattle.ilp_accounts.specs.Limits.{most_workers};
+ghost use Rattle.ilp_journal.specs.BroughtForward.{earlier_key_at};
 ghost use Rattle.ilp_book.specs.Book.{by, Does};
 ghost use Rattle.ilp_book.specs.Configured.{IsKnown};
 ghost use Rattle.ilp_book.specs.HoldStep.{incoming, hold_step, growth_of};
@@ -65,6 +67,7 @@ impl<J: Naming> LockedBook<J> {
         list: EntryList,
     ) -> LockedBook<J>
         requires config { book.config ≡ J.desk.config }
+        requires period { book.period ≡ J.desk.period }
         requires opening { book.entries ≡ J.desk.opening }
         requires base { book.base ≡ base_of J.desk }
         requires total { total.total ≡ 0 }
@@ -228,6 +231,14 @@ impl<J: Naming> LockedBook<J> {
         self.book().open_settlement(peer, tried)
     }
 
+    /// The key that the settlement of this number had in an earlier period, where it is of one. No share
+    /// is lent for it, and the book stays as it is.
+    pub fn earlier_key(&self, number: u32) -> Option<&Key>
+        ensures { option_copied result ≡ earlier_key_at J.desk.opening number }
+    {
+        earlier_key_in(self.book(), number)
+    }
+
     /// What the report of the book tells now, in units of each asset: see `Snapshot::of`. `AllocError`
     /// tells that memory is short. No share is lent for it, and the book stays as it is.
     pub fn snapshot<A: Allocator + Copy>(&self, alloc: A) -> Result<Snapshot<A>, AllocError>
@@ -302,5 +313,15 @@ impl<J: Naming> LockedBook<J> {
             workers,
             entries,
         }
+    }
+}
+
+// The key that the settlement of this number had in an earlier period, where it is of one.
+fn earlier_key_in(book: &Book, number: u32) -> Option<&Key>
+    ensures { option_copied result ≡ earlier_key_at book.now.entries number }
+{
+    match book.entry(number) {
+        Some(entry) => entry.what.earlier_key(),
+        None => None,
     }
 }

@@ -2,8 +2,8 @@
 use std::marker::Brand;
 use std::sync::ledger::Ledger;
 
-/// Which desk it is: a ledger of its own, the configuration, the number of workers and the journal
-/// that it is opened with, and the list that its entries are told to. Code that opens a desk is
+/// Which desk it is: a ledger of its own, the configuration, the number of workers, the period and the
+/// journal that it is opened with, and the list that its entries are told to. Code that opens a desk is
 /// generic in it, and the call of that code picks it; a share of another desk doesn't compile.
 pub trait Naming: Ledger {
     ghost use Rattle.ilp_grown_list.specs.Seated.{TableId};

@@ -5,7 +5,7 @@ ghost use Rattle.ilp_desk.specs.Records.{answered_hold, closed, record_at, recor
 
 use crate::record::{AnsweredHold, HoldEnd, Record, Recorded};
 use ilp_book::{Book, EngineVerdict};
-use ilp_journal::{Cause, What};
+use ilp_journal::{Ask, Cause, What};
 
 // The record of the entry of this number, if it is the actor's.
 pub(crate) fn record_by(book: &Book, number: u32, actor: u32) -> Option<Record>
@@ -26,6 +26,7 @@ fn record_of(book: &Book, number: u32) -> Option<Record>
     let entry = book.entry(number)?;
     let what = match &entry.what {
         What::Hold(_) | What::Asked(_) => return None,
+        What::Opened { .. } | What::Known(_) | What::Pending { .. } => return None,
         What::Fulfilled { hold, .. } => answered_hold(book, *hold, HoldEnd::Fulfilled)?,
         What::Released { hold, cause } => {
             if *cause == Cause::Late {
@@ -66,14 +67,25 @@ fn answered_hold(book: &Book, number: u32, ended: HoldEnd) -> Option<Recorded>
 fn closed(book: &Book, number: u32, verdict: EngineVerdict) -> Option<Recorded>
     ensures { result ≡ option_map (closed number verdict) (ask_at book.now.entries number) }
 {
-    let entry = book.entry(number)?;
-    let What::Asked(ask) = &entry.what else {
-        return None;
-    };
+    let ask = ask_at(book, number)?;
     Some(Recorded::Closed {
         ask: number,
         peer: ask.peer,
         amount: ask.amount,
         verdict,
     })
+}
+
+// The settlement of this number, of this period or of an earlier one, if there is one.
+fn ask_at(book: &Book, number: u32) -> Option<Ask>
+    ensures { result ≡ ask_at book.now.entries number }
+{
+    match &book.entry(number)?.what {
+        What::Asked(ask) => Some(*ask),
+        What::Pending { peer, amount, .. } => Some(Ask {
+            peer: *peer,
+            amount: *amount,
+        }),
+        _ => None,
+    }
 }

@@ -5,11 +5,14 @@ ghost use Rattle.std.specs.Option.{option_copied};
 ghost use Rattle.ilp_journal.specs.Booked.{Booked, most_sum};
 ghost use Rattle.ilp_journal.specs.Journal.{AnswersHold, ClosesAsk, answer_of, closing_of, hold_at, ask_at};
 ghost use Rattle.ilp_journal.specs.Balance.{balance};
+ghost use Rattle.ilp_journal.specs.Credits.{credit_at};
+ghost use Rattle.ilp_journal.specs.BroughtForward.{earlier_key_at};
 
 use crate::answers::{answer_at, hold_at};
 use crate::balances::owed;
 use crate::closings::{ask_at, closing_at};
-use crate::entry::{Ask, Entry, Hold};
+use crate::entry::{Ask, Credited, Entry, Hold};
+use crate::key::Key;
 use crate::page::Slot;
 use crate::pages::Pages;
 use std::alloc::{AllocError, Allocator, Global};
@@ -100,6 +103,28 @@ impl<A: Allocator> Journal<A> {
         ensures { result ≡ ask_at self.now.entries number }
     {
         ask_at(&self.pages, number)
+    }
+
+    /// The credit whose key the entry of this number keeps: `None` where the entry is of another kind,
+    /// or there is none.
+    pub fn credit(&self, number: u32) -> Option<&Credited>
+        ensures { option_copied result ≡ credit_at self.now.entries number }
+    {
+        match self.pages.entry(number) {
+            Some(entry) => entry.what.credit(),
+            None => None,
+        }
+    }
+
+    /// The key under which the settlement of this number was asked for in an earlier period: `None`
+    /// where the entry is of another kind, or there is none.
+    pub fn earlier_key(&self, number: u32) -> Option<&Key>
+        ensures { option_copied result ≡ earlier_key_at self.now.entries number }
+    {
+        match self.pages.entry(number) {
+            Some(entry) => entry.what.earlier_key(),
+            None => None,
+        }
     }
 
     /// Adds an entry, into room that is there: `spare` and `len` tell whether it is. What it answers

@@ -10,6 +10,7 @@
 //!   log that failed is written anew. So a log has from its first moment all that it is to have then.
 //! - `J.new` for a moment, which is written and then takes the place of `J`. So `J` is at each moment a
 //!   whole text, or not there.
+//! - `J.P` for the number P of each period that has ended: its whole text, which is never written again.
 //!
 //! None of them may be a link or have a second name: else two connectors would have one journal. Where
 //! `J.running` lies there, the mark of an earlier version that kept no log, the journal is refused.
@@ -22,6 +23,7 @@
 //! - The names of a journal's files (`Names::of`). All else is proved safe, and no more.
 #![tactic(auto)]
 
+mod comparing;
 mod fault;
 mod given;
 mod limited;
@@ -33,6 +35,7 @@ mod marking;
 mod mounts;
 mod names;
 mod noting;
+mod periods;
 mod placing;
 mod reading;
 mod remembering;
@@ -42,11 +45,13 @@ mod system_text;
 mod taking;
 mod writing;
 
+pub use comparing::has_text;
 pub use fault::FileFault;
 pub use locking::LockFile;
 pub use log_device::LogDevice;
 pub use looking::{Found, look_at};
 pub use noting::Noting;
 pub use placing::{FileIdentity, FileThere, PlacesFiles, put_in_place};
+pub use reading::read_text;
 pub use taking::JournalFile;
 pub use writing::Content;

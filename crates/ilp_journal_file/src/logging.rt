@@ -54,8 +54,17 @@ impl<F> JournalFile<F> {
     /// Removes the log, of which the journal has all. Where there is none nothing is done. Where it can't be
     /// removed, a line says that the next start does it.
     pub fn remove_log<R: Files + Clock + Eprint>(&self, rt: &R) {
-        if let Err(error) = self.names.remove_log(rt) {
-            log_left(rt, self.log_path(), &error);
+        let _ = self.expect_no_log(rt);
+    }
+
+    /// The same, for whoever can't go on beside a log. It is refused as `Unwritten` where it can't be removed.
+    pub fn expect_no_log<R: Files + Clock + Eprint>(&self, rt: &R) -> Result<(), FileFault> {
+        match self.names.remove_log(rt) {
+            Ok(()) => Ok(()),
+            Err(error) => {
+                log_left(rt, self.log_path(), &error);
+                Err(FileFault::Unwritten)
+            }
         }
     }
 }

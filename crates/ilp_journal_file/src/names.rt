@@ -1,5 +1,6 @@
 //! The names of the files.
 ghost use Rattle.std.specs.Prelude.{◌≡◌, ◌++◌, codes, string_bytes, IfOk};
+ghost use Rattle.std.specs.Fmt.{decimal};
 
 use crate::fault::FileFault;
 use ilp_notices::not_made;
@@ -48,6 +49,15 @@ impl Names {
             log_new: beside(alloc, path, ".log.new")?,
             running: beside(alloc, path, ".running")?,
         })
+    }
+
+    /// The name of the file in which the text of a period is kept that has ended.
+    pub(crate) fn period(&self, alloc: Global, period: u32) -> Result<String, AllocError>
+        ensures { IfOk result (λ name. string_bytes name
+            ≡ string_bytes self.now.journal ++ (codes "." ++ decimal period)) }
+    {
+        let journal = self.journal.as_str();
+        format!(in alloc; "{journal}.{period}")
     }
 
     /// Finds that the path names a file at all.

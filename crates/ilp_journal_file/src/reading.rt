@@ -6,11 +6,11 @@ use crate::taking::JournalFile;
 use ilp_io::{ReadFault, read_to_limit};
 use ilp_notices::{journal_too_long, journal_unread};
 use std::alloc::Global;
-use std::fs;
 use std::fs::OpenFile;
 use std::io::{Eprint, ErrorKind};
 use std::rt::Files;
 use std::time::Clock;
+use std::{fs, io};
 
 /// The most octets of a text that is read.
 pub(crate) const TEXT_LIMIT: usize = 8_589_934_592;
@@ -34,6 +34,22 @@ impl<F> JournalFile<F> {
         R: Files + Clock + Eprint,
     {
         read(rt, alloc, self.names.log.as_str())
+    }
+}
+
+/// The text of the journal at this path, also while a connector has it.
+///
+/// Refusals: `Unread` where there is none, and those of `JournalFile::read`.
+pub fn read_text<R>(rt: &R, alloc: Global, path: &str) -> Result<Vec<u8>, FileFault>
+where
+    R: Files + Clock + Eprint,
+{
+    match read(rt, alloc, path)? {
+        Some(text) => Ok(text),
+        None => {
+            journal_unread(rt, path, &io::Error::from(ErrorKind::NotFound));
+            Err(FileFault::Unread)
+        }
     }
 }
 

@@ -17,12 +17,12 @@ const TRIES: u32 = 60;
 
 const REST: u64 = 1;
 
-// How far a save has come.
+/// How far a save has come.
 #[derive(Clone, Copy, PartialEq, Eq)]
-enum Reached {
-    // The journal is as at the start.
+pub(crate) enum Reached {
+    /// The journal is as at the start.
     Nothing,
-    // It is the new one, and the system may forget that where the machine stops.
+    /// It is the new one, and the system may forget that where the machine stops.
     Name,
 }
 
@@ -99,8 +99,8 @@ impl<F> JournalFile<F> {
         Err(last)
     }
 
-    // Goes on with a save from where it is: what has taken the journal's place is not written again.
-    fn go_on<R, C>(
+    /// Goes on with a save from where it is: what has taken the journal's place is not written again.
+    pub(crate) fn go_on<R, C>(
         &self,
         rt: &R,
         alloc: Global,
@@ -112,14 +112,20 @@ impl<F> JournalFile<F> {
         C: Content,
     {
         if *reached == Reached::Nothing {
-            self.replace(rt, alloc, content)?;
+            self.replace(rt, alloc, content, self.names.journal.as_str())?;
             *reached = Reached::Name;
         }
         self.names.sync_folder(rt)
     }
 
-    // Writes `J.new`, and gives it the name of the journal.
-    fn replace<R, C>(&self, rt: &R, alloc: Global, content: &C) -> io::Result<()>
+    /// Writes `J.new`, and gives it this name once the device has it.
+    pub(crate) fn replace<R, C>(
+        &self,
+        rt: &R,
+        alloc: Global,
+        content: &C,
+        name: &str,
+    ) -> io::Result<()>
     where
         R: Files,
         C: Content,
@@ -127,7 +133,7 @@ impl<F> JournalFile<F> {
         let new = self.names.new.as_str();
         let file = create_anew(rt, new, self.names.mode(rt))?;
         write_synced(alloc, Limited::new(rt, alloc, file), content)?;
-        fs::rename(rt, new, self.names.journal.as_str())
+        fs::rename(rt, new, name)
     }
 
     fn tell_unsaved<R: Clock + Eprint>(&self, rt: &R, reached: Reached, last: &io::Error) {

@@ -72,7 +72,11 @@ const RIGHTS: u32 = 0o777;
 // The rights that a new file is asked for; the system takes off what its user has set (umask).
 const NEW: u32 = 0o666;
 
-fn expect_plain<R: Files + Clock + Eprint>(rt: &R, path: &str) -> Result<(), FileFault> {
+/// Finds nothing at the path, or a plain file with one name. Where the system doesn't say what stands there,
+/// opening it will.
+///
+/// It is refused as `Unread`.
+pub(crate) fn expect_plain<R: Files + Clock + Eprint>(rt: &R, path: &str) -> Result<(), FileFault> {
     let Ok(metadata) = fs::symlink_metadata(rt, path) else {
         return Ok(());
     };

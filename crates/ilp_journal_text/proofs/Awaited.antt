@@ -39,6 +39,9 @@ module _ (C : Configuration) where
   what_few (what.Asked a) = omega arith
   what_few (what.Confirmed ask) = omega arith
   what_few (what.Undone ask) = omega arith
+  what_few (what.Opened peer balance) = omega arith
+  what_few (what.Known c) = omega arith
+  what_few (what.Pending peer amount key) = omega arith
 
   -- no line has more than ten fields
   pub entry_few : (e : Entry) → length (entry_fields C e) ≤ 10

@@ -1,5 +1,5 @@
 -- The first bad line of a text: that where a reader stops is the one, and there is no other.
-use Rattle.std.proofs.Common.{◌≡◌, ◌⊎◌, ℕ, ◌+◌, ◌^◌, ◌<◌, ◌≤◌, false, true, List, [], ◌∷◌, ◌++◌, length, map, slice_index_or, refl, sym, ap, subst, ◌∙◌, arith, append_assoc, length-append, All, inl, inr}
+use Rattle.std.proofs.Common.{◌≡◌, ◌⊎◌, ℕ, ◌+◌, ◌^◌, ◌<◌, ◌≤◌, false, List, [], ◌∷◌, ◌++◌, length, map, slice_index_or, refl, sym, ap, subst, ◌∙◌, arith, append_assoc, length-append, All, inl, inr}
 use Rattle.std.specs.List.{slice_split, flat_map}
 use Rattle.std.specs.Prelude.{codes}
 use Rattle.std.specs.Fmt.{decimal}
@@ -11,11 +11,12 @@ use Rattle.ilp_accounts.specs.Valid.{IsValid}
 use Rattle.ilp_journal.specs.declared.entry.Entry.{Entry}
 use Rattle.ilp_journal.specs.Journal.{Entries}
 use Rattle.ilp_journal_text.specs.Text.{first_line, entry_line, end_line, journal_text}
-use Rattle.ilp_journal_text.specs.Reading.{CanStand, IsTextOf, Unread, HasRead, LacksFirstLine, LacksEntry, LacksLine, GoesOn, IsBadAt, IsLine, joined, BeginsText, IsFirstBadLine}
+use Rattle.ilp_journal_text.specs.Reading.{CanStand, StandsIn, IsTextOf, Unread, HasRead, LacksFirstLine, LacksEntry, LacksLine, GoesOn, IsBadAt, IsLine, joined, BeginsText, IsFirstBadLine}
 use Rattle.ilp_journal_text.specs.Fields.{is_line_end}
-use Rattle.ilp_journal_text.proofs.Ink.{IsInk, AreInk, decimal_ink, word_ink, typed_of}
+use Rattle.ilp_journal_text.proofs.Ink.{IsInk, decimal_ink, word_ink, typed_of}
 use Rattle.ilp_journal_text.proofs.Cuts.{body, body_ink, cut_line, line_parts}
 use Rattle.ilp_journal_text.proofs.Awaited.{entry_body, entry_parts, typed_line}
+use Rattle.ilp_journal_text.proofs.FirstLines.{first_is_line, same_first}
 use Rattle.ilp_journal_text.proofs.OneText.{end_lacks, end_alone, same_entries, never_bad_at}
 
 -- ---- lines
@@ -85,7 +86,12 @@ compared (x ∷ b) (y ∷ c) r s lines also same =
 module _ (C : Configuration) where
   -- a front of what begins a text begins it
   begins_front : (front more : List ℕ) → BeginsText C (front ++ more) → BeginsText C front
-  begins_front front more (j, stand, after, whole) = (j, stand, more ++ after, whole ∙ append_assoc front more after)
+  begins_front front more begins = record {
+    period = begins.period;
+    entries = begins.entries;
+    after = more ++ begins.after;
+    is = subst (IsTextOf C begins.period begins.entries) (append_assoc front more begins.after) begins.is;
+  }
 
   not_onward : (text : List ℕ) (m n : ℕ) (bad : IsFirstBadLine C text m) (other : IsFirstBadLine C text n) → Onward bad.before bad.rest other.before → ⊥
   not_onward text m n bad other (l, after, more, line, here, on) =
@@ -101,30 +107,24 @@ module _ (C : Configuration) where
       of (inr (inr on)) = absurd (not_onward text n m other bad on)
 
   -- and that of a journal has none
-  pub never_bad : (j : Entries) (text : List ℕ) (number : ℕ) → IsTextOf C j text → IsFirstBadLine C text number → ⊥
-  never_bad j text number is bad = bad.no_text j is
+  pub never_bad : (period : ℕ) (j : Entries) (text : List ℕ) (number : ℕ) → IsTextOf C period j text → IsFirstBadLine C text number → ⊥
+  never_bad period j text number is bad = bad.no_text period j is
 
   -- ---- where a reader stops
-
-  first_is_line : IsLine first_line
-  first_is_line = record {
-    body = body (codes "ilp-journal") (codes "1" ∷ []);
-    whole = refl;
-    clean = body_ink (codes "ilp-journal") (codes "1" ∷ []) (word_ink (codes "ilp-journal") refl) (All-cons (All IsInk) (codes "1") [] (word_ink (codes "1") refl) (All-nil (All IsInk)));
-  }
 
   -- the first line
   pub lacks_first : (text : List ℕ) → LacksFirstLine text → IsFirstBadLine C text 1
   lacks_first text lacks = record {
-    no_text = λ j is. lacks _ is.whole;
+    no_text = λ period j is. lacks period _ is.numbered is.whole;
     before = [];
     rest = text;
     whole = refl;
     lines = All-nil IsLine;
-    begins = ([], All-nil (CanStand C), journal_text C [], refl);
-    bad = λ l after line here (j, stand, more, whole).
-        let same = one_line l first_line more (flat_map (entry_line C) j ++ end_line (length j)) line first_is_line (sym whole) in
-        lacks after (here ∙ ap (λ (o : List ℕ). o ++ after) same.0);
+    begins = record { period = 0; entries = []; after = journal_text C 0 []; is = record { whole = refl; numbered = omega arith; entries = All-nil (StandsIn C 0) } };
+    bad = λ l after line here begins.
+        let first : IsLine (first_line begins.period) = first_is_line begins.period begins.is.numbered in
+        let same = one_line l (first_line begins.period) begins.after (flat_map (entry_line C) begins.entries ++ end_line (length begins.entries)) line first begins.is.whole in
+        lacks begins.period after begins.is.numbered (here ∙ ap (λ (o : List ℕ). o ++ after) same.0);
     number = refl;
   }
 
@@ -133,9 +133,10 @@ module _ (C : Configuration) where
     entry_is_line e stands = typed_line C valid e (typed_of C e stands)
 
     -- the lines of entries
-    are_lines : (j : Entries) → All (CanStand C) j → All IsLine (map (entry_line C) j)
-    are_lines [] stand = All-nil IsLine
-    are_lines (e ∷ j) stand = All-cons IsLine (entry_line C e) (map (entry_line C) j) (entry_is_line e (All-head (CanStand C) e j stand)) (are_lines j (All-tail (CanStand C) e j stand))
+    are_lines : (period : ℕ) (j : Entries) → All (StandsIn C period) j → All IsLine (map (entry_line C) j)
+    are_lines period [] stand = All-nil IsLine
+    are_lines period (e ∷ j) stand =
+        All-cons IsLine (entry_line C e) (map (entry_line C) j) (entry_is_line e (All-head (StandsIn C period) e j stand).stands) (are_lines period j (All-tail (StandsIn C period) e j stand))
 
     joined_entries : (j : Entries) → joined (map (entry_line C) j) ≡ flat_map (entry_line C) j
     joined_entries [] = refl
@@ -154,75 +155,87 @@ module _ (C : Configuration) where
 
     module _ (text : List ℕ) (j : Entries) (u : Unread) (read : HasRead C text j u) where
       few : length text < 2 ^ 64 → u.count < 10 ^ 64
-      few fits = omega (arith, fits, read.count, many j, ap length read.whole, length-append first_line (flat_map (entry_line C) j ++ u.rest), length-append (flat_map (entry_line C) j) u.rest)
+      few fits = omega (arith, fits, read.count, many j, ap length read.whole, length-append (first_line u.period) (flat_map (entry_line C) j ++ u.rest), length-append (flat_map (entry_line C) j) u.rest)
 
-      lines_read : All IsLine (first_line ∷ map (entry_line C) j)
-      lines_read = All-cons IsLine first_line (map (entry_line C) j) first_is_line (are_lines j read.entries)
+      lines_read : All IsLine (first_line u.period ∷ map (entry_line C) j)
+      lines_read = All-cons IsLine (first_line u.period) (map (entry_line C) j) (first_is_line u.period read.numbered) (are_lines u.period j read.entries)
 
       -- the lines that were read, and what follows
-      read_front : (more : List ℕ) → joined (first_line ∷ map (entry_line C) j) ++ more ≡ first_line ++ (flat_map (entry_line C) j ++ more)
-      read_front more = ap (λ (o : List ℕ). (first_line ++ o) ++ more) (joined_entries j) ∙ append_assoc first_line (flat_map (entry_line C) j) more
+      read_front : (more : List ℕ) → joined (first_line u.period ∷ map (entry_line C) j) ++ more ≡ first_line u.period ++ (flat_map (entry_line C) j ++ more)
+      read_front more = ap (λ (o : List ℕ). (first_line u.period ++ o) ++ more) (joined_entries j) ∙ append_assoc (first_line u.period) (flat_map (entry_line C) j) more
 
       -- a journal that begins with these entries and then something that is no entry's line goes on with its end line
-      then_ends : (k : Entries) (more : List ℕ) → All (CanStand C) k → LacksEntry C more → journal_text C k ≡ joined (first_line ∷ map (entry_line C) j) ++ more → end_line u.count ≡ more
-      then_ends k more stand lacks whole =
-          let tails = append_cancel_left first_line (flat_map (entry_line C) k ++ end_line (length k)) (flat_map (entry_line C) j ++ more) (whole ∙ read_front more) in
-          let same = same_entries C valid k j (end_line (length k)) more stand read.entries (end_alone C valid (length k)) lacks tails in
+      then_ends : (period : ℕ) (k : Entries) (more : List ℕ) → LacksEntry C u.period more → IsTextOf C period k (joined (first_line u.period ∷ map (entry_line C) j) ++ more) → end_line u.count ≡ more
+      then_ends period k more lacks is =
+          let first = same_first period u.period is.numbered read.numbered (flat_map (entry_line C) k ++ end_line (length k)) (flat_map (entry_line C) j ++ more) (sym is.whole ∙ read_front more) in
+          let stand : All (StandsIn C u.period) k = subst (λ (n : ℕ). All (StandsIn C n) k) first.0 is.entries in
+          let same = same_entries C valid u.period k j (end_line (length k)) more stand read.entries (end_alone C valid u.period (length k)) lacks first.1 in
           ap end_line (read.count ∙ sym (ap length same.0)) ∙ same.1
 
       -- the next line is neither that of an entry nor the end line
       lacks_line : length text < 2 ^ 64 → LacksLine C u → (number : ℕ) → number ≡ u.count + 2 → IsFirstBadLine C text number
       lacks_line fits lacks number is = record {
-        no_text = λ k text_of. never_bad_at C valid k j text u number text_of read (inl (lacks, is));
-        before = first_line ∷ map (entry_line C) j;
+        no_text = λ period k text_of. never_bad_at C valid period k j text u number text_of read (inl (lacks, is));
+        before = first_line u.period ∷ map (entry_line C) j;
         rest = u.rest;
         whole = read.whole ∙ sym (read_front u.rest);
         lines = lines_read;
-        begins = (j, read.entries, end_line (length j), sym (read_front (end_line (length j))));
+        begins = record { period = u.period; entries = j; after = end_line (length j); is = record { whole = read_front (end_line (length j)); numbered = read.numbered; entries = read.entries } };
         bad = no_line;
         number = omega (arith, is, read.count, count_lines j);
       }
         where
-          no_line : (l after : List ℕ) → IsLine l → u.rest ≡ l ++ after → ¬ BeginsText C (joined (first_line ∷ map (entry_line C) j) ++ l)
-          no_line l after line here (k, stand, more, whole) =
-              let ends = then_ends k (l ++ more) stand no_entry (whole ∙ append_assoc (joined (first_line ∷ map (entry_line C) j)) l more) in
-              let same = one_line (end_line u.count) l [] more (end_is_line u.count (few fits)) line (append-nil (end_line u.count) ∙ ends) in
+          no_line : (l after : List ℕ) → IsLine l → u.rest ≡ l ++ after → ¬ BeginsText C (joined (first_line u.period ∷ map (entry_line C) j) ++ l)
+          no_line l after line here begins =
+              let whole = subst (IsTextOf C begins.period begins.entries) (append_assoc (joined (first_line u.period ∷ map (entry_line C) j)) l begins.after) begins.is in
+              let ends = then_ends begins.period begins.entries (l ++ begins.after) no_entry whole in
+              let same = one_line (end_line u.count) l [] begins.after (end_is_line u.count (few fits)) line (append-nil (end_line u.count) ∙ ends) in
               lacks.end after (here ∙ ap (λ (o : List ℕ). o ++ after) (sym same.0))
             where
-              no_entry : LacksEntry C (l ++ more)
+              no_entry : LacksEntry C u.period (l ++ begins.after)
               no_entry e further stands comes =
-                  let same = one_line l (entry_line C e) more further line (entry_is_line e stands) comes in
+                  let same = one_line l (entry_line C e) begins.after further line (entry_is_line e stands.stands) comes in
                   lacks.entry e after stands (here ∙ ap (λ (o : List ℕ). o ++ after) same.0)
 
       -- the end line is next, and then more
       goes_on : length text < 2 ^ 64 → GoesOn u → (number : ℕ) → number ≡ u.count + 3 → IsFirstBadLine C text number
       goes_on fits goes number is = record {
-        no_text = λ k text_of. never_bad_at C valid k j text u number text_of read (inr (goes, is));
-        before = (first_line ∷ map (entry_line C) j) ++ end_line u.count ∷ [];
+        no_text = λ period k text_of. never_bad_at C valid period k j text u number text_of read (inr (goes, is));
+        before = (first_line u.period ∷ map (entry_line C) j) ++ end_line u.count ∷ [];
         rest = goes.after;
-        whole = read.whole ∙ ap (λ (o : List ℕ). first_line ++ (flat_map (entry_line C) j ++ o)) goes.whole ∙ sym (all_front goes.after);
-        lines = All-push IsLine (first_line ∷ map (entry_line C) j) (end_line u.count) lines_read (end_is_line u.count (few fits));
-        begins = (j, read.entries, [], ap (λ (o : List ℕ). first_line ++ (flat_map (entry_line C) j ++ o)) (ap end_line (sym read.count) ∙ sym (append-nil (end_line u.count))) ∙ sym (all_front []));
+        whole = read.whole ∙ ap (λ (o : List ℕ). first_line u.period ++ (flat_map (entry_line C) j ++ o)) goes.whole ∙ sym (all_front goes.after);
+        lines = All-push IsLine (first_line u.period ∷ map (entry_line C) j) (end_line u.count) lines_read (end_is_line u.count (few fits));
+        begins = record {
+          period = u.period;
+          entries = j;
+          after = [];
+          is = record {
+            whole = all_front [] ∙ ap (λ (o : List ℕ). first_line u.period ++ (flat_map (entry_line C) j ++ o)) (append-nil (end_line u.count) ∙ ap end_line read.count);
+            numbered = read.numbered;
+            entries = read.entries;
+          };
+        };
         bad = no_line;
-        number = omega (arith, is, read.count, count_lines j, length-append (first_line ∷ map (entry_line C) j) (end_line u.count ∷ []));
+        number = omega (arith, is, read.count, count_lines j, length-append (first_line u.period ∷ map (entry_line C) j) (end_line u.count ∷ []));
       }
         where
-          end_last : joined ((first_line ∷ map (entry_line C) j) ++ end_line u.count ∷ []) ≡ joined (first_line ∷ map (entry_line C) j) ++ end_line u.count
+          end_last : joined ((first_line u.period ∷ map (entry_line C) j) ++ end_line u.count ∷ []) ≡ joined (first_line u.period ∷ map (entry_line C) j) ++ end_line u.count
           end_last =
-              flat_map-append (λ (line : List ℕ). line) (first_line ∷ map (entry_line C) j) (end_line u.count ∷ [])
-              ∙ ap (λ (o : List ℕ). joined (first_line ∷ map (entry_line C) j) ++ o) (append-nil (end_line u.count))
+              flat_map-append (λ (line : List ℕ). line) (first_line u.period ∷ map (entry_line C) j) (end_line u.count ∷ [])
+              ∙ ap (λ (o : List ℕ). joined (first_line u.period ∷ map (entry_line C) j) ++ o) (append-nil (end_line u.count))
 
-          with_end : (more : List ℕ) → joined ((first_line ∷ map (entry_line C) j) ++ end_line u.count ∷ []) ++ more ≡ joined (first_line ∷ map (entry_line C) j) ++ (end_line u.count ++ more)
-          with_end more = ap (λ (o : List ℕ). o ++ more) end_last ∙ append_assoc (joined (first_line ∷ map (entry_line C) j)) (end_line u.count) more
+          with_end : (more : List ℕ) → joined ((first_line u.period ∷ map (entry_line C) j) ++ end_line u.count ∷ []) ++ more ≡ joined (first_line u.period ∷ map (entry_line C) j) ++ (end_line u.count ++ more)
+          with_end more = ap (λ (o : List ℕ). o ++ more) end_last ∙ append_assoc (joined (first_line u.period ∷ map (entry_line C) j)) (end_line u.count) more
 
-          all_front : (more : List ℕ) → joined ((first_line ∷ map (entry_line C) j) ++ end_line u.count ∷ []) ++ more ≡ first_line ++ (flat_map (entry_line C) j ++ (end_line u.count ++ more))
+          all_front : (more : List ℕ) → joined ((first_line u.period ∷ map (entry_line C) j) ++ end_line u.count ∷ []) ++ more ≡ first_line u.period ++ (flat_map (entry_line C) j ++ (end_line u.count ++ more))
           all_front more = with_end more ∙ read_front (end_line u.count ++ more)
 
-          no_line : (l after : List ℕ) → IsLine l → goes.after ≡ l ++ after → ¬ BeginsText C (joined ((first_line ∷ map (entry_line C) j) ++ end_line u.count ∷ []) ++ l)
-          no_line l after line here (k, stand, more, whole) =
-              let ends = then_ends k (end_line u.count ++ (l ++ more)) stand (end_lacks C u.count (l ++ more))
-              (whole ∙ append_assoc (joined ((first_line ∷ map (entry_line C) j) ++ end_line u.count ∷ [])) l more ∙ with_end (l ++ more)) in
-              some_octet l more line (sym (append_cancel_left (end_line u.count) [] (l ++ more) (append-nil (end_line u.count) ∙ ends)))
+          no_line : (l after : List ℕ) → IsLine l → goes.after ≡ l ++ after → ¬ BeginsText C (joined ((first_line u.period ∷ map (entry_line C) j) ++ end_line u.count ∷ []) ++ l)
+          no_line l after line here begins =
+              let whole = subst (IsTextOf C begins.period begins.entries)
+              (append_assoc (joined ((first_line u.period ∷ map (entry_line C) j) ++ end_line u.count ∷ [])) l begins.after ∙ with_end (l ++ begins.after)) begins.is in
+              let ends = then_ends begins.period begins.entries (end_line u.count ++ (l ++ begins.after)) (end_lacks C u.period u.count (l ++ begins.after)) whole in
+              some_octet l begins.after line (sym (append_cancel_left (end_line u.count) [] (l ++ begins.after) (append-nil (end_line u.count) ∙ ends)))
 
       -- a bad line that is met is the first
       pub first_bad : length text < 2 ^ 64 → (number : ℕ) → IsBadAt C u number → IsFirstBadLine C text number

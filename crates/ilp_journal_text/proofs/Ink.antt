@@ -139,6 +139,24 @@ module _ (C : Configuration) (valid : IsValid C) where
       are_ink (what_fields C (what.Asked a)) (word_ink (codes "asked") refl, (peer_ink a.peer, (amount_ink a.amount typed, tt)))
   what_ink (what.Confirmed ask) typed = are_ink (what_fields C (what.Confirmed ask)) (word_ink (codes "confirmed") refl, (number_ink ask typed, tt))
   what_ink (what.Undone ask) typed = are_ink (what_fields C (what.Undone ask)) (word_ink (codes "undone") refl, (number_ink ask typed, tt))
+  what_ink (what.Opened peer balance) typed =
+      are_ink (what_fields C (what.Opened peer balance)) (word_ink (codes "opened") refl, (peer_ink peer, (moment_ink balance typed, tt)))
+  what_ink (what.Known c) typed =
+      are_ink (what_fields C (what.Known c)) (
+        word_ink (codes "known") refl,
+        (
+          peer_ink c.peer,
+          (
+            hex_ink c.key typed.key.1,
+            (
+              decimal_ink c.named (omega (arith, typed.named)),
+              (decimal_ink c.scale (omega (arith, typed.scale)), (amount_ink c.credited typed.credited, tt)),
+            ),
+          ),
+        ),
+      )
+  what_ink (what.Pending peer amount key) typed =
+      are_ink (what_fields C (what.Pending peer amount key)) (word_ink (codes "pending") refl, (peer_ink peer, (amount_ink amount typed.0, (hex_ink key typed.1.1, tt))))
 
   -- what follows the moment
   pub further_ink : (e : Entry) → IsTyped e → AreInk (decimal e.actor ∷ what_fields C e.what)
@@ -160,3 +178,6 @@ typed_of C e stands = record { moment = moment_fits e.moment stands.moment; acto
     of (what.Asked a) stands = stands.1
     of (what.Confirmed ask) stands = stands
     of (what.Undone ask) stands = stands
+    of (what.Opened peer balance) stands = stands.1
+    of (what.Known c) stands = record { key = stands.key; named = stands.named; scale = stands.scale; credited = stands.credited }
+    of (what.Pending peer amount key) stands = (stands.1, stands.2)

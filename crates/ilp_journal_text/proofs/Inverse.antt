@@ -1,8 +1,10 @@
 -- The fields of an entry give the entry back.
-use Rattle.std.proofs.Common.{◌≡◌, ℕ, ◌^◌, ◌<◌, ℤ, pos, negsuc, List, [], Option, Some, None, unwrap_or, drop, slice_index_or, sym, ap, ◌∙◌, refl, arith}
+use Rattle.std.proofs.Common.{◌≡◌, ◌≢◌, ℕ, suc, ◌^◌, ◌<◌, ℤ, pos, negsuc, ◌-ℤ◌, Bool, true, false, cond, ◌==◌, subst, List, [], ◌∷◌, Option, Some, None, unwrap_or, drop, slice_index_or, sym, ap, ◌∙◌, refl, arith, w64, FitsSigned}
 use Rattle.std.specs.Fmt.{decimal, signed_decimal}
 use Rattle.std.specs.Result.{result_unwrap_or}
-use Rattle.std.specs.Str.Parse.{digits_value}
+use Rattle.std.specs.Str.Parse.{AllDigits, digits_value}
+use Rattle.std.proofs.lemmas.Bool.{eqb-true}
+use Rattle.std.proofs.lemmas.Str.Parse.{digit_from_value}
 use Rattle.std.proofs.lemmas.Fmt.{decimal_is_IsNumeral_wide}
 use Rattle.std.proofs.lemmas.Int.{ints}
 use Rattle.hex.specs.Hex.{IsBytes, decode_of, encode_lower}
@@ -24,7 +26,7 @@ use Rattle.ilp_journal_text.proofs.Same.{made_hold, same_hold, made_credited, sa
 
 -- ---- single fields
 
-number_back : (n : ℕ) → n < 10 ^ 64 → digits_value 10 (decimal n) ≡ n
+pub number_back : (n : ℕ) → n < 10 ^ 64 → digits_value 10 (decimal n) ≡ n
 number_back n fits = (decimal_is_IsNumeral_wide n fits).1
 
 moment_of : List ℕ → ℤ
@@ -36,6 +38,28 @@ moment_back (pos n) within =
     let below : n < 2 ^ 63 = omega (arith, ints, within.1) in
     ap pos (number_back n (omega (arith, below)))
 moment_back (negsuc n) within = absurd (omega (arith, ints, within.0))
+
+balance_of : List ℕ → ℤ
+balance_of [] = pos 0
+balance_of (x ∷ digits) = cond (x == 45) (pos 0 -ℤ pos (digits_value 10 digits)) (pos (digits_value 10 (x ∷ digits)))
+
+-- a number does not begin with a minus
+no_minus : (n : ℕ) (digits : List ℕ) → n < 2 ^ 63 → decimal n ≢ 45 ∷ digits
+no_minus n digits fits e = omega (arith, digit_from_value 45 (subst (AllDigits 10) e (decimal_is_IsNumeral_wide n (omega (arith, fits))).0.1).0)
+
+balance_back : (b : ℤ) → FitsSigned w64 b → balance_of (signed_decimal b) ≡ b
+unfolding balance_of
+balance_back (pos n) fits =
+    whole n (number_back n (omega (arith, fits.sfits))) (λ digits. no_minus n digits fits.sfits) (decimal n) refl
+  where
+    whole : (n : ℕ) → digits_value 10 (decimal n) ≡ n → ((digits : List ℕ) → decimal n ≢ 45 ∷ digits) → (field : List ℕ) → decimal n ≡ field → balance_of field ≡ pos n
+    whole n back plain [] e = ap pos (sym (ap (digits_value 10) e) ∙ back)
+    whole n back plain (x ∷ digits) e = by_test (x == 45) refl
+      where
+        by_test : (b : Bool) → (x == 45) ≡ b → cond b (pos 0 -ℤ pos (digits_value 10 digits)) (pos (digits_value 10 (x ∷ digits))) ≡ pos n
+        by_test true is = absurd (plain digits (e ∙ ap (λ c. c ∷ digits) (eqb-true x 45 is)))
+        by_test false is = ap pos (sym (ap (digits_value 10) e) ∙ back)
+balance_back (negsuc n) fits = ap (λ k. pos 0 -ℤ pos k) (number_back (suc n) (omega (arith, fits.sfits))) ∙ omega (arith, ints)
 
 octets_of : List ℕ → List ℕ
 octets_of field = result_unwrap_or (decode_of field) []
@@ -67,6 +91,10 @@ module _ (C : Configuration) where
   told (Some kind.Asked) f = what.Asked (made_ask (peer_of (field_at f 0)) (digits_value 10 (field_at f 1)))
   told (Some kind.Confirmed) f = what.Confirmed (digits_value 10 (field_at f 0))
   told (Some kind.Undone) f = what.Undone (digits_value 10 (field_at f 0))
+  told (Some kind.Opened) f = what.Opened (peer_of (field_at f 0)) (balance_of (field_at f 1))
+  told (Some kind.Known) f =
+      what.Known (made_credited (peer_of (field_at f 0)) (octets_of (field_at f 1)) (digits_value 10 (field_at f 2)) (digits_value 10 (field_at f 3)) (digits_value 10 (field_at f 4)))
+  told (Some kind.Pending) f = what.Pending (peer_of (field_at f 0)) (digits_value 10 (field_at f 1)) (octets_of (field_at f 2))
   told None f = what.Undone 0
 
   what_of : List (List ℕ) → What
@@ -109,6 +137,15 @@ module _ (C : Configuration) where
     what_back (what.Asked a) stands = ap what.Asked (same_ask a _ _ (place_back a.peer stands.0) (amount_back a.amount stands.1))
     what_back (what.Confirmed ask) stands = ap what.Confirmed (small_back ask stands)
     what_back (what.Undone ask) stands = ap what.Undone (small_back ask stands)
+    what_back (what.Opened peer balance) stands =
+        ap (λ p. what.Opened p (balance_of (signed_decimal balance))) (place_back peer stands.0) ∙ ap (what.Opened peer) (balance_back balance stands.1)
+    what_back (what.Known c) stands =
+        ap what.Known (same_credited c _ _ _ _ _ (place_back c.peer stands.peer) (octets_back c.key stands.key.1) (number_back c.named (omega (arith, stands.named))) (number_back c.scale (omega (arith, stands.scale)))
+        (amount_back c.credited stands.credited))
+    what_back (what.Pending peer amount key) stands =
+        ap (λ p. what.Pending p (digits_value 10 (decimal amount)) (octets_of (encode_lower key))) (place_back peer stands.0)
+        ∙ ap (λ n. what.Pending peer n (octets_of (encode_lower key))) (amount_back amount stands.1)
+        ∙ ap (what.Pending peer amount) (octets_back key stands.2.1)
 
     entry_back : (e : Entry) → CanStand C e → entry_of (entry_fields C e) ≡ e
     unfolding entry_of field_at

@@ -8,6 +8,7 @@ mod Peers
 mod Same
 mod Awaited
 mod Inverse
+mod FirstLines
 pub mod OneText
 pub mod FirstBad
 pub mod Read

@@ -42,3 +42,17 @@ module _ (m moment : ℤ) (within : IsMoment m) (same : moment ≡ m) where
       after : (z : ℤ) → IsMoment z → lt_z z (pos 0) ≡ true → ⊥
       after (pos n) within less = grind (arith, nat_tests, less)
       after (negsuc n) within less = omega (arith, ints, within.0)
+
+-- a balance is text, is read and kept
+balance_size : (b : ℤ) → FitsSigned w64 b → mag b < 2 ^ 63
+balance_size (pos n) fits = fits.sfits
+balance_size (negsuc n) fits = fits.sfits
+
+pub balance_text : (b : ℤ) (field : List ℕ) → FitsSigned w64 b → field ≡ signed_decimal b → IsUtf8 field
+balance_text b field fits is = IsUtf8-from_ascii field (subst IsAscii (sym is) (IsAscii-signed b (balance_size b fits)))
+
+pub balance_read : {E : Type 0} (b : ℤ) (field text : List ℕ) (r : Result ℤ E) → FitsSigned w64 b → field ≡ signed_decimal b → text ≡ field → ParsesSigned w64 10 text r → r ≡ Ok b
+balance_read b field text r fits is same parses = parse-signed_decimal w64 b text r fits (balance_size b fits) (same ∙ is) parses
+
+pub balance_kept : (b balance : ℤ) → FitsSigned w64 b → balance ≡ b → to_z w64 (of_z w64 balance) ≡ b
+balance_kept b balance fits same = ap (λ z. to_z w64 (of_z w64 z)) same ∙ to_z-of_z w64 b fits

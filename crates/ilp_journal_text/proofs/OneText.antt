@@ -10,12 +10,13 @@ use Rattle.ilp_accounts.specs.Configuration.{Configuration}
 use Rattle.ilp_accounts.specs.Valid.{IsValid}
 use Rattle.ilp_journal.specs.declared.entry.Entry.{Entry}
 use Rattle.ilp_journal.specs.Journal.{Entries}
-use Rattle.ilp_journal_text.specs.Text.{first_line, entry_line, end_line}
-use Rattle.ilp_journal_text.specs.Reading.{IsMoment, CanStand, IsTextOf, Unread, HasRead, LacksEntry, GoesOn, IsBadAt}
+use Rattle.ilp_journal_text.specs.Text.{entry_line, end_line}
+use Rattle.ilp_journal_text.specs.Reading.{IsMoment, CanStand, StandsIn, IsTextOf, Unread, HasRead, LacksEntry, GoesOn, IsBadAt}
 use Rattle.ilp_journal_text.specs.Fields.{is_space, is_line_end}
 use Rattle.ilp_journal_text.proofs.Cuts.{cut_line}
 use Rattle.ilp_journal_text.proofs.Awaited.{entry_body, entry_parts, entry_clean, entry_cut}
 use Rattle.ilp_journal_text.proofs.Inverse.{one_entry}
+use Rattle.ilp_journal_text.proofs.FirstLines.{same_first}
 
 -- ---- the end line is no entry's
 
@@ -47,14 +48,14 @@ no_digit [] further after rest begins same = absurd begins
 no_digit (octet ∷ octets) further after rest begins same = omega (arith, begins, ap (λ (text : List ℕ). slice_index text 0) same)
 
 module _ (C : Configuration) where
-  pub end_lacks : (count : ℕ) (after : List ℕ) → LacksEntry C (end_line count ++ after)
-  end_lacks count after e more stands same = no_digit (signed_decimal e.moment) _ more _ (moment_begins e.moment stands.moment) same
+  pub end_lacks : (period count : ℕ) (after : List ℕ) → LacksEntry C period (end_line count ++ after)
+  end_lacks period count after e more stands same = no_digit (signed_decimal e.moment) _ more _ (moment_begins e.moment stands.stands.moment) same
 
-  goes_lacks : (u : Unread) → GoesOn u → LacksEntry C u.rest
-  goes_lacks u goes = subst (LacksEntry C) (sym goes.whole) (end_lacks u.count goes.after)
+  goes_lacks : (u : Unread) → GoesOn u → LacksEntry C u.period u.rest
+  goes_lacks u goes = subst (LacksEntry C u.period) (sym goes.whole) (end_lacks u.period u.count goes.after)
 
   -- where the next line is bad, that of no entry comes
-  bad_lacks : (u : Unread) (number : ℕ) → IsBadAt C u number → LacksEntry C u.rest
+  bad_lacks : (u : Unread) (number : ℕ) → IsBadAt C u number → LacksEntry C u.period u.rest
   bad_lacks u number (inl lacks) = lacks.0.entry
   bad_lacks u number (inr goes) = goes_lacks u goes.0
 
@@ -70,32 +71,38 @@ module _ (C : Configuration) where
         one_entry C valid d e stands_d stands_e (sym (entry_cut C valid d stands_d) ∙ ap (slice_split is_space) bodies ∙ entry_cut C valid e stands_e)
 
     -- texts that begin with the lines of entries, and then lack one
-    pub same_entries : (j k : Entries) (x y : List ℕ) → All (CanStand C) j → All (CanStand C) k → LacksEntry C x → LacksEntry C y → flat_map (entry_line C) j ++ x ≡ flat_map (entry_line C) k ++ y → (j ≡ k) × (x ≡ y)
-    same_entries [] [] x y all_j all_k lacks_x lacks_y same = (refl, same)
-    same_entries [] (e ∷ k) x y all_j all_k lacks_x lacks_y same =
-        absurd (lacks_x e (flat_map (entry_line C) k ++ y) (All-head (CanStand C) e k all_k) (same ∙ append_assoc (entry_line C e) (flat_map (entry_line C) k) y))
-    same_entries (d ∷ j) [] x y all_j all_k lacks_x lacks_y same =
-        absurd (lacks_y d (flat_map (entry_line C) j ++ x) (All-head (CanStand C) d j all_j) (sym same ∙ append_assoc (entry_line C d) (flat_map (entry_line C) j) x))
-    same_entries (d ∷ j) (e ∷ k) x y all_j all_k lacks_x lacks_y same =
-        let whole = sym (append_assoc (entry_line C d) (flat_map (entry_line C) j) x) ∙ same ∙ append_assoc (entry_line C e) (flat_map (entry_line C) k) y in
-        let head = same_line d e _ _ (All-head (CanStand C) d j all_j) (All-head (CanStand C) e k all_k) whole in
-        let rest = append_cancel_left (entry_line C e) _ _ (ap (λ (f : Entry). entry_line C f ++ (flat_map (entry_line C) j ++ x)) (sym head) ∙ whole) in
-        let tail = same_entries j k x y (All-tail (CanStand C) d j all_j) (All-tail (CanStand C) e k all_k) lacks_x lacks_y rest in
-        (ap (λ (f : Entry). f ∷ j) head ∙ ap (λ (l : Entries). e ∷ l) tail.0, tail.1)
+    module _ (period : ℕ) where
+      pub same_entries : (j k : Entries) (x y : List ℕ) → All (StandsIn C period) j → All (StandsIn C period) k → LacksEntry C period x → LacksEntry C period y
+          → flat_map (entry_line C) j ++ x ≡ flat_map (entry_line C) k ++ y → (j ≡ k) × (x ≡ y)
+      same_entries [] [] x y all_j all_k lacks_x lacks_y same = (refl, same)
+      same_entries [] (e ∷ k) x y all_j all_k lacks_x lacks_y same =
+          absurd (lacks_x e (flat_map (entry_line C) k ++ y) (All-head (StandsIn C period) e k all_k) (same ∙ append_assoc (entry_line C e) (flat_map (entry_line C) k) y))
+      same_entries (d ∷ j) [] x y all_j all_k lacks_x lacks_y same =
+          absurd (lacks_y d (flat_map (entry_line C) j ++ x) (All-head (StandsIn C period) d j all_j) (sym same ∙ append_assoc (entry_line C d) (flat_map (entry_line C) j) x))
+      same_entries (d ∷ j) (e ∷ k) x y all_j all_k lacks_x lacks_y same =
+          let whole = sym (append_assoc (entry_line C d) (flat_map (entry_line C) j) x) ∙ same ∙ append_assoc (entry_line C e) (flat_map (entry_line C) k) y in
+          let head = same_line d e _ _ (All-head (StandsIn C period) d j all_j).stands (All-head (StandsIn C period) e k all_k).stands whole in
+          let rest = append_cancel_left (entry_line C e) _ _ (ap (λ (f : Entry). entry_line C f ++ (flat_map (entry_line C) j ++ x)) (sym head) ∙ whole) in
+          let tail = same_entries j k x y (All-tail (StandsIn C period) d j all_j) (All-tail (StandsIn C period) e k all_k) lacks_x lacks_y rest in
+          (ap (λ (f : Entry). f ∷ j) head ∙ ap (λ (l : Entries). e ∷ l) tail.0, tail.1)
+
+      pub end_alone : (count : ℕ) → LacksEntry C period (end_line count)
+      end_alone count = subst (LacksEntry C period) (append-nil (end_line count)) (end_lacks period count [])
 
     -- ---- what a text stands for
 
-    pub end_alone : (count : ℕ) → LacksEntry C (end_line count)
-    end_alone count = subst (LacksEntry C) (append-nil (end_line count)) (end_lacks count [])
-
-    pub one_journal : (j k : Entries) (text : List ℕ) → IsTextOf C j text → IsTextOf C k text → j ≡ k
-    one_journal j k text is_j is_k =
-        (same_entries j k (end_line (length j)) (end_line (length k)) is_j.entries is_k.entries (end_alone (length j)) (end_alone (length k)) (append_cancel_left first_line _ _ (sym is_j.whole ∙ is_k.whole))).0
+    pub one_journal : (p q : ℕ) (j k : Entries) (text : List ℕ) → IsTextOf C p j text → IsTextOf C q k text → (p ≡ q) × (j ≡ k)
+    one_journal p q j k text is_j is_k =
+        let first = same_first p q is_j.numbered is_k.numbered (flat_map (entry_line C) j ++ end_line (length j)) (flat_map (entry_line C) k ++ end_line (length k)) (sym is_j.whole ∙ is_k.whole) in
+        let stand : All (StandsIn C p) k = subst (λ (n : ℕ). All (StandsIn C n) k) (sym first.0) is_k.entries in
+        (first.0, (same_entries p j k (end_line (length j)) (end_line (length k)) is_j.entries stand (end_alone p (length j)) (end_alone p (length k)) first.1).0)
 
     -- where a reader stops, the text is no journal's
-    pub never_bad_at : (j k : Entries) (text : List ℕ) (u : Unread) (number : ℕ) → IsTextOf C j text → HasRead C text k u → IsBadAt C u number → ⊥
-    never_bad_at j k text u number is read bad =
-        let same = same_entries j k (end_line (length j)) u.rest is.entries read.entries (end_alone (length j)) (bad_lacks u number bad) (append_cancel_left first_line _ _ (sym is.whole ∙ read.whole)) in
+    pub never_bad_at : (period : ℕ) (j k : Entries) (text : List ℕ) (u : Unread) (number : ℕ) → IsTextOf C period j text → HasRead C text k u → IsBadAt C u number → ⊥
+    never_bad_at period j k text u number is read bad =
+        let first = same_first period u.period is.numbered read.numbered (flat_map (entry_line C) j ++ end_line (length j)) (flat_map (entry_line C) k ++ u.rest) (sym is.whole ∙ read.whole) in
+        let stand : All (StandsIn C u.period) j = subst (λ (n : ℕ). All (StandsIn C n) j) first.0 is.entries in
+        let same = same_entries u.period j k (end_line (length j)) u.rest stand read.entries (end_alone u.period (length j)) (bad_lacks u number bad) first.1 in
         let rest : u.rest ≡ end_line u.count = sym same.1 ∙ ap end_line (ap length same.0 ∙ sym read.count) in
         by bad rest
       where

@@ -2,7 +2,7 @@
 use Rattle.std.proofs.Common.{refl}
 use Rattle.std.specs.Fmt.{digits}
 use Rattle.hex.proofs.OnLiterals.{hex_on_literals}
-use Rattle.ilp_journal_text.specs.Rows.{PaidRow, ReleasedRow, EmptyRow, LinesRow}
+use Rattle.ilp_journal_text.specs.Rows.{PaidRow, ReleasedRow, EmptyRow, LaterRow, LinesRow}
 
 pub paid_row : PaidRow
 unfolding digits hex_on_literals
@@ -15,6 +15,10 @@ released_row = refl
 pub empty_row : EmptyRow
 unfolding digits
 empty_row = refl
+
+pub later_row : LaterRow
+unfolding digits hex_on_literals
+later_row = refl
 
 pub lines_row : LinesRow
 unfolding digits

@@ -1,5 +1,5 @@
 -- The text of a journal, read: what it stands for, and where it is first bad. Lines count from 1.
-use Rattle.std.specs.Prelude.{◌≡◌, ◌≢◌, ◌⊎◌, ℕ, ◌+◌, ◌<◌, ◌^◌, ℤ, pos, ◌≤ℤ◌, ◌<ℤ◌, List, [], ◌∷◌, ◌++◌, false, length, All, FitsSigned, ⊤}
+use Rattle.std.specs.Prelude.{◌≡◌, ◌≢◌, ◌⊎◌, ℕ, ◌+◌, ◌<◌, ◌^◌, ℤ, pos, ◌≤ℤ◌, ◌<ℤ◌, List, [], ◌∷◌, ◌++◌, false, length, All, FitsSigned, IsTrue, ⊤}
 use Rattle.std.specs.Int.{w64}
 use Rattle.std.specs.List.{flat_map}
 use Rattle.hex.specs.Hex.{IsBytes}
@@ -12,6 +12,7 @@ use Rattle.ilp_journal.specs.declared.entry.Credited.{Credited}
 use Rattle.ilp_journal.specs.declared.entry.Cause.{Cause}
 use Rattle.ilp_journal.specs.declared.entry.Cause.TheVariants.{Peer}
 use Rattle.ilp_journal.specs.Journal.{Entries}
+use Rattle.ilp_journal.specs.BroughtForward.{is_brought_forward}
 use Rattle.ilp_journal.specs.Keys.{IsKey}
 use Rattle.ilp_journal_text.specs.declared.reading.TextFault.{TextFault}
 use Rattle.ilp_journal_text.specs.declared.reading.TextFault.TheVariants.{BadLine, Memory}
@@ -60,12 +61,20 @@ WhatStands C (what.Credited c) = CreditStands C c
 WhatStands C (what.Asked a) = IsPeer C a.peer × (a.amount < 2 ^ 64)
 WhatStands C (what.Confirmed ask) = ask < 2 ^ 32
 WhatStands C (what.Undone ask) = ask < 2 ^ 32
+WhatStands C (what.Opened peer balance) = IsPeer C peer × FitsSigned w64 balance
+WhatStands C (what.Known c) = CreditStands C c
+WhatStands C (what.Pending peer amount key) = IsPeer C peer × (amount < 2 ^ 64) × (IsKey key × IsBytes key)
 
 -- an entry of peers that the configuration knows, whose numbers are of their types
 pub record CanStand (C : Configuration) (e : Entry) : Type 0 where
   pub moment : IsMoment e.moment
   pub actor : e.actor < 2 ^ 32
   pub what : WhatStands C e.what
+
+-- such an entry in the text of a period: what is brought forward stands only in a period above 0
+pub record StandsIn (C : Configuration) (period : ℕ) (e : Entry) : Type 0 where
+  pub stands : CanStand C e
+  pub later : IsTrue (is_brought_forward e.what) → 0 < period
 
 -- ---- entries whose numbers are of their types, as those in memory are
 
@@ -90,6 +99,9 @@ WhatIsTyped (what.Credited c) = CreditIsTyped c
 WhatIsTyped (what.Asked a) = a.amount < 2 ^ 64
 WhatIsTyped (what.Confirmed ask) = ask < 2 ^ 32
 WhatIsTyped (what.Undone ask) = ask < 2 ^ 32
+WhatIsTyped (what.Opened peer balance) = FitsSigned w64 balance
+WhatIsTyped (what.Known c) = CreditIsTyped c
+WhatIsTyped (what.Pending peer amount key) = (amount < 2 ^ 64) × (IsKey key × IsBytes key)
 
 pub record IsTyped (e : Entry) : Type 0 where
   pub moment : FitsSigned w64 e.moment
@@ -98,25 +110,29 @@ pub record IsTyped (e : Entry) : Type 0 where
 
 -- ---- what a text stands for
 
--- the text of these entries, each of which can stand in it
-pub record IsTextOf (C : Configuration) (j : Entries) (text : List ℕ) : Type 0 where
-  pub whole : text ≡ journal_text C j
-  pub entries : All (CanStand C) j
+-- the text of a period with these entries, each of which can stand in it
+pub record IsTextOf (C : Configuration) (period : ℕ) (j : Entries) (text : List ℕ) : Type 0 where
+  pub whole : text ≡ journal_text C period j
+  pub numbered : period < 2 ^ 32
+  pub entries : All (StandsIn C period) j
 
--- what is not read yet of a text: the octets behind the lines of so many entries
+-- what is not read yet of the text of a period: the octets behind the lines of so many entries
 pub record Unread : Type 0 where
+  pub period : ℕ
   pub rest : List ℕ
   pub count : ℕ
 
 -- the first line was read
 pub record Begins (text : List ℕ) (new : Unread) : Type 0 where
-  pub whole : text ≡ first_line ++ new.rest
+  pub whole : text ≡ first_line new.period ++ new.rest
+  pub numbered : new.period < 2 ^ 32
   pub count : new.count ≡ 0
 
 -- the line of an entry was read
 pub record Takes (C : Configuration) (e : Entry) (old new : Unread) : Type 0 where
   pub line : old.rest ≡ entry_line C e ++ new.rest
-  pub stands : CanStand C e
+  pub stands : StandsIn C old.period e
+  pub period : new.period ≡ old.period
   pub count : new.count ≡ old.count + 1
 
 -- the end line is all that is left
@@ -125,8 +141,9 @@ IsAtEnd unread = unread.rest ≡ end_line unread.count
 
 -- the first line and those of the entries were read
 pub record HasRead (C : Configuration) (text : List ℕ) (j : Entries) (now : Unread) : Type 0 where
-  pub whole : text ≡ first_line ++ (entry_lines C j ++ now.rest)
-  pub entries : All (CanStand C) j
+  pub whole : text ≡ first_line now.period ++ (entry_lines C j ++ now.rest)
+  pub numbered : now.period < 2 ^ 32
+  pub entries : All (StandsIn C now.period) j
   pub count : now.count ≡ length j
 
 -- ---- the first bad line
@@ -146,13 +163,16 @@ abbrev pub joined : List (List ℕ) → List ℕ
 joined lines = flat_map (λ (line : List ℕ). line) lines
 
 -- the text of some journal begins so
-abbrev pub BeginsText : Configuration → List ℕ → Type 0
-BeginsText C octets = (j : Entries) × All (CanStand C) j × (after : List ℕ) × (journal_text C j ≡ octets ++ after)
+pub record BeginsText (C : Configuration) (octets : List ℕ) : Type 0 where
+  pub period : ℕ
+  pub entries : Entries
+  pub after : List ℕ
+  pub is : IsTextOf C period entries (octets ++ after)
 
 -- The text is no journal's. The lines before this one begin the text of some journal, and with it they begin none; else it is
 -- missing, or has no end.
 pub record IsFirstBadLine (C : Configuration) (text : List ℕ) (line : ℕ) : Type 0 where
-  pub no_text : (j : Entries) → ¬ (IsTextOf C j text)
+  pub no_text : (period : ℕ) (j : Entries) → ¬ (IsTextOf C period j text)
   pub before : List (List ℕ)
   pub rest : List ℕ
   pub whole : text ≡ joined before ++ rest
@@ -163,16 +183,17 @@ pub record IsFirstBadLine (C : Configuration) (text : List ℕ) (line : ℕ) : T
 
 -- ---- where a reader stops
 
+-- the first line of no period comes first
 abbrev pub LacksFirstLine : List ℕ → Type 0
-LacksFirstLine text = (after : List ℕ) → text ≢ first_line ++ after
+LacksFirstLine text = (period : ℕ) (after : List ℕ) → period < 2 ^ 32 → text ≢ first_line period ++ after
 
--- no line of an entry that can stand comes first
-abbrev pub LacksEntry : Configuration → List ℕ → Type 0
-LacksEntry C octets = (e : Entry) (after : List ℕ) → CanStand C e → octets ≢ entry_line C e ++ after
+-- no line of an entry that can stand in the text of a period comes first
+abbrev pub LacksEntry : Configuration → ℕ → List ℕ → Type 0
+LacksEntry C period octets = (e : Entry) (after : List ℕ) → StandsIn C period e → octets ≢ entry_line C e ++ after
 
 -- neither the line of an entry comes next nor the end line
 pub record LacksLine (C : Configuration) (u : Unread) : Type 0 where
-  pub entry : LacksEntry C u.rest
+  pub entry : LacksEntry C u.period u.rest
   pub end : (after : List ℕ) → u.rest ≢ end_line u.count ++ after
 
 -- the end line comes next, and then more
@@ -192,29 +213,31 @@ Explains C u Memory = ⊤
 
 -- ---- lines that stand behind others, as those of entries that were booked since a journal was saved
 
--- the lines of these entries, each of which can stand in a text
+-- The lines of these entries, each of which can stand in a text of the period 0: in no such line is anything brought forward,
+-- whatever the period of the text before them.
 pub record AreLinesOf (C : Configuration) (entries : Entries) (text : List ℕ) : Type 0 where
   pub whole : text ≡ entry_lines C entries
-  pub stand : All (CanStand C) entries
+  pub stand : All (StandsIn C 0) entries
 
 -- The lines before this one are those of entries. It is there, and is no entry's line or has no end.
 pub record IsFirstBadEntryLine (C : Configuration) (text : List ℕ) (line : ℕ) : Type 0 where
   pub before : Entries
   pub rest : List ℕ
   pub whole : text ≡ entry_lines C before ++ rest
-  pub stand : All (CanStand C) before
+  pub stand : All (StandsIn C 0) before
   pub there : rest ≢ []
-  pub bad : LacksEntry C rest
+  pub bad : LacksEntry C 0 rest
   pub number : line ≡ length before + 1
 
 -- lines of which none was read
 abbrev pub unread : List ℕ → Unread
-unread text = record { rest = text; count = 0 }
+unread text = record { period = 0; rest = text; count = 0 }
 
 -- the lines of these entries were read
 pub record HasReadLines (C : Configuration) (text : List ℕ) (entries : Entries) (now : Unread) : Type 0 where
   pub whole : text ≡ entry_lines C entries ++ now.rest
-  pub stand : All (CanStand C) entries
+  pub stand : All (StandsIn C 0) entries
+  pub period : now.period ≡ 0
   pub count : now.count ≡ length entries
 
 -- all lines were read
@@ -224,7 +247,7 @@ IsAllRead u = u.rest ≡ []
 -- the line at which a reader of lines stops: the next one
 pub record IsBadNext (C : Configuration) (u : Unread) (line : ℕ) : Type 0 where
   pub there : u.rest ≢ []
-  pub bad : LacksEntry C u.rest
+  pub bad : LacksEntry C u.period u.rest
   pub number : line ≡ u.count + 1
 
 -- a fault names the line at which a reader of lines stops, or is want of memory

@@ -1,5 +1,5 @@
 -- Worked texts. Alice and bob are the peers 0 and 1.
-use Rattle.std.specs.Prelude.{◌≡◌, ℕ, pos, List, [], ◌∷◌, ◌++◌, codes, replicate}
+use Rattle.std.specs.Prelude.{◌≡◌, ℕ, pos, negsuc, List, [], ◌∷◌, ◌++◌, codes, replicate}
 use Rattle.ilp_accounts.specs.Configuration.{Configuration, PlainPeer, nobody}
 use Rattle.ilp_accounts.specs.declared.settings.LogSync.TheVariants.{Group}
 use Rattle.ilp_journal.specs.declared.entry.Entry.{Entry}
@@ -41,7 +41,7 @@ hold = what.Hold (record { from = 0; to = 1; amount = 100; fee = 1; out = 99; de
 
 -- a payment, a settlement from alice and one to bob
 abbrev pub PaidRow : Type 0
-PaidRow = journal_text config (
+PaidRow = journal_text config 0 (
     booked 0 hold
     ∷ booked 500 (what.Fulfilled 0 (replicate 32 171))
     ∷ booked 500 (what.Credited (record { peer = 0; key = codes "k~"; named = 1999999999; scale = 9; credited = 199 }))
@@ -58,7 +58,7 @@ PaidRow = journal_text config (
 
 -- each cause of a release
 abbrev pub ReleasedRow : Type 0
-ReleasedRow = journal_text config (
+ReleasedRow = journal_text config 0 (
     booked 1 (what.Released 0 Late)
     ∷ booked 2 (what.Released 1 WrongPreimage)
     ∷ booked 3 (what.Released 2 NoReply)
@@ -77,7 +77,24 @@ ReleasedRow = journal_text config (
 
 -- no entry
 abbrev pub EmptyRow : Type 0
-EmptyRow = journal_text config [] ≡ codes "ilp-journal 1\nend 0\n"
+EmptyRow = journal_text config 0 [] ≡ codes "ilp-journal 1\nend 0\n"
+
+-- what the third period begins with, and a settlement that is confirmed in it
+abbrev pub LaterRow : Type 0
+LaterRow = journal_text config 2 (
+    booked 700 (what.Opened 0 (negsuc 99))
+    ∷ booked 700 (what.Opened 1 (pos 216))
+    ∷ booked 700 (what.Known (record { peer = 0; key = codes "k~"; named = 1999999999; scale = 9; credited = 199 }))
+    ∷ booked 700 (what.Pending 1 800 (codes "r1-3"))
+    ∷ booked 900 (what.Confirmed 3)
+    ∷ []) ≡
+    codes "ilp-journal 2 2\n"
+    ++ codes "700 0 opened alice -100\n"
+    ++ codes "700 0 opened bob 216\n"
+    ++ codes "700 0 known alice 6b7e 1999999999 9 199\n"
+    ++ codes "700 0 pending bob 800 72312d33\n"
+    ++ codes "900 0 confirmed 3\n"
+    ++ codes "end 5\n"
 
 -- the lines of entries that stand behind others
 abbrev pub LinesRow : Type 0

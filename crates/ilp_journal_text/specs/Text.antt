@@ -1,5 +1,5 @@
 -- The text of a journal. Each line has fields with one space between each two, and ends by LF.
-use Rattle.std.specs.Prelude.{ℕ, List, [], ◌∷◌, ◌++◌, length, codes}
+use Rattle.std.specs.Prelude.{ℕ, List, [], ◌∷◌, ◌++◌, length, codes, ◌==◌, if◌then◌else◌}
 use Rattle.std.specs.List.{flat_map}
 use Rattle.std.specs.Fmt.{decimal, signed_decimal}
 use Rattle.hex.specs.Hex.{encode_lower}
@@ -50,6 +50,9 @@ what_fields C (what.Credited c) = codes "credited" ∷ credited_fields C c
 what_fields C (what.Asked a) = codes "asked" ∷ name_at C a.peer ∷ decimal a.amount ∷ []
 what_fields C (what.Confirmed ask) = codes "confirmed" ∷ decimal ask ∷ []
 what_fields C (what.Undone ask) = codes "undone" ∷ decimal ask ∷ []
+what_fields C (what.Opened peer balance) = codes "opened" ∷ name_at C peer ∷ signed_decimal balance ∷ []
+what_fields C (what.Known c) = codes "known" ∷ credited_fields C c
+what_fields C (what.Pending peer amount key) = codes "pending" ∷ name_at C peer ∷ decimal amount ∷ encode_lower key ∷ []
 
 -- an entry: its moment, its actor and what happened
 abbrev pub entry_line : Configuration → Entry → List ℕ
@@ -63,10 +66,10 @@ entry_lines C entries = flat_map (entry_line C) entries
 abbrev pub end_line : ℕ → List ℕ
 end_line count = line (codes "end") (decimal count ∷ [])
 
--- the first line, which names the form of the text
-abbrev pub first_line : List ℕ
-first_line = codes "ilp-journal 1\n"
+-- the first line, which names the form of the text, and the number of a period above 0
+abbrev pub first_line : ℕ → List ℕ
+first_line period = if period == 0 then codes "ilp-journal 1\n" else line (codes "ilp-journal") (codes "2" ∷ decimal period ∷ [])
 
--- the text of a journal
-abbrev pub journal_text : Configuration → Entries → List ℕ
-journal_text C j = first_line ++ (entry_lines C j ++ end_line (length j))
+-- the text of a period with this journal
+abbrev pub journal_text : Configuration → ℕ → Entries → List ℕ
+journal_text C period j = first_line period ++ (entry_lines C j ++ end_line (length j))

@@ -1,15 +1,21 @@
 //! The line of an entry.
-ghost use Rattle.std.specs.Prelude.{◌≡◌, ◌≤◌, ◌++◌, length};
+ghost use Rattle.std.specs.Prelude.{◌≡◌, ◌+◌, ◌<◌, ◌≤◌, ◌^◌, ◌++◌, length, FitsSigned};
+ghost use Rattle.std.specs.Int.{w64};
 ghost use Rattle.std.specs.List.{flat_map};
+ghost use Rattle.hex.specs.Hex.{IsBytes};
+ghost use Rattle.ilp_journal.specs.Keys.{IsKey};
 ghost use Rattle.ilp_journal_text.specs.Reading.{CauseStands, CreditIsTyped, HasNoNul, HoldIsTyped, IsLine, IsTyped, WhatIsTyped};
-ghost use Rattle.ilp_journal_text.specs.Text.{after_space, name_at, cause_fields, what_fields, entry_line};
+ghost use Rattle.ilp_journal_text.specs.Text.{after_space, name_at, cause_fields, credited_fields, what_fields, entry_line};
 
 use crate::line::Line;
 use ilp_accounts::Config;
-use ilp_journal::{Cause, Credited, Entry, Hold, What};
+use ilp_journal::{Cause, Credited, Entry, Hold, Key, What};
 
 // The most octets that stand before what an entry's line tells.
 const LONGEST_FRONT: usize = 81;
+
+// The most octets of the word for what happened, with the space before it.
+const LONGEST_WORD: usize = 10;
 
 /// The line of an entry, as it stands in the text of a journal, with the peers' names in the
 /// configuration. A peer that isn't there has no name. Its only line feed is its end, and no octet of it
@@ -50,7 +56,10 @@ fn put_what(line: &mut Line, config: &Config, what: &What)
             line.number(u64::from(*hold));
             put_cause(line, *cause);
         }
-        What::Credited(credited) => put_credited(line, config, credited),
+        What::Credited(credited) => {
+            line.word("credited");
+            put_credit(line, config, credited);
+        }
         What::Asked(ask) => {
             line.word("asked");
             line.word(name_of(config, ask.peer));
@@ -64,6 +73,12 @@ fn put_what(line: &mut Line, config: &Config, what: &What)
             line.word("undone");
             line.number(u64::from(*ask));
         }
+        What::Opened { peer, balance } => put_opened(line, config, *peer, *balance),
+        What::Known(credited) => {
+            line.word("known");
+            put_credit(line, config, credited);
+        }
+        What::Pending { peer, amount, key } => put_pending(line, config, *peer, *amount, key),
     }
 }
 
@@ -81,24 +96,50 @@ fn put_hold(line: &mut Line, config: &Config, hold: &Hold)
     line.number(hold.amount);
     line.number(hold.fee);
     line.number(hold.out);
-    line.moment(hold.deadline);
+    line.signed_number(hold.deadline);
     line.hexadecimal(&hold.condition);
 }
 
-// Adds a credit.
-fn put_credited(line: &mut Line, config: &Config, credited: &Credited)
-    requires front { length line.old ≤ LONGEST_FRONT }
+// Adds what a credit tells.
+fn put_credit(line: &mut Line, config: &Config, credited: &Credited)
+    requires front { length line.old ≤ LONGEST_FRONT + LONGEST_WORD }
     ensures octets { line.new ≡ line.old
-        ++ flat_map after_space (what_fields config.now (What.Credited credited.now)) }
+        ++ flat_map after_space (credited_fields config.now credited.now) }
     ensures short { length line.new ≤ 511 }
     ensures typed { CreditIsTyped credited.now }
 {
-    line.word("credited");
     line.word(name_of(config, credited.peer));
     line.hexadecimal(credited.key.as_slice());
     line.wide_number(credited.named);
     line.number(u64::from(credited.scale));
     line.number(credited.credited);
+}
+
+// Adds a balance that is brought forward.
+fn put_opened(line: &mut Line, config: &Config, peer: u32, balance: i64)
+    requires front { length line.old ≤ LONGEST_FRONT }
+    ensures octets { line.new ≡ line.old
+        ++ flat_map after_space (what_fields config.now (What.Opened peer balance)) }
+    ensures short { length line.new ≤ 511 }
+    ensures typed { FitsSigned w64 balance }
+{
+    line.word("opened");
+    line.word(name_of(config, peer));
+    line.signed_number(balance);
+}
+
+// Adds a settlement that is still open.
+fn put_pending(line: &mut Line, config: &Config, peer: u32, amount: u64, key: &Key)
+    requires front { length line.old ≤ LONGEST_FRONT }
+    ensures octets { line.new ≡ line.old
+        ++ flat_map after_space (what_fields config.now (What.Pending peer amount key.now)) }
+    ensures short { length line.new ≤ 511 }
+    ensures typed { (amount < 2 ^ 64) × (IsKey key.now × IsBytes key.now) }
+{
+    line.word("pending");
+    line.word(name_of(config, peer));
+    line.number(amount);
+    line.hexadecimal(key.as_slice());
 }
 
 // Adds why a hold was released.

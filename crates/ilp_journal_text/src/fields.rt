@@ -1,5 +1,6 @@
 //! The fields of a line, and what one field says.
-ghost use Rattle.std.specs.Prelude.{◌≡◌, ◌<◌, ◌^◌, ℕ, ℤ, List, length, IfOk, OnErr};
+ghost use Rattle.std.specs.Prelude.{◌≡◌, ◌<◌, ◌^◌, ℕ, ℤ, List, length, IfOk, OnErr, FitsSigned};
+ghost use Rattle.std.specs.Int.{w64};
 ghost use Rattle.std.specs.List.{slice_split};
 ghost use Rattle.std.specs.Fmt.{decimal, signed_decimal};
 ghost use Rattle.std.specs.Str.{IsUtf8};
@@ -99,6 +100,17 @@ pub(crate) fn moment_in(field: &[u8]) -> Result<i64, LineFault>
         return Err(LineFault::Bad);
     }
     Ok(moment)
+}
+
+/// A balance.
+pub(crate) fn balance_in(field: &[u8]) -> Result<i64, LineFault>
+    ensures read { (b : ℤ) → FitsSigned w64 b → field.now ≡ signed_decimal b → result ≡ Ok b }
+    ensures stands { IfOk result (FitsSigned w64) }
+{
+    let Ok(balance) = text_in(field)?.parse::<i64>() else {
+        return Err(LineFault::Bad);
+    };
+    Ok(balance)
 }
 
 // A field as a text.

@@ -6,26 +6,27 @@ ghost use Rattle.ilp_accounts.specs.Valid.{IsValid};
 ghost use Rattle.ilp_journal.specs.Journal.{Entries};
 ghost use Rattle.ilp_journal_text.specs.Text.{entry_lines};
 ghost use Rattle.ilp_journal_text.specs.Reading.{IsTextOf, IsTyped, IsFirstBadLine, IsLine, joined, AreLinesOf, IsFirstBadEntryLine};
-ghost use Rattle.ilp_journal_text.specs.Rows.{PaidRow, ReleasedRow, EmptyRow, LinesRow};
+ghost use Rattle.ilp_journal_text.specs.Rows.{PaidRow, ReleasedRow, EmptyRow, LaterRow, LinesRow};
 
 /// Worked texts.
 pub fn rows()
     ensures paid { PaidRow }
     ensures released { ReleasedRow }
     ensures empty { EmptyRow }
+    ensures later { LaterRow }
     ensures lines { LinesRow }
 {}
 
-/// By a valid configuration no text stands for two journals.
+/// By a valid configuration no text stands for two journals, nor for two periods.
 pub fn one_journal()
-    ensures { (C : Configuration) (j k : Entries) (text : List ℕ) → IsValid C
-        → IsTextOf C j text → IsTextOf C k text → j ≡ k }
+    ensures { (C : Configuration) (p q : ℕ) (j k : Entries) (text : List ℕ) → IsValid C
+        → IsTextOf C p j text → IsTextOf C q k text → (p ≡ q) × (j ≡ k) }
 {}
 
 /// A text that stands for a journal has no bad line, and no text has two first bad lines.
 pub fn one_first_bad_line()
-    ensures none { (C : Configuration) (j : Entries) (text : List ℕ) (line : ℕ) → IsValid C
-        → IsTextOf C j text → ¬ IsFirstBadLine C text line }
+    ensures none { (C : Configuration) (period : ℕ) (j : Entries) (text : List ℕ) (line : ℕ)
+        → IsValid C → IsTextOf C period j text → ¬ IsFirstBadLine C text line }
     ensures one { (C : Configuration) (text : List ℕ) (line other : ℕ) → IsValid C
         → IsFirstBadLine C text line → IsFirstBadLine C text other → line ≡ other }
 {}

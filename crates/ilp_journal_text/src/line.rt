@@ -2,7 +2,7 @@
 ghost use Rattle.std.specs.Prelude.{◌≡◌, ◌+◌, ◌*◌, ◌≤◌, ◌∷◌, ◌++◌, [], length};
 ghost use Rattle.std.specs.Fmt.{decimal, signed_decimal};
 ghost use Rattle.hex.specs.Hex.{IsBytes, encode_lower};
-ghost use Rattle.ilp_journal_text.specs.Text.{after_space, end_line};
+ghost use Rattle.ilp_journal_text.specs.Text.{after_space, first_line, end_line};
 
 use arrayvec::ArrayVec;
 use itoa::Buffer;
@@ -16,9 +16,6 @@ const LONGEST_NUMBER: usize = 41;
 
 // The most octets of a field that is written in hexadecimal digits.
 const LONGEST_KEY: usize = 128;
-
-/// The first line of a text.
-pub(crate) const FIRST_LINE: &[u8] = b"ilp-journal 1\n";
 
 /// A line, as far as its fields are written. It lies on the stack.
 #[derive(Drop)]
@@ -44,6 +41,24 @@ impl Line {
             octets: ArrayVec::new(),
         };
         line.put(Buffer::new().format(moment).as_bytes());
+        line
+    }
+
+    /// The first line of the text of a period.
+    pub(crate) fn first(period: u32) -> Line
+        ensures { result ≡ first_line period }
+    {
+        let mut line = Line {
+            octets: ArrayVec::new(),
+        };
+        if period == 0 {
+            line.put(b"ilp-journal 1\n");
+        } else {
+            line.put(b"ilp-journal");
+            line.word("2");
+            line.number(u64::from(period));
+            line.end();
+        }
         line
     }
 
@@ -95,13 +110,13 @@ impl Line {
         self.word(Buffer::new().format(number));
     }
 
-    /// Adds a moment.
-    pub(crate) fn moment(&mut self, moment: i64)
+    /// Adds a moment, or another number that may lie below 0.
+    pub(crate) fn signed_number(&mut self, number: i64)
         requires room { length self.old + LONGEST_NUMBER ≤ LONGEST }
-        ensures octets { self.new ≡ self.old ++ after_space (signed_decimal moment) }
+        ensures octets { self.new ≡ self.old ++ after_space (signed_decimal number) }
         ensures longer { length self.new ≤ length self.old + LONGEST_NUMBER }
     {
-        self.word(Buffer::new().format(moment));
+        self.word(Buffer::new().format(number));
     }
 
     /// Adds octets as hexadecimal digits.

@@ -1,8 +1,10 @@
 //! An entry, from the fields of its line. Spellings that are not those of a text are taken too: the
 //! reader writes the entry again and compares.
-ghost use Rattle.std.specs.Prelude.{◌≡◌, ◌<◌, ◌^◌, ◌∷◌, [], ℕ, List, codes, IfOk};
-ghost use Rattle.std.specs.Fmt.{decimal};
-ghost use Rattle.hex.specs.Hex.{encode_lower};
+ghost use Rattle.std.specs.Prelude.{◌≡◌, ◌<◌, ◌^◌, ◌∷◌, [], ℕ, ℤ, List, codes, IfOk, FitsSigned};
+ghost use Rattle.std.specs.Int.{w64};
+ghost use Rattle.std.specs.Fmt.{decimal, signed_decimal};
+ghost use Rattle.hex.specs.Hex.{IsBytes, encode_lower};
+ghost use Rattle.ilp_journal.specs.Keys.{IsKey};
 ghost use Rattle.ilp_accounts.specs.Configuration.{Configuration};
 ghost use Rattle.ilp_journal.specs.declared.entry.What.{What as PlainWhat};
 ghost use Rattle.ilp_journal.specs.declared.entry.Hold.{Hold as PlainHold};
@@ -15,8 +17,8 @@ ghost use Rattle.ilp_journal_text.specs.Reading.{IsPeer, AreOctets, CanStand, Wh
 ghost use Rattle.ilp_journal_text.specs.Fields.{octets_of, entry_fields, kind_of, named_cause, Gives};
 
 use crate::fields::{
-    Fields, LineFault, amount_in, key_in, moment_in, number_in, octets_in, peer_in, scale_in,
-    wide_amount_in,
+    Fields, LineFault, amount_in, balance_in, key_in, moment_in, number_in, octets_in, peer_in,
+    scale_in, wide_amount_in,
 };
 use ilp_accounts::Config;
 use ilp_journal::{Ask, Cause, Credited, Entry, Hold, What};
@@ -31,6 +33,9 @@ enum Kind {
     Asked,
     Confirmed,
     Undone,
+    Opened,
+    Known,
+    Pending,
 }
 
 /// The entry of these fields.
@@ -62,7 +67,7 @@ fn what_in(config: &Config, word: &[u8], told: &[&[u8]]) -> Result<What, LineFau
         Kind::Hold => hold_in(config, told),
         Kind::Fulfilled => fulfilled_in(told),
         Kind::Released => released_in(told),
-        Kind::Credited => credited_in(config, told),
+        Kind::Credited => Ok(What::Credited(credit_in(config, told)?)),
         Kind::Asked => asked_in(config, told),
         Kind::Confirmed => Ok(What::Confirmed {
             ask: only_number_in(told)?,
@@ -70,6 +75,9 @@ fn what_in(config: &Config, word: &[u8], told: &[&[u8]]) -> Result<What, LineFau
         Kind::Undone => Ok(What::Undone {
             ask: only_number_in(told)?,
         }),
+        Kind::Opened => opened_in(config, told),
+        Kind::Known => Ok(What::Known(credit_in(config, told)?)),
+        Kind::Pending => pending_in(config, told),
     }
 }
 
@@ -91,6 +99,12 @@ fn kind_of(word: &[u8]) -> Option<Kind>
         Some(Kind::Confirmed)
     } else if word == b"undone".as_slice() {
         Some(Kind::Undone)
+    } else if word == b"opened".as_slice() {
+        Some(Kind::Opened)
+    } else if word == b"known".as_slice() {
+        Some(Kind::Known)
+    } else if word == b"pending".as_slice() {
+        Some(Kind::Pending)
     } else {
         None
     }
@@ -189,21 +203,54 @@ fn coded_cause(word: &[u8], code: &[u8]) -> Result<Cause, LineFault>
 }
 
 // A credit.
-fn credited_in(config: &Config, told: &[&[u8]]) -> Result<What, LineFault>
+fn credit_in(config: &Config, told: &[&[u8]]) -> Result<Credited, LineFault>
     ensures read { (c : PlainCredited) → CreditStands config.now c
-        → octets_of told.now ≡ credited_fields config.now c → Gives result (What.Credited c) }
-    ensures stands { IfOk result (WhatStands config.now) }
+        → octets_of told.now ≡ credited_fields config.now c → Gives result c }
+    ensures stands { IfOk result (CreditStands config.now) }
 {
     let [peer, key, named, scale, credited] = told else {
         return Err(LineFault::Bad);
     };
-    Ok(What::Credited(Credited {
+    Ok(Credited {
         peer: peer_in(config, peer)?,
         key: key_in(config, key)?,
         named: wide_amount_in(named)?,
         scale: scale_in(scale)?,
         credited: amount_in(credited)?,
-    }))
+    })
+}
+
+// A balance that is brought forward.
+fn opened_in(config: &Config, told: &[&[u8]]) -> Result<What, LineFault>
+    ensures read { (p : ℕ) (b : ℤ) → IsPeer config.now p → FitsSigned w64 b
+        → octets_of told.now ≡ name_at config.now p ∷ signed_decimal b ∷ []
+        → result ≡ Ok (What.Opened p b) }
+    ensures stands { IfOk result (WhatStands config.now) }
+{
+    let [peer, balance] = told else {
+        return Err(LineFault::Bad);
+    };
+    Ok(What::Opened {
+        peer: peer_in(config, peer)?,
+        balance: balance_in(balance)?,
+    })
+}
+
+// A settlement that is still open.
+fn pending_in(config: &Config, told: &[&[u8]]) -> Result<What, LineFault>
+    ensures read { (p a : ℕ) (k : List ℕ) → IsPeer config.now p → a < 2 ^ 64 → IsKey k → IsBytes k
+        → octets_of told.now ≡ name_at config.now p ∷ decimal a ∷ encode_lower k ∷ []
+        → Gives result (What.Pending p a k) }
+    ensures stands { IfOk result (WhatStands config.now) }
+{
+    let [peer, amount, key] = told else {
+        return Err(LineFault::Bad);
+    };
+    Ok(What::Pending {
+        peer: peer_in(config, peer)?,
+        amount: amount_in(amount)?,
+        key: key_in(config, key)?,
+    })
 }
 
 // A settlement to a peer.

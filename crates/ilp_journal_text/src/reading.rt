@@ -1,14 +1,16 @@
 //! Reading the text of a journal, and lines of entries that stand behind others.
-ghost use Rattle.std.specs.Prelude.{◌≡◌, ◌++◌, ℕ, List, IfOk, IfErr, OnErr, IfSome, OnSome, IsNone, All, IsOkAnd, false, ◌∷◌};
+ghost use Rattle.std.specs.Prelude.{◌≡◌, ◌≢◌, ◌<◌, ◌^◌, ◌↔◌, ◌++◌, ℕ, List, IfOk, IfErr, OnErr, IfSome, IfNone, OnSome, MatchOption, IsNone, IsTrue, All, IsOkAnd, false, ◌∷◌};
 ghost use Rattle.std.specs.Borrow.{Bor};
+ghost use Rattle.std.specs.Fmt.{decimal};
 ghost use Rattle.ilp_journal.specs.declared.entry.Entry.{Entry as PlainEntry};
-ghost use Rattle.ilp_journal_text.specs.Text.{entry_line};
-ghost use Rattle.ilp_journal_text.specs.Reading.{CanStand, Begins, LacksFirstLine, LacksEntry, Takes, IsAtEnd, Explains, unread, IsAllRead, ExplainsNext};
+ghost use Rattle.ilp_journal.specs.BroughtForward.{is_brought_forward};
+ghost use Rattle.ilp_journal_text.specs.Text.{first_line, entry_line};
+ghost use Rattle.ilp_journal_text.specs.Reading.{StandsIn, Begins, LacksFirstLine, LacksEntry, Takes, IsAtEnd, Explains, unread, IsAllRead, ExplainsNext};
 ghost use Rattle.ilp_journal_text.specs.Fields.{is_line_end, Gives};
 
 use crate::entry::entry_line;
-use crate::fields::{LineFault, fields_of};
-use crate::line::{FIRST_LINE, Line};
+use crate::fields::{LineFault, fields_of, number_in};
+use crate::line::Line;
 use crate::parsing::entry_in;
 use ilp_accounts::Config;
 use ilp_journal::Entry;
@@ -27,9 +29,13 @@ pub enum TextFault {
     Memory,
 }
 
+// What the first line of the text of a period above 0 begins with.
+const LATER_FORM: &[u8] = b"ilp-journal 2 ";
+
 /// The text of a journal, as far as it is not read yet. It is read entry by entry, once.
 #[derive(Drop)]
 pub struct JournalText<'a> {
+    period: u32,
     rest: &'a [u8],
     count: u64,
 }
@@ -40,7 +46,7 @@ impl<'a> Model for JournalText<'a> {
 
     ghost Value = { Unread };
 
-    ghost view = { λ t. record { rest = t.rest.now; count = t.count } };
+    ghost view = { λ t. record { period = t.period; rest = t.rest.now; count = t.count } };
 
     // An entry has more than one octet.
     ghost invariant = { λ t. t.count + length t.rest.now < 2 ^ 63 };
@@ -53,10 +59,21 @@ impl<'a> JournalText<'a> {
         ensures err { OnErr result (LacksFirstLine text.now) }
         ensures fault { IfErr result (λ fault. fault ≡ TextFault.BadLine 1) }
     {
-        match text.strip_prefix(FIRST_LINE) {
-            Some(rest) => Ok(JournalText { rest, count: 0 }),
+        match first_line_in(text) {
+            Some((period, rest)) => Ok(JournalText {
+                period,
+                rest,
+                count: 0,
+            }),
             None => Err(TextFault::BadLine { line: 1 }),
         }
+    }
+
+    /// The number of the period that the text is of, from 0.
+    pub fn period(&self) -> u32
+        ensures { result ≡ self.now.period }
+    {
+        self.period
     }
 
     /// The next entry, by the names of peers in the configuration, and `None` where the text ends
@@ -82,7 +99,7 @@ impl<'a> JournalText<'a> {
                 line: self.count + 3,
             });
         }
-        match take_entry(config, self.rest) {
+        match take_entry(config, self.period, self.rest) {
             Ok((entry, rest)) => {
                 self.rest = rest;
                 self.count += 1;
@@ -97,8 +114,8 @@ impl<'a> JournalText<'a> {
 }
 
 /// Lines of entries that stand behind others, as those of entries that were booked since a journal
-/// was saved: as in the text of a journal, without first line and end line. They are read entry by
-/// entry, once.
+/// was saved: as in the text of a journal, without first line and end line, and without what a period
+/// brings forward, which stands in front. They are read entry by entry, once.
 #[derive(Drop)]
 pub struct JournalLines<'a> {
     rest: &'a [u8],
@@ -111,7 +128,7 @@ impl<'a> Model for JournalLines<'a> {
 
     ghost Value = { Unread };
 
-    ghost view = { λ t. record { rest = t.rest.now; count = t.count } };
+    ghost view = { λ t. record { period = 0; rest = t.rest.now; count = t.count } };
 
     // An entry has more than one octet.
     ghost invariant = { λ t. t.count + length t.rest.now < 2 ^ 63 };
@@ -145,7 +162,7 @@ impl<'a> JournalLines<'a> {
         if self.rest.is_empty() {
             return Ok(None);
         }
-        match take_entry(config, self.rest) {
+        match take_entry(config, 0, self.rest) {
             Ok((entry, rest)) => {
                 self.rest = rest;
                 self.count += 1;
@@ -159,23 +176,74 @@ impl<'a> JournalLines<'a> {
     }
 }
 
-// The entry whose line comes first, and what stands behind that line.
-fn take_entry<'a>(config: &Config, text: &'a [u8]) -> Result<(Entry, &'a [u8]), LineFault>
+// The number of the period whose first line comes first, and what stands behind that line.
+fn first_line_in(text: &[u8]) -> Option<(u32, &[u8])>
+    ensures some { IfSome result (λ found. text.now ≡ first_line found.0 ++ found.1.now) }
+    ensures none { IfNone result (LacksFirstLine text.now) }
+{
+    let period = period_in(text);
+    match text.strip_prefix(Line::first(period).as_slice()) {
+        Some(rest) => Some((period, rest)),
+        None => None,
+    }
+}
+
+// The number of the period whose first line comes first, if one does.
+fn period_in(text: &[u8]) -> u32
+    ensures { (period : ℕ) (after : List ℕ) → period < 2 ^ 32
+        → text.now ≡ first_line period ++ after → result ≡ period }
+{
+    match later_field(text) {
+        Some(field) => number_in(field).unwrap_or(0),
+        None => 0,
+    }
+}
+
+// The number in the first line of the text of a later period, if that has one.
+fn later_field(text: &[u8]) -> Option<&[u8]>
+    ensures { (period : ℕ) (after : List ℕ) → period < 2 ^ 32
+        → text.now ≡ first_line period ++ after
+        → MatchOption result (period ≡ 0) (λ field. field.now ≡ decimal period) }
+{
+    match line_of(text) {
+        Ok(line) => line.strip_prefix(LATER_FORM),
+        Err(_) => None,
+    }
+}
+
+// The entry whose line comes first in the text of a period, and what stands behind that line.
+fn take_entry<'a>(
+    config: &Config,
+    period: u32,
+    text: &'a [u8],
+) -> Result<(Entry, &'a [u8]), LineFault>
     ensures ok { IfOk result (λ taken. (text.now ≡ entry_line config.now taken.0 ++ taken.1.now)
-        × CanStand config.now taken.0) }
-    ensures err { IfErr result (λ fault. fault ≡ LineFault.Bad → LacksEntry config.now text.now) }
+        × StandsIn config.now period taken.0) }
+    ensures err { IfErr result (λ fault. fault ≡ LineFault.Bad
+        → LacksEntry config.now period text.now) }
 {
     // Tells that the configuration is valid.
     let _ = config.peers();
     let line = line_of(text)?;
     let fields = fields_of(line)?;
     let entry = entry_in(config, fields.as_slice())?;
+    if !stands_in(period, &entry) {
+        return Err(LineFault::Bad);
+    }
 
     // A line that is spelt in another way than it would be written is bad.
     match text.strip_prefix(entry_line(config, &entry).as_slice()) {
         Some(rest) => Ok((entry, rest)),
         None => Err(LineFault::Bad),
     }
+}
+
+// Whether an entry may stand in the text of a period: what is brought forward stands only in one
+// above 0.
+fn stands_in(period: u32, entry: &Entry) -> bool
+    ensures { IsTrue result ↔ (IsTrue (is_brought_forward entry.now.what) → 0 < period) }
+{
+    period > 0 || !entry.what.is_brought_forward()
 }
 
 // What stands before the first line end.

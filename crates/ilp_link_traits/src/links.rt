@@ -91,7 +91,7 @@ pub trait EngineLink {
 
     /// Asks for a settlement to the peer, of an amount at a scale, under a key that the engine
     /// takes once.
-    fn settle(&mut self, peer: u32, key: &str, amount: u64, scale: u8) -> EngineReply
+    fn settle(&mut self, peer: u32, key: &[u8], amount: u64, scale: u8) -> EngineReply
         ensures { Tells (told self.old)
             (settled (settling peer key.now amount scale result)) (told self.new) };
 

@@ -116,7 +116,7 @@ impl<R: Net<Stream = TcpStream> + Clock + Eprint + Copy> EngineLink for EngineWa
         }
     }
 
-    fn settle(&mut self, peer: u32, key: &str, amount: u64, scale: u8) -> EngineReply {
+    fn settle(&mut self, peer: u32, key: &[u8], amount: u64, scale: u8) -> EngineReply {
         let Some(engine) = engine_of(self.config, peer) else {
             return EngineReply::Unknown { status: None };
         };

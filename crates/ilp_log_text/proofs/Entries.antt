@@ -15,8 +15,8 @@ use Rattle.ilp_journal_text.proofs.Ink.{IsInk, AreInk, moment_ink, further_ink}
 use Rattle.ilp_line_file.specs.Text.{recovered, text_of, IsLine, AreLines}
 use Rattle.ilp_line_file.proofs.Whole.{text_lines, text_of-append}
 use Rattle.ilp_line_file.proofs.Ending.{lines_snoc}
-use Rattle.ilp_log_text.specs.Text.{PlainLogText, IsIn}
-use Rattle.ilp_log_text.proofs.Later.{first_is_line}
+use Rattle.ilp_log_text.specs.Text.{PlainLogText, journal_form, IsIn}
+use Rattle.ilp_log_text.proofs.Later.{form_is_line, form_line}
 use Rattle.ilp_log_text.proofs.Written.{line_append, ink_line}
 
 -- the last line of a journal's text, without its end
@@ -59,12 +59,15 @@ module _ (C : Configuration) (valid : IsValid C) where
       ∙ ap (λ (t : List ℕ). t ++ rest) (append_assoc moment further (10 ∷ []))
 
   -- the lines of a journal's text
-  journal_lines : (j : Entries) → All IsTyped j → length j < 2 ^ 32 → recovered (journal_text C j) ≡ codes "ilp-journal 1" ∷ (map body j ++ end_body (length j) ∷ [])
-  journal_lines j typed few =
+  journal_lines : (period : ℕ) (j : Entries) → period < 2 ^ 32 → All IsTyped j → length j < 2 ^ 32
+      → recovered (journal_text C period j) ≡ journal_form period ∷ (map body j ++ end_body (length j) ∷ [])
+  journal_lines period j numbered typed few =
       let further : List (List ℕ) = map body j ++ end_body (length j) ∷ [] in
-      let text : journal_text C j ≡ text_of (codes "ilp-journal 1" ∷ further) =
-      ap (λ (t : List ℕ). first_line ++ t) (ap (λ (t : List ℕ). t ++ end_line (length j)) (sym (bodies_text j)) ∙ sym (text_of-append (map body j) (end_body (length j) ∷ []))) in
-      ap recovered text ∙ text_lines (codes "ilp-journal 1" ∷ further) (first_is_line, lines_snoc (map body j) (end_body (length j)) (bodies_are_lines j typed) (end_is_line (length j) few))
+      let text : journal_text C period j ≡ text_of (journal_form period ∷ further) =
+      ap (λ (t : List ℕ). first_line period ++ t) (ap (λ (t : List ℕ). t ++ end_line (length j)) (sym (bodies_text j)) ∙ sym (text_of-append (map body j) (end_body (length j) ∷ [])))
+      ∙ ap (λ (t : List ℕ). t ++ text_of further) (form_line period) ∙ append_assoc (journal_form period) (10 ∷ []) (text_of further) in
+      ap recovered text
+      ∙ text_lines (journal_form period ∷ further) (form_is_line period numbered, lines_snoc (map body j) (end_body (length j)) (bodies_are_lines j typed) (end_is_line (length j) few))
 
   drop_bodies : (n : ℕ) (entries : Entries) → map body (drop n entries) ≡ drop n (map body entries)
   drop_bodies zero entries = refl
@@ -77,15 +80,15 @@ module _ (C : Configuration) (valid : IsValid C) where
   in_longer (suc n) (x ∷ xs) [] zs p = absurd (cc (p.1))
   in_longer (suc n) xs (y ∷ ys) zs p = in_longer n xs ys zs p
 
-  pub later_has : (j entries : Entries) (log : PlainLogText) → All IsTyped j → All IsTyped entries → length j < 2 ^ 32 → AreLines log.lines → text_of log.lines ≡ entry_lines C entries → IsPrefix entries (drop log.count j)
-      → IsIn log (journal_text C j)
-  later_has j entries log typed typed_entries few are same p =
+  pub later_has : (period : ℕ) (j entries : Entries) (log : PlainLogText) → period < 2 ^ 32 → All IsTyped j → All IsTyped entries → length j < 2 ^ 32 → AreLines log.lines → text_of log.lines ≡ entry_lines C entries → IsPrefix entries (drop log.count j)
+      → IsIn log (journal_text C period j)
+  later_has period j entries log numbered typed typed_entries few are same p =
       let lines : log.lines ≡ map body entries =
       sym (text_lines log.lines are) ∙ ap recovered (same ∙ sym (bodies_text entries)) ∙ text_lines (map body entries) (bodies_are_lines entries typed_entries) in
       let begins : IsPrefix log.lines (drop log.count (map body j)) =
       (map body p.0, ap (λ (l : List (List ℕ)). l ++ map body p.0) lines ∙ sym (map-append body entries p.0) ∙ ap (map body) p.1 ∙ drop_bodies log.count j) in
       record {
         entries = map body j ++ end_body (length j) ∷ [];
-        first = journal_lines j typed few;
+        journal = record { period = period; numbered = numbered; first = journal_lines period j numbered typed few };
         has = in_longer log.count log.lines (map body j) (end_body (length j) ∷ []) begins;
       }

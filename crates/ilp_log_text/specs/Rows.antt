@@ -57,6 +57,10 @@ confirmed = record { count = 1; digest = []; remembered = codes "run r1"; lines 
 abbrev pub LaterRow : Type 0
 LaterRow = IsIn confirmed (codes "ilp-journal 1\n600 0 asked bob 800\n700 0 confirmed 0\nend 2\n")
 
+-- the same in the journal of a later period, which begins with what was brought forward
+abbrev pub NextRow : Type 0
+NextRow = IsIn confirmed (codes "ilp-journal 2 17\n600 0 pending bob 800 72312d30\n700 0 confirmed 0\nend 2\n")
+
 -- and in one that was saved before the second
 abbrev pub EarlierRow : Type 0
 EarlierRow = ¬ (IsIn confirmed (codes "ilp-journal 1\n600 0 asked bob 800\nend 1\n"))

@@ -1,5 +1,6 @@
 -- What the octets of a log's file say.
-use Rattle.std.specs.Prelude.{◌≡◌, ◌≢◌, ℕ, ◌<◌, ◌^◌, List, ◌∷◌, ◌++◌, drop, codes}
+use Rattle.std.specs.Prelude.{◌≡◌, ◌≢◌, ℕ, ◌<◌, ◌^◌, List, ◌∷◌, ◌++◌, drop, codes, ◌==◌, if◌then◌else◌}
+use Rattle.std.specs.Fmt.{decimal}
 use mathlib.Core.List.{IsPrefix}
 use Rattle.ilp_line_file.specs.Text.{recovered}
 use Rattle.ilp_journal_text.specs.Reading.{AreOctets}
@@ -49,8 +50,18 @@ abbrev pub IsBadHead : List ℕ → BadHead → Type 0
 IsBadHead octets First = LacksFirst (recovered octets)
 IsBadHead octets Second = LacksSecond (recovered octets)
 
--- A text of the journal has all lines of the log, those of entries from the number `count` on.
+-- the first line of the text of a period's journal, without its end
+abbrev pub journal_form : ℕ → List ℕ
+journal_form period = if period == 0 then codes "ilp-journal 1" else codes "ilp-journal 2 " ++ decimal period
+
+-- lines of which the first is that of a period's journal, and what stands behind it
+pub record IsJournal (lines entries : List (List ℕ)) : Type 0 where
+  pub period : ℕ
+  pub numbered : period < 2 ^ 32
+  pub first : lines ≡ journal_form period ∷ entries
+
+-- A text of the journal, of whatever period, has all lines of the log, those of entries from the number `count` on.
 pub record IsIn (log : PlainLogText) (saved : List ℕ) : Type 0 where
   pub entries : List (List ℕ)
-  pub first : recovered saved ≡ codes "ilp-journal 1" ∷ entries
+  pub journal : IsJournal (recovered saved) entries
   pub has : IsPrefix log.lines (drop log.count entries)

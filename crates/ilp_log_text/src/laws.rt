@@ -13,7 +13,7 @@ ghost use Rattle.ilp_log_text.specs.declared.reading.BadHead.{BadHead as PlainBa
 ghost use Rattle.ilp_log_text.specs.Head.{second_line};
 ghost use Rattle.ilp_log_text.specs.Text.{PlainLogText, IsLogText, IsBadHead, IsIn};
 ghost use Rattle.ilp_log_text.specs.Remembering.{remembered_in};
-ghost use Rattle.ilp_log_text.specs.Rows.{NewRow, SavedRow, TornRow, RememberedRow, LaterRow, EarlierRow};
+ghost use Rattle.ilp_log_text.specs.Rows.{NewRow, SavedRow, TornRow, RememberedRow, LaterRow, NextRow, EarlierRow};
 
 /// Worked lines.
 pub fn rows()
@@ -22,6 +22,7 @@ pub fn rows()
     ensures torn { TornRow }
     ensures remembered { RememberedRow }
     ensures later { LaterRow }
+    ensures next { NextRow }
     ensures earlier { EarlierRow }
 {}
 
@@ -33,13 +34,13 @@ pub fn one_log_text()
         → IsLogText octets log → ¬ IsBadHead octets bad }
 {}
 
-/// A later text of the journal that has the entries of a log from the number `count` on is found to
+/// A later text of a period's journal that has the entries of a log from the number `count` on is found to
 /// have them: the log is in it.
 pub fn later_text()
-    ensures { (C : Configuration) (j logged : Entries) (log : PlainLogText) → IsValid C
-        → All IsTyped j → All IsTyped logged → length j < 2 ^ 32
+    ensures { (C : Configuration) (period : ℕ) (j logged : Entries) (log : PlainLogText)
+        → IsValid C → period < 2 ^ 32 → All IsTyped j → All IsTyped logged → length j < 2 ^ 32
         → AreLines log.lines → text_of log.lines ≡ entry_lines C logged
-        → IsPrefix logged (drop log.count j) → IsIn log (journal_text C j) }
+        → IsPrefix logged (drop log.count j) → IsIn log (journal_text C period j) }
 {}
 
 /// What the second line of a valid configuration says is what is remembered of it.

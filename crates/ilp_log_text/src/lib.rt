@@ -20,8 +20,8 @@
 //!   line.
 //! - `is_of` says whether this is the text that a log goes on from: whether its digest is the
 //!   log's.
-//! - `is_in` says whether a later text of the journal has the log's lines from the number `count`
-//!   on (`IsIn`). `later_text`: where it has the entries, it has the lines.
+//! - `is_in` says whether a later text of the journal, of whatever period, has the log's lines from
+//!   the number `count` on (`IsIn`). `later_text`: where it has the entries, it has the lines.
 //! - `remembered_in` is the text that `ilp_remembered::change_of` reads of the second line.
 //!   `same_text`: of the second line of a valid configuration it is the text that is remembered
 //!   of it.

@@ -1,17 +1,15 @@
 //! Reading the file of a log.
-ghost use Rattle.std.specs.Prelude.{◌≡◌, ◌↔◌, IsTrue, IfOk, IfErr};
+ghost use Rattle.std.specs.Prelude.{◌≡◌, ◌↔◌, List, ℕ, IsTrue, IfOk, IfErr, IfSome, IfNone};
 ghost use Rattle.sha2.specs.Sha256.{sha256};
-ghost use Rattle.ilp_line_file.specs.Text.{text_of, AreLines};
-ghost use Rattle.ilp_log_text.specs.Text.{IsLogText, IsBadHead, IsIn};
+ghost use Rattle.ilp_line_file.specs.Text.{recovered, text_of, AreLines, IsText};
+ghost use Rattle.ilp_log_text.specs.Text.{IsLogText, IsBadHead, IsJournal, IsIn};
 
 use crate::first_line::{Origin, origin_in};
 use crate::lines::{behind_lines, next_line, whole_lines};
+use ilp_journal_text::JournalText;
 use sha2::{Digest, Sha256};
 use std::marker::Model;
 use thiserror::Error;
-
-// The first line of a journal's text.
-const JOURNAL_FORM: &[u8] = b"ilp-journal 1\n";
 
 // What the line of a run begins with.
 const RUN: &[u8] = b"run ";
@@ -115,9 +113,25 @@ impl<'a> LogText<'a> {
     pub fn is_in(&self, saved: &[u8]) -> bool
         ensures { IsTrue result ↔ IsIn self.now saved.now }
     {
-        match whole_lines(saved).strip_prefix(JOURNAL_FORM) {
+        match behind_form(whole_lines(saved)) {
             Some(entries) => behind_lines(entries, self.origin.count).starts_with(self.lines),
             None => false,
         }
+    }
+}
+
+// What stands behind the first line of a journal's text, if that is the one of a period.
+fn behind_form(text: &[u8]) -> Option<&[u8]>
+    requires { IsText text.now }
+    ensures text { IfSome result (λ entries. IsText entries.now) }
+    ensures some { IfSome result (λ entries. IsJournal (recovered text.now) (recovered entries.now)) }
+    ensures none { IfNone result ((entries : List (List ℕ)) → ¬ IsJournal (recovered text.now) entries) }
+{
+    match JournalText::begin(text) {
+        Ok(_) => match next_line(text) {
+            Some((_, entries)) => Some(entries),
+            None => None,
+        },
+        Err(_) => None,
     }
 }

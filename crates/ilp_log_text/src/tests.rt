@@ -53,6 +53,22 @@ fn a_torn_log_is_read_back(rt: HostRuntime) -> Result<(), Fail> {
 }
 
 #[test]
+fn a_log_is_in_the_journal_of_a_later_period(rt: HostRuntime) -> Result<(), Fail> {
+    let saved = b"ilp-journal 2 17\n600 0 pending bob 800 72312d30\nend 1\n";
+    let later = b"ilp-journal 2 17\n600 0 pending bob 800 72312d30\n700 0 confirmed 0\nend 2\n";
+    let other = b"ilp-journal 3 17\n600 0 pending bob 800 72312d30\n700 0 confirmed 0\nend 2\n";
+    let head = "ilp-log 1 1 e3b0c44298fc1c149afbf4c8996fb92427ae41e4649b934ca495991b7852b855";
+    let octets = format!(in rt.alloc(); "{head}\nrun r1\n700 0 confirmed 0\n")?;
+    let Ok(log) = LogText::read(octets.as_bytes()) else {
+        panic!(rt; "no log");
+    };
+    assert!(rt; log.is_in(later));
+    assert!(rt; !log.is_in(saved));
+    assert!(rt; !log.is_in(other));
+    Ok(())
+}
+
+#[test]
 fn what_is_remembered_comes_back(rt: HostRuntime) -> Result<(), Fail> {
     let text = remembered_in(rt.alloc(), b"run r1; peer alice XRP 9; peer bob USD 2")?;
     assert_eq!(rt;

@@ -184,6 +184,46 @@ pub fn journal_too_long<R: Clock + Eprint>(rt: &R, path: &str) {
     tell(rt, Level::Error, text);
 }
 
+/// Tells that a period has ended, and where its text is kept.
+pub fn period_kept<R: Clock + Eprint>(rt: &R, path: &str, period: u32, kept: &str, entries: u32) {
+    let text = format_args!(
+        "journal {path:?}: the period {period} has ended, and its {entries} entries are kept as {kept:?}"
+    );
+    tell(rt, Level::Info, text);
+}
+
+/// Tells that the text of a period that has ended can't be kept where another text stands.
+pub fn period_differs<R: Clock + Eprint>(rt: &R, kept: &str) {
+    let text = format_args!(
+        "{kept:?} has another text than the period that is to be kept there, and is never written again: move it away, if it is of another journal"
+    );
+    tell(rt, Level::Error, text);
+}
+
+/// Tells that the text of a period that has ended can't be written, or that of the next one.
+pub fn period_unwritten<R: Clock + Eprint>(rt: &R, path: &str, error: &io::Error) {
+    let text = format_args!(
+        "can't write {path:?}: {error}: make room for it, and give the command again: nothing is lost"
+    );
+    tell(rt, Level::Error, text);
+}
+
+/// Tells how many keys are forgotten with a peer that is left out.
+pub fn keys_left_out<R: Clock + Eprint>(rt: &R, peer: &str, keys: u32) {
+    let text = format_args!(
+        "{peer} is left out with {keys} keys of its settlements: where a peer of this name is added again, what its engine tells again is credited again"
+    );
+    tell(rt, Level::Warn, text);
+}
+
+/// Tells that the journal has begun its next period.
+pub fn period_begun<R: Clock + Eprint>(rt: &R, path: &str, period: u32, entries: u32) {
+    let text = format_args!(
+        "journal {path:?}: the period {period} begins with its {entries} entries"
+    );
+    tell(rt, Level::Info, text);
+}
+
 /// Tells in two lines that a connector that kept no log has stopped without saving the journal, of which its
 /// mark says this: what that means, and what to do.
 pub fn stopped_unsaved<R: Clock + Eprint>(rt: &R, path: &str, running: &str, said: &str) {

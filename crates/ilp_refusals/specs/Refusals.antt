@@ -17,11 +17,13 @@ use Rattle.ilp_book.specs.declared.fault.CreditFault.{CreditFault}
 use Rattle.ilp_book.specs.declared.fault.CreditFault.TheVariants as credit_fault
 use Rattle.ilp_book.specs.declared.fault.AskFault.{AskFault}
 use Rattle.ilp_book.specs.declared.fault.AskFault.TheVariants as ask_fault
+use Rattle.ilp_next_period.specs.declared.forward_fault.ForwardFault.{ForwardFault}
+use Rattle.ilp_next_period.specs.declared.forward_fault.ForwardFault.TheVariants as forward_fault
 use Rattle.ilp_rules.specs.declared.fault.CarryFault.{CarryFault}
 use Rattle.ilp_rules.specs.declared.fault.CarryFault.TheVariants as carry_fault
 use Rattle.ilp_refusals.specs.declared.refusal.Refusal.{Refusal}
 use Rattle.ilp_refusals.specs.declared.refusal.Refusal.TheVariants as refusals
-use Rattle.ilp_refusals.specs.declared.refusal.Refusal.TheVariants.{Truncated, BadPrefix, TooLong, UnknownType, Trailing, BadExpiry, BadAddress, FieldTooLong, BadHex, NotPrepare, DoubleAsset, NoSuchAsset, ScaleGap, ZeroPrice, NoPrice, RoundsToNothing, OutTooLarge, DoublePrice, ConfigUnread, NotToml, Missing, BadValue, DoublePeer, DoubleToken, DoubleRoute, BadLevels, NotJson, BadAmount, BadScale, TooLarge, AmountTooLarge, NoRoute, BackToSender, Expired, TooShort, Full, TotalFull, BelowLeast, Memory, KeyTaken, NotDue, StillOpen, MissingEnd, DoubleEnd, Disagrees, ReadFault, WriteFault, ScriptTooLong, ListenFault, SpawnFault, BadJournalText, Unlawful, JournalUnread}
+use Rattle.ilp_refusals.specs.declared.refusal.Refusal.TheVariants.{Truncated, BadPrefix, TooLong, UnknownType, Trailing, BadExpiry, BadAddress, FieldTooLong, BadHex, NotPrepare, DoubleAsset, NoSuchAsset, ScaleGap, ZeroPrice, NoPrice, RoundsToNothing, OutTooLarge, DoublePrice, ConfigUnread, NotToml, Missing, BadValue, DoublePeer, DoubleToken, DoubleRoute, BadLevels, NotJson, BadAmount, BadScale, TooLarge, AmountTooLarge, NoRoute, BackToSender, Expired, TooShort, Full, TotalFull, BelowLeast, Memory, KeyTaken, NotDue, StillOpen, MissingEnd, DoubleEnd, Disagrees, ReadFault, WriteFault, ScriptTooLong, ListenFault, SpawnFault, BadJournalText, Unlawful, JournalUnread, OtherRun, LastPeriod, HoldOpen, BalanceTooLarge, PeerRemoved, OtherAsset, NotFollowing}
 
 -- a number, and a name
 abbrev pub refusal_row : Refusal → ℕ × List ℕ
@@ -78,6 +80,13 @@ refusal_row SpawnFault = (67, codes "SpawnFault")
 refusal_row (BadJournalText line) = (71, codes "BadJournalText")
 refusal_row (Unlawful entry) = (72, codes "Unlawful")
 refusal_row JournalUnread = (73, codes "JournalUnread")
+refusal_row OtherRun = (74, codes "OtherRun")
+refusal_row LastPeriod = (75, codes "LastPeriod")
+refusal_row (HoldOpen hold) = (76, codes "HoldOpen")
+refusal_row (BalanceTooLarge balance) = (77, codes "BalanceTooLarge")
+refusal_row (PeerRemoved balance) = (78, codes "PeerRemoved")
+refusal_row (OtherAsset balance) = (79, codes "OtherAsset")
+refusal_row (NotFollowing entry) = (80, codes "NotFollowing")
 
 abbrev pub refusal_number : Refusal → ℕ
 refusal_number refusal = (refusal_row refusal).0
@@ -92,7 +101,7 @@ refusal_field (BadValue field) = Some field
 refusal_field _ = None
 
 -- what a refusal names, each after a space: a field of the configuration, the greatest amount, the balance, the entry of a key, a settlement with its
--- amount, an actor, or a line or an entry of a journal
+-- amount, an actor, a line or an entry of a journal, or a hold
 abbrev pub detail_text : Refusal → List ℕ
 detail_text (Missing field) = codes " " ++ key field
 detail_text (BadValue field) = codes " " ++ key field
@@ -106,6 +115,11 @@ detail_text (DoubleEnd actor) = codes " " ++ decimal actor
 detail_text (Disagrees actor) = codes " " ++ decimal actor
 detail_text (BadJournalText line) = codes " " ++ decimal line
 detail_text (Unlawful entry) = codes " " ++ decimal entry
+detail_text (HoldOpen hold) = codes " " ++ decimal hold
+detail_text (BalanceTooLarge balance) = codes " " ++ signed_decimal balance
+detail_text (PeerRemoved balance) = codes " " ++ signed_decimal balance
+detail_text (OtherAsset balance) = codes " " ++ signed_decimal balance
+detail_text (NotFollowing entry) = codes " " ++ decimal entry
 detail_text _ = []
 
 -- the name of a refusal, and what it names
@@ -188,3 +202,15 @@ abbrev pub carry_refusal : CarryFault → Refusal
 carry_refusal (carry_fault.BadJournalText line) = refusals.BadJournalText line
 carry_refusal (carry_fault.Unlawful entry rule) = refusals.Unlawful entry
 carry_refusal carry_fault.Memory = refusals.Memory
+
+-- the refusal of a book that is not brought forward
+abbrev pub forward_refusal : ForwardFault → Refusal
+forward_refusal forward_fault.OtherRun = refusals.OtherRun
+forward_refusal forward_fault.LastPeriod = refusals.LastPeriod
+forward_refusal (forward_fault.HoldOpen hold) = refusals.HoldOpen hold
+forward_refusal (forward_fault.BalanceTooLarge peer balance) = refusals.BalanceTooLarge balance
+forward_refusal (forward_fault.PeerRemoved peer balance) = refusals.PeerRemoved balance
+forward_refusal (forward_fault.OtherAsset peer balance) = refusals.OtherAsset balance
+forward_refusal (forward_fault.BelowLeast peer balance) = refusals.BelowLeast balance
+forward_refusal forward_fault.Full = refusals.Full
+forward_refusal forward_fault.Memory = refusals.Memory

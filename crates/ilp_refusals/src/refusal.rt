@@ -4,7 +4,7 @@ ghost use Rattle.ilp_refusals.specs.Refusals.{refusal_number, refusal_name};
 
 use ilp_accounts::{ConfigFault, Field};
 use ilp_assets::QuoteFault;
-use ilp_book::{AskFault, CarryFault, CreditFault, HoldFault};
+use ilp_book::{AskFault, CarryFault, CreditFault, ForwardFault, HoldFault};
 use ilp_packet::PacketFault;
 use ilp_settlement::QuantityFault;
 use std::error::Error;
@@ -122,6 +122,22 @@ pub enum Refusal {
     /// A journal can't be read or is too long, another connector has it, or one has stopped without
     /// saving it.
     JournalUnread,
+    /// The configuration of a next period has another run.
+    OtherRun,
+    /// A period has the greatest number of all.
+    LastPeriod,
+    /// The books of a period can't be closed while a hold is open, which is this.
+    HoldOpen { hold: u32 },
+    /// A balance, which is this, is too large to be brought forward.
+    BalanceTooLarge { balance: i128 },
+    /// The configuration of a next period lacks a peer whose balance, which is this, is not 0, or that has
+    /// an open settlement.
+    PeerRemoved { balance: i128 },
+    /// The configuration of a next period has another asset for a peer that has a balance, which is this,
+    /// an open settlement or a kept key.
+    OtherAsset { balance: i128 },
+    /// This entry of a journal is another one than what the period before has brought forward.
+    NotFollowing { entry: u32 },
 }
 
 impl Refusal {
@@ -183,6 +199,13 @@ impl Refusal {
             Refusal::BadJournalText { .. } => 71,
             Refusal::Unlawful { .. } => 72,
             Refusal::JournalUnread => 73,
+            Refusal::OtherRun => 74,
+            Refusal::LastPeriod => 75,
+            Refusal::HoldOpen { .. } => 76,
+            Refusal::BalanceTooLarge { .. } => 77,
+            Refusal::PeerRemoved { .. } => 78,
+            Refusal::OtherAsset { .. } => 79,
+            Refusal::NotFollowing { .. } => 80,
         }
     }
 
@@ -244,13 +267,20 @@ impl Refusal {
             Refusal::BadJournalText { .. } => "BadJournalText",
             Refusal::Unlawful { .. } => "Unlawful",
             Refusal::JournalUnread => "JournalUnread",
+            Refusal::OtherRun => "OtherRun",
+            Refusal::LastPeriod => "LastPeriod",
+            Refusal::HoldOpen { .. } => "HoldOpen",
+            Refusal::BalanceTooLarge { .. } => "BalanceTooLarge",
+            Refusal::PeerRemoved { .. } => "PeerRemoved",
+            Refusal::OtherAsset { .. } => "OtherAsset",
+            Refusal::NotFollowing { .. } => "NotFollowing",
         }
     }
 }
 
 /// `NUMBER NAME`, and each after a space what it names: the key of a field, the greatest amount, the
-/// balance, the entry of a key, the number and the amount of a settlement, an actor, or the line or the
-/// entry of a journal.
+/// balance, the entry of a key, the number and the amount of a settlement, an actor, the line or the
+/// entry of a journal, or the number of a hold.
 impl fmt::Display for Refusal {
     ghost use Rattle.std.specs.Prelude.{Some};
     ghost use Rattle.ilp_refusals.specs.Refusals.{refusal_text};
@@ -283,16 +313,21 @@ impl fmt::Display for Named {
                 write!(f, "{name} {key}")
             }
             Refusal::AmountTooLarge { max } => write!(f, "{name} {max}"),
-            Refusal::BelowLeast { balance } | Refusal::NotDue { balance } => {
-                write!(f, "{name} {balance}")
-            }
+            Refusal::BelowLeast { balance }
+            | Refusal::NotDue { balance }
+            | Refusal::BalanceTooLarge { balance }
+            | Refusal::PeerRemoved { balance }
+            | Refusal::OtherAsset { balance } => write!(f, "{name} {balance}"),
             Refusal::KeyTaken { kept } => write!(f, "{name} {kept}"),
             Refusal::StillOpen { number, amount } => write!(f, "{name} {number} {amount}"),
             Refusal::MissingEnd { actor }
             | Refusal::DoubleEnd { actor }
             | Refusal::Disagrees { actor } => write!(f, "{name} {actor}"),
             Refusal::BadJournalText { line } => write!(f, "{name} {line}"),
-            Refusal::Unlawful { entry } => write!(f, "{name} {entry}"),
+            Refusal::Unlawful { entry } | Refusal::NotFollowing { entry } => {
+                write!(f, "{name} {entry}")
+            }
+            Refusal::HoldOpen { hold } => write!(f, "{name} {hold}"),
             _ => write!(f, "{name}"),
         }
     }
@@ -435,6 +470,28 @@ impl From<&CarryFault> for Refusal {
             CarryFault::BadJournalText { line, .. } => Refusal::BadJournalText { line: *line },
             CarryFault::Unlawful { entry, .. } => Refusal::Unlawful { entry: *entry },
             CarryFault::Memory => Refusal::Memory,
+        }
+    }
+}
+
+/// A book that is not brought forward. Which peer it is for, the fault tells.
+impl From<ForwardFault> for Refusal {
+    ghost use Rattle.std.specs.Prelude.{◌≡◌};
+    ghost use Rattle.ilp_refusals.specs.Refusals.{forward_refusal};
+
+    ghost from_gives = { λ fault result. result ≡ forward_refusal fault };
+
+    fn from(fault: ForwardFault) -> Refusal {
+        match fault {
+            ForwardFault::OtherRun => Refusal::OtherRun,
+            ForwardFault::LastPeriod => Refusal::LastPeriod,
+            ForwardFault::HoldOpen { hold } => Refusal::HoldOpen { hold },
+            ForwardFault::BalanceTooLarge { balance, .. } => Refusal::BalanceTooLarge { balance },
+            ForwardFault::PeerRemoved { balance, .. } => Refusal::PeerRemoved { balance },
+            ForwardFault::OtherAsset { balance, .. } => Refusal::OtherAsset { balance },
+            ForwardFault::BelowLeast { balance, .. } => Refusal::BelowLeast { balance },
+            ForwardFault::Full => Refusal::Full,
+            ForwardFault::Memory => Refusal::Memory,
         }
     }
 }

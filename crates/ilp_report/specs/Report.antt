@@ -1,5 +1,5 @@
 -- The report of a book. Peers and assets stand in the configuration's order, and every sum goes over the whole journal.
-use Rattle.std.specs.Prelude.{ℕ, ◌-◌, ℤ, pos, List, [], ◌∷◌, ◌++◌, length, map, replicate, codes}
+use Rattle.std.specs.Prelude.{ℕ, ◌-◌, ℤ, pos, List, [], ◌∷◌, ◌++◌, length, map, replicate, codes, ◌==◌, if◌then◌else◌}
 use Rattle.std.specs.List.{range_with_len, flat_map}
 use Rattle.std.specs.Fmt.{decimal, signed_decimal}
 use Rattle.ilp_assets.specs.Assets.{PlainAsset, asset_at}
@@ -26,12 +26,13 @@ pub record PlainAssetBooks : Type 0 where
   pub name : List ℕ
   pub sums : Sums
 
--- how many entries there are, and how many of them fulfill a hold
+-- how many entries there are, how many of them fulfill a hold, and the number of the period
 pub record PlainSnapshot : Type 0 where
   pub peers : List PlainPeerAccount
   pub assets : List PlainAssetBooks
   pub entries : ℕ
   pub fulfilled : ℕ
+  pub period : ℕ
 
 -- what is told of the peer at a place
 unfoldable pub peer_account : PlainBook → ℕ → PlainPeerAccount
@@ -66,6 +67,7 @@ snapshot_of book = record {
   assets = map (asset_books book) (range_with_len 0 (length book.config.table.assets));
   entries = length book.entries;
   fulfilled = fulfilled_since 0 book.entries;
+  period = book.period;
 }
 
 -- ---- lines
@@ -95,6 +97,10 @@ asset_lines asset =
     ++ (line (codes "sold") asset.name asset.sums.sold
     ++ line (codes "settled") asset.name asset.sums.settled)))
 
+-- the number of a period above 0
+abbrev pub period_line : ℕ → List ℕ
+period_line period = if period == 0 then [] else line (codes "period") [] (pos period)
+
 -- the lines of a snapshot
 abbrev pub text_of : PlainSnapshot → List ℕ
 text_of s =
@@ -102,7 +108,8 @@ text_of s =
     ++ (flat_map open_line s.peers
     ++ (flat_map asset_lines s.assets
     ++ (line (codes "entries") [] (pos s.entries)
-    ++ line (codes "fulfilled") [] (pos s.fulfilled))))
+    ++ (line (codes "fulfilled") [] (pos s.fulfilled)
+    ++ period_line s.period))))
 
 -- the report of a book
 abbrev pub report_text : PlainBook → List ℕ

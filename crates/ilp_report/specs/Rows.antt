@@ -1,5 +1,5 @@
 -- Worked reports. Alice and bob are the peers 0 and 1; alice has dollars at scale 2.
-use Rattle.std.specs.Prelude.{◌≡◌, ℕ, pos, negsuc, List, [], ◌∷◌, ◌++◌, codes, replicate}
+use Rattle.std.specs.Prelude.{◌≡◌, ℕ, ℤ, pos, negsuc, List, [], ◌∷◌, ◌++◌, codes, replicate}
 use Rattle.ilp_assets.specs.Assets.{PlainAsset}
 use Rattle.ilp_accounts.specs.Configuration.{PlainPeer, nobody}
 use Rattle.ilp_accounts.specs.declared.settings.LogSync.TheVariants.{Group}
@@ -22,18 +22,23 @@ euros = record { code = codes "EUR"; scale = 9 }
 abbrev pub peer_of : List ℕ → ℕ → PlainPeer
 peer_of name asset = record nobody { name = name; asset = asset; least = negsuc 9999 }
 
--- a book of these assets and entries, in which bob's asset stands at this place
-abbrev pub book_of : List PlainAsset → ℕ → Entries → PlainBook
-book_of assets asset entries = record {
+-- a book of a period with these assets and entries, in which bob's asset stands at this place
+abbrev pub book_in : ℕ → List PlainAsset → ℕ → Entries → PlainBook
+book_in period assets asset entries = record {
   config = record {
     settings = record { address = []; run = []; listen = []; engine_listen = []; path = []; workers = 1; journal = 65536; window_ms = 1000; max_hold_ms = 30000; sweep_ms = 100; settle_ms = 1000; sync = Group };
     table = record { assets = assets; prices = [] };
     peers = peer_of (codes "alice") 0 ∷ peer_of (codes "bob") asset ∷ [];
     routes = [];
   };
+  period = period;
   base = 0;
   entries = entries;
 }
+
+-- one of the first period
+abbrev pub book_of : List PlainAsset → ℕ → Entries → PlainBook
+book_of assets asset entries = book_in 0 assets asset entries
 
 abbrev pub booked : What → Entry
 booked what = record { moment = pos 0; actor = 0; what = what }
@@ -52,6 +57,10 @@ credited n = booked (what.Credited (record { peer = 0; key = codes "k"; named = 
 -- a settlement to bob is asked for
 abbrev pub asked : ℕ → Entry
 asked n = booked (what.Asked (record { peer = 1; amount = n }))
+
+-- a balance of an earlier period
+abbrev pub opened : ℕ → ℤ → Entry
+opened peer balance = booked (what.Opened peer balance)
 
 -- ---- the reports
 
@@ -89,3 +98,19 @@ SettledRow = report_text (book_of (dollars ∷ euros ∷ []) 1 (hold 1000 10 500
     ++ codes "settled   EUR/9                                        -2000\n"
     ++ codes "entries                                                    5\n"
     ++ codes "fulfilled                                                  1\n"
+
+-- the period 12, which begins with what alice owes and bob is owed
+abbrev pub NextPeriodRow : Type 0
+NextPeriodRow = report_text (book_in 12 (dollars ∷ []) 0 (opened 0 (negsuc 99) ∷ opened 1 (pos 250) ∷ [])) ≡
+    codes "balance   alice                                         -100\n"
+    ++ codes "balance   bob                                            250\n"
+    ++ codes "open      alice                                            0\n"
+    ++ codes "open      bob                                              0\n"
+    ++ codes "held      USD/2                                            0\n"
+    ++ codes "fees      USD/2                                            0\n"
+    ++ codes "bought    USD/2                                            0\n"
+    ++ codes "sold      USD/2                                            0\n"
+    ++ codes "settled   USD/2                                          150\n"
+    ++ codes "entries                                                    2\n"
+    ++ codes "fulfilled                                                  0\n"
+    ++ codes "period                                                    12\n"

@@ -3,7 +3,7 @@
 ghost use Rattle.std.specs.Prelude.{◌≡◌, ℕ, ◌≤◌, ℤ, List, length};
 ghost use Rattle.ilp_report.specs.Report.{line};
 ghost use Rattle.ilp_report.specs.Columns.{IsShort, IsNarrow};
-ghost use Rattle.ilp_report.specs.Rows.{PaidRow, SettledRow};
+ghost use Rattle.ilp_report.specs.Rows.{PaidRow, SettledRow, NextPeriodRow};
 
 /// A line whose label, name and number fit their columns has 60 octets before its LF.
 pub fn lines_have_one_length()
@@ -15,4 +15,5 @@ pub fn lines_have_one_length()
 pub fn rows()
     ensures paid { PaidRow }
     ensures settled { SettledRow }
+    ensures next { NextPeriodRow }
 {}

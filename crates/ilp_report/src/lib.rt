@@ -7,7 +7,7 @@
 //! # What is proved
 //!
 //! - `Snapshot::of` is what the definitions tell of the book (`specs/Report.antt`): sums over the
-//!   whole journal.
+//!   whole journal, and the number of its period.
 //! - `print` writes out its lines, so both together the report of the book (`report_text`). It has
 //!   no allocator, and no error for want of memory.
 //! - `Snapshot` keeps that its lines balance, by the trial balance (docs/PROTOCOL.md, "balances and

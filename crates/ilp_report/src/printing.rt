@@ -4,7 +4,7 @@ ghost use Rattle.std.specs.List.{flat_map};
 ghost use Rattle.std.specs.Io.KnownBytes.{Appends};
 ghost use Rattle.ilp_io.specs.Counts.{CountsUp};
 ghost use Rattle.ilp_io.specs.Writing.{AppendsProperPrefix};
-ghost use Rattle.ilp_report.specs.Report.{line, balance_line, open_line, asset_lines, text_of};
+ghost use Rattle.ilp_report.specs.Report.{line, balance_line, open_line, asset_lines, period_line, text_of};
 
 use crate::accounts::{AssetBooks, PeerAccount};
 use crate::line::{LABEL_END, put_line};
@@ -12,7 +12,8 @@ use crate::snapshot::Snapshot;
 use ilp_io::{Sink, WriteFault};
 use std::alloc::Allocator;
 
-/// Writes the report of a snapshot, line by line. No memory is taken.
+/// Writes the report of a snapshot, line by line. No memory is taken. The number of the period is told
+/// last, where it is above 0.
 ///
 /// It is refused only where a write fails or takes no octet. Then a part of the report was taken.
 pub fn print<A: Allocator, W: Sink>(snapshot: &Snapshot<A>, sink: &mut W) -> Result<(), WriteFault>
@@ -27,7 +28,8 @@ pub fn print<A: Allocator, W: Sink>(snapshot: &Snapshot<A>, sink: &mut W) -> Res
     put_open_holds(sink, snapshot.peers())?;
     put_assets(sink, snapshot.assets())?;
     put_count(sink, "entries", snapshot.entries())?;
-    put_count(sink, "fulfilled", snapshot.fulfilled())
+    put_count(sink, "fulfilled", snapshot.fulfilled())?;
+    put_period(sink, snapshot.period())
 }
 
 // The lines of the balances.
@@ -124,6 +126,21 @@ fn put_asset<A: Allocator, W: Sink>(sink: &mut W, asset: &AssetBooks<A>) -> Resu
     put_line(sink, "bought", name, sums.bought)?;
     put_line(sink, "sold", name, sums.sold)?;
     put_line(sink, "settled", name, sums.settled)
+}
+
+// The line of a period's number, which the first period lacks.
+fn put_period<W: Sink>(sink: &mut W, period: u32) -> Result<(), WriteFault>
+    ensures ok { OnOk result
+        (Appends (W.contents sink.old) (W.contents sink.new) (period_line period)) }
+    ensures err { OnErr result
+        (AppendsProperPrefix (W.contents sink.old) (W.contents sink.new) (period_line period)) }
+    ensures failed { CountsUp (W.failures sink.old) (W.failures sink.new)
+        (if is_err result then 1 else 0) }
+{
+    if period == 0 {
+        return Ok(());
+    }
+    put_count(sink, "period", period)
 }
 
 // The line of a count, which has no name.

@@ -16,6 +16,7 @@ pub struct Snapshot<A: Allocator = Global> {
     assets: Vec<AssetBooks<A>, A>,
     entries: u32,
     fulfilled: u32,
+    period: u32,
 }
 
 impl<A: Allocator> Model for Snapshot<A> {
@@ -29,6 +30,7 @@ impl<A: Allocator> Model for Snapshot<A> {
       assets = s.assets.items;
       entries = s.entries;
       fulfilled = s.fulfilled;
+      period = s.period;
     } };
 
     ghost invariant = { λ s. AreBalanced s.peers.items s.assets.items };
@@ -49,6 +51,7 @@ impl<A: Allocator + Copy> Snapshot<A> {
             assets: all_asset_books(alloc, book)?,
             entries: book.len(),
             fulfilled: book.fulfilled(),
+            period: book.period(),
         })
     }
 }
@@ -81,5 +84,12 @@ impl<A: Allocator> Snapshot<A> {
         ensures { result ≡ self.now.fulfilled }
     {
         self.fulfilled
+    }
+
+    /// The number of the book's period, from 0.
+    pub fn period(&self) -> u32
+        ensures { result ≡ self.now.period }
+    {
+        self.period
     }
 }

@@ -13,11 +13,12 @@ use Rattle.ilp_journal.specs.declared.entry.Hold.{Hold}
 use Rattle.ilp_journal.specs.declared.entry.Ask.{Ask}
 use Rattle.ilp_journal.specs.declared.entry.Credited.{Credited}
 use Rattle.ilp_journal.specs.Journal.{open_count}
-use Rattle.ilp_journal.specs.Balance.{balance}
+use Rattle.ilp_journal.specs.Balance.{below, balance}
 use Rattle.ilp_journal.specs.TrialBalance.{total_in, total_out, amount_in, amount_out}
 use Rattle.ilp_order.proofs.RefusalLemmas.{some_same, chosen}
 use Rattle.ilp_rules.specs.Book.{PlainBook, has_room}
 use Rattle.ilp_rules.specs.Configured.{peer_assets}
+use Rattle.ilp_rules.specs.Heads.{StandsInHead}
 use Rattle.ilp_rules.specs.Lawful.{IsLawful, IsWithinLimits, IsInTime, HasTerms, IsFreshCredit, IsDueAsk, owed_above, due_amount}
 use Rattle.ilp_rules.proofs.Known.{peer_valid, covered}
 use Rattle.ilp_rules.proofs.LawfulGrowth.{Admits, counted, at_most, limits_now}
@@ -51,6 +52,29 @@ pub credit_admits : (book : PlainBook) (m : ℤ) (actor : ℕ) (c : Credited) �
 credit_admits book m actor c lawful timely fresh fits =
     let room : length book.entries + open_count book.entries + 1 ≤ book.config.settings.journal = leb-true _ _ fits in
     calm book _ lawful fresh timely (λ _. refl) (λ _. refl) (omega (arith, room))
+
+-- ---- balances that are brought forward
+
+-- a balance that is brought forward is admitted where it is in time and there is room, and it leaves its peer at its least or above
+pub opening_admits : (book : PlainBook) (m : ℤ) (actor peer : ℕ) (b : ℤ) → IsLawful book → IsInTime book.entries (record { moment = m; actor = actor; what = what.Opened peer b })
+    → StandsInHead book.config book.period book.base book.entries (what.Opened peer b) → has_room book 1 ≡ true → (peer_at book.config peer).least ≤ℤ (balance book.entries peer +ℤ b)
+    → Admits book (record { moment = m; actor = actor; what = what.Opened peer b })
+opening_admits book m actor peer b lawful timely stands fits least =
+    let limits : IsWithinLimits book = limits_now book lawful in
+    let room : length book.entries + open_count book.entries + 1 ≤ book.config.settings.journal = leb-true _ _ fits in
+    record {
+      rule = stands;
+      moments = timely;
+      cover = λ q q_known. covered book.config book.entries peer (below b) q (limits.least q q_known)
+          (lowered b (peer_at book.config peer).least (balance book.entries peer) (limits.least peer stands.rule.0) least);
+      room = omega (arith, room);
+      totals_in = λ x. omega (arith, at_most (nat_le book.base (length book.entries)) 0, limits.totals_in x);
+      totals_out = λ x. omega (arith, at_most (nat_le book.base (length book.entries)) 0, limits.totals_out x);
+    }
+  where
+    lowered : (b least old : ℤ) → least ≤ℤ old → least ≤ℤ (old +ℤ b) → (least +ℤ pos (below b)) ≤ℤ old
+    lowered (pos n) least old now after = omega (arith, ints, now)
+    lowered (negsuc n) least old now after = omega (arith, ints, after)
 
 -- ---- asks
 

@@ -47,22 +47,22 @@ ends_lawful book m (suc k) valid lawful base later first last few =
         end_keeps so_far m k h valid before base (ended.left k (omega arith) (omega (arith, few)) ∙ is) (ended.later later) first last
 
 -- a lawful journal is carried over as one
-pub carried_lawful : (C : Configuration) (entries : Entries) (now : ℤ) → IsValid C → IsLawful (begun_with C entries) → IsLawful (carried C entries now)
-carried_lawful C entries now valid lawful =
+pub carried_lawful : (C : Configuration) (period : ℕ) (entries : Entries) (now : ℤ) → IsValid C → IsLawful (begun_with C period entries) → IsLawful (carried C period entries now)
+carried_lawful C period entries now valid lawful =
     let m = moment_at entries now in
-    let few : length entries ≤ behind_all = omega (arith, (limits_now (begun_with C entries) lawful).room, valid.settings.journal.1) in
-    let book : PlainBook = with_base (begun_with C entries) behind_all in
-    let taken : IsLawful book = lawful_behind (begun_with C entries) behind_all few lawful in
-    let timely = in_time (begun_with C entries) (by 0 now) (what.Confirmed 0) lawful in
+    let few : length entries ≤ behind_all = omega (arith, (limits_now (begun_with C period entries) lawful).room, valid.settings.journal.1) in
+    let book : PlainBook = with_base (begun_with C period entries) behind_all in
+    let taken : IsLawful book = lawful_behind (begun_with C period entries) behind_all few lawful in
+    let timely = in_time (begun_with C period entries) (by 0 now) (what.Confirmed 0) lawful in
     let ended = ends_lawful book m (length entries) valid taken refl timely.later timely.first timely.last (omega arith) in
     lawful_behind (extended book (ends_of_open m entries)) (length (entries ++ ends_of_open m entries)) (omega arith) ended
 
 -- no hold is open in it
-pub carried_closed : (C : Configuration) (entries : Entries) (now : ℤ) (n : ℕ) → IsLawful (begun_with C entries) → open_hold_at (carried C entries now).entries n ≡ None
-carried_closed C entries now n lawful = all_ended (moment_at entries now) entries (answers_once (begun_with C entries) lawful) n
+pub carried_closed : (C : Configuration) (period : ℕ) (entries : Entries) (now : ℤ) (n : ℕ) → IsLawful (begun_with C period entries) → open_hold_at (carried C period entries now).entries n ≡ None
+carried_closed C period entries now n lawful = all_ended (moment_at entries now) entries (answers_once (begun_with C period entries) lawful) n
 
-pub carried_base : (C : Configuration) (entries : Entries) (now : ℤ) → IsLawful (begun_with C entries) → IsBase (carried C entries now).entries (carried C entries now).base
-carried_base C entries now lawful = closed_base (carried C entries now).entries (λ n. carried_closed C entries now n lawful)
+pub carried_base : (C : Configuration) (period : ℕ) (entries : Entries) (now : ℤ) → IsLawful (begun_with C period entries) → IsBase (carried C period entries now).entries (carried C period entries now).base
+carried_base C period entries now lawful = closed_base (carried C period entries now).entries (λ n. carried_closed C period entries now n lawful)
 
 -- ---- what a text comes to
 
@@ -75,6 +75,7 @@ each_front P before (x ∷ xs) (suc n) each = (each.0, each_front P (before ++ x
 -- the front of a lawful journal is lawful
 pub lawful_front : (book : PlainBook) (n : ℕ) → IsLawful book → IsLawful (with_entries book (take n book.entries))
 lawful_front book n lawful = record {
+  numbered = lawful.numbered;
   rules = each_front (KeepsRuleOf book) [] book.entries n lawful.rules;
   moments = each_front IsInTime [] book.entries n lawful.moments;
   empty = lawful.empty;
@@ -83,14 +84,16 @@ lawful_front book n lawful = record {
 
 -- a text that is carried over isn't refused for what it says
 pub carried_or_not : (C : Configuration) (octets : List ℕ) (now : ℤ) (book : PlainBook) (fault : CarryFault) → IsValid C → IsCarriedOver C octets now book → IsWhyNotCarried C octets fault → fault ≡ Memory
-carried_or_not C octets now book (BadJournalText line) valid is bad = absurd (never_bad C is.entries octets line is.written bad)
+carried_or_not C octets now book (BadJournalText line) valid is bad = absurd (never_bad C is.period is.entries octets line is.written bad)
 carried_or_not C octets now book (Unlawful n rule) valid is bad =
-    let same : bad.0 ≡ is.entries = text.one_journal C valid bad.0 is.entries octets bad.1 is.written in
-    let stop : IsFirstUnlawful C is.entries n rule = subst (λ j. IsFirstUnlawful C j n rule) same bad.2 in
-    absurd (stop.unlawful (lawful_front (begun_with C is.entries) (n + 1) is.lawful))
+    let same = text.one_journal C valid bad.0 is.period bad.1 is.entries octets bad.2 is.written in
+    let stop : IsFirstUnlawful C is.period is.entries n rule =
+    subst (λ p. IsFirstUnlawful C p is.entries n rule) same.0 (subst (λ j. IsFirstUnlawful C bad.0 j n rule) same.1 bad.3) in
+    absurd (stop.unlawful (lawful_front (begun_with C is.period is.entries) (n + 1) is.lawful))
 carried_or_not C octets now book Memory valid is bad = refl
 
 -- and is carried over as one book
 pub carried_as_one : (C : Configuration) (octets : List ℕ) (now : ℤ) (book other : PlainBook) → IsValid C → IsCarriedOver C octets now book → IsCarriedOver C octets now other → book ≡ other
 carried_as_one C octets now book other valid is also =
-    is.begins ∙ ap (λ j. carried C j now) (text.one_journal C valid is.entries also.entries octets is.written also.written) ∙ sym also.begins
+    let same = text.one_journal C valid is.period also.period is.entries also.entries octets is.written also.written in
+    is.begins ∙ ap (λ p. carried C p is.entries now) same.0 ∙ ap (λ j. carried C also.period j now) same.1 ∙ sym also.begins

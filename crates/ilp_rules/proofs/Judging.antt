@@ -1,5 +1,5 @@
 -- What may come next in a journal whose base lies behind all of it, and what may not.
-use Rattle.std.proofs.Common.{◌≡◌, ℕ, ◌+◌, ◌<◌, ◌≤◌, ℤ, pos, ◌+ℤ◌, ◌-ℤ◌, Bool, true, false, cond, [], ◌∷◌, ◌++◌, length, Option, Some, None, refl, sym, ap, ◌∙◌, arith, length-append}
+use Rattle.std.proofs.Common.{◌≡◌, ℕ, ◌+◌, ◌<◌, ◌≤◌, ℤ, pos, negsuc, ◌+ℤ◌, ◌-ℤ◌, Bool, true, false, cond, [], ◌∷◌, ◌++◌, length, Option, Some, None, refl, sym, ap, ◌∙◌, arith, length-append}
 use Rattle.std.specs.Prelude.{◌≢◌, ◌≤ℤ◌, ◌<ℤ◌, int_le, int_lt, nat_le, nat_abs, IfSome, IsSomeAnd}
 use Rattle.std.proofs.lemmas.Bool.{leb-true, le-leb, eq-eqb}
 use Rattle.std.proofs.lemmas.Int.{ints}
@@ -12,7 +12,7 @@ use Rattle.ilp_journal.specs.declared.entry.What.{What}
 use Rattle.ilp_journal.specs.declared.entry.What.TheVariants as what
 use Rattle.ilp_journal.specs.declared.entry.Ask.{Ask}
 use Rattle.ilp_journal.specs.Journal.{Entries, opening, closing, open_count, open_asks}
-use Rattle.ilp_journal.specs.Balance.{balance, rise, fall}
+use Rattle.ilp_journal.specs.Balance.{above, below, balance, rise, fall}
 use Rattle.ilp_order.proofs.Sums.{Each-parts}
 use Rattle.ilp_journal.proofs.Growth.{balance-push, open_count-push}
 use Rattle.ilp_rules.specs.declared.rule.BrokenRule.{BrokenRule}
@@ -21,8 +21,9 @@ use Rattle.ilp_rules.specs.Book.{PlainBook, has_room, pushed}
 use Rattle.ilp_rules.specs.Broken.{Breaks, BreaksRule}
 use Rattle.ilp_rules.specs.Configured.{IsKnown}
 use Rattle.ilp_rules.specs.Judging.{behind_all, HasRoom, KeepsLimits}
-use Rattle.ilp_rules.specs.Lawful.{IsLawful, IsWithinLimits, IsInTime, KeepsRule, KeepsRuleOf, IsDueAsk, most_open_asks, owed_above, due_amount}
-use Rattle.ilp_rules.proofs.Admitting.{hold_admits, credit_admits, ask_admits, due_from}
+use Rattle.ilp_rules.specs.Lawful.{IsLawful, IsWithinLimits, IsInTime, KeepsRule, KeepsRuleOf, IsDueAsk, owed_above, due_amount}
+use Rattle.ilp_rules.specs.Heads.{most_open_asks}
+use Rattle.ilp_rules.proofs.Admitting.{hold_admits, credit_admits, opening_admits, ask_admits, due_from}
 use Rattle.ilp_rules.proofs.InTime.{calm}
 use Rattle.ilp_rules.proofs.Keeping.{rule_last, answers_last, closes_last}
 use Rattle.ilp_rules.proofs.LawfulGrowth.{Admits, counted, lawful_push, limits_now}
@@ -53,7 +54,7 @@ judged_good book e valid lawful base timely rule limits = lawful_push book e law
         past false is = omega (arith, fits)
         past true is = absurd (omega (arith, leb-true book.base (length book.entries) is, base, comes_before book valid lawful))
 
-    of : (w : What) → IsInTime book.entries (record e { what = w }) → KeepsRule book.config book.base book.entries m w → KeepsLimits book w → Admits book (record e { what = w })
+    of : (w : What) → IsInTime book.entries (record e { what = w }) → KeepsRule book.config book.period book.base book.entries m w → KeepsLimits book w → Admits book (record e { what = w })
     of (what.Hold h) timely rule limits =
         let now = limits_now book lawful in
         hold_admits book m e.actor h lawful timely rule (of_room 2 limits.0) limits.1 (λ x. uncounted _ _ (now.totals_in x)) (λ x. uncounted _ _ (now.totals_out x))
@@ -71,6 +72,10 @@ judged_good book e valid lawful base timely rule limits = lawful_push book e law
     of (what.Undone ask) timely rule limits =
         let room = (limits_now book lawful).room in
         calm book (record e { what = what.Undone ask }) lawful rule timely (λ _. refl) (λ _. refl) (omega (arith, room))
+    of (what.Opened peer b) timely rule limits = opening_admits book m e.actor peer b lawful timely rule (of_room 1 limits.0) limits.1
+    of (what.Known c) timely rule limits = calm book (record e { what = what.Known c }) lawful rule timely (λ _. refl) (λ _. refl) (omega (arith, limits))
+    of (what.Pending peer amount key) timely rule limits =
+        calm book (record e { what = what.Pending peer amount key }) lawful rule timely (λ _. refl) (λ _. refl) (omega (arith, limits))
 
 -- ---- what may not
 
@@ -97,14 +102,18 @@ limits_last book e before after =
     held true n is = refl
     held false n is = absurd cc
 
-    above : (least new old : ℤ) (r f n : ℕ) → new ≡ old +ℤ pos r -ℤ pos f → r ≡ 0 → f ≡ n → least ≤ℤ new → (least +ℤ pos n) ≤ℤ old
-    above least new old r f n is none all h = omega (arith, ints)
+    at_least : (least new old : ℤ) (r f n : ℕ) → new ≡ old +ℤ pos r -ℤ pos f → r ≡ 0 → f ≡ n → least ≤ℤ new → (least +ℤ pos n) ≤ℤ old
+    at_least least new old r f n is none all h = omega (arith, ints)
 
-    of : (w : What) → KeepsRule book.config book.base book.entries e.moment w → open_count (book.entries ++ e ∷ []) + closing w ≡ open_count book.entries + opening w
+    brought : (least new old b : ℤ) (r f : ℕ) → new ≡ old +ℤ pos r -ℤ pos f → r ≡ above b → f ≡ below b → least ≤ℤ new → least ≤ℤ (old +ℤ b)
+    brought least new old (pos n) r f is up down h = omega (arith, ints, is, up, down, h)
+    brought least new old (negsuc n) r f is up down h = omega (arith, ints, is, up, down, h)
+
+    of : (w : What) → KeepsRule book.config book.period book.base book.entries e.moment w → open_count (book.entries ++ e ∷ []) + closing w ≡ open_count book.entries + opening w
         → ((p : ℕ) → balance (book.entries ++ e ∷ []) p ≡ balance book.entries p +ℤ pos (rise book.entries p w) -ℤ pos (fall p w)) → KeepsLimits book w
     of (what.Hold h) rule opened owed = (
       omega (arith, limits.room, longer, opened),
-      above _ _ _ 0 (fall h.from (what.Hold h)) h.amount (owed h.from) refl (held _ h.amount (eq-eqb h.from h.from refl)) (limits.least h.from rule.sender),
+      at_least _ _ _ 0 (fall h.from (what.Hold h)) h.amount (owed h.from) refl (held _ h.amount (eq-eqb h.from h.from refl)) (limits.least h.from rule.sender),
     )
     of (what.Fulfilled hold preimage) rule opened owed = tt
     of (what.Released hold cause) rule opened owed = tt
@@ -112,6 +121,13 @@ limits_last book e before after =
     of (what.Asked a) rule opened owed = omega (arith, limits.room, longer, opened)
     of (what.Confirmed ask) rule opened owed = tt
     of (what.Undone ask) rule opened owed = tt
+    of (what.Opened peer b) rule opened owed = (
+      omega (arith, limits.room, longer, opened),
+      brought _ _ _ b (rise book.entries peer (what.Opened peer b)) (fall peer (what.Opened peer b)) (owed peer)
+          (held _ (above b) (eq-eqb peer peer refl)) (held _ (below b) (eq-eqb peer peer refl)) (limits.least peer rule.rule.0),
+    )
+    of (what.Known c) rule opened owed = omega (arith, limits.room, longer, opened)
+    of (what.Pending peer amount key) rule opened owed = omega (arith, limits.room, longer, opened)
 
 -- ---- what is due
 
@@ -153,6 +169,13 @@ not_covered owed least owed' least' n same_owed same_least short h = omega (arit
 pub is_covered : (owed least owed' least' : ℤ) (n : ℕ) → owed' ≡ owed → least' ≡ least → int_lt (owed' -ℤ pos n) least' ≡ false → (least +ℤ pos n) ≤ℤ owed
 is_covered owed least owed' least' n same_owed same_least short = omega (arith, ints)
 
+-- whether a balance and what is opened lie below the least
+pub opened_short : (owed least opened owed' least' opened' : ℤ) → owed' ≡ owed → least' ≡ least → opened' ≡ opened → int_lt (owed' +ℤ opened') least' ≡ true → least ≤ℤ (owed +ℤ opened) → ⊥
+opened_short owed least opened owed' least' opened' same_owed same_least same_opened short h = omega (arith, ints)
+
+pub opened_enough : (owed least opened owed' least' opened' : ℤ) → owed' ≡ owed → least' ≡ least → opened' ≡ opened → int_lt (owed' +ℤ opened') least' ≡ false → least ≤ℤ (owed +ℤ opened)
+opened_enough owed least opened owed' least' opened' same_owed same_least same_opened enough = omega (arith, ints)
+
 -- whether a moment is reached
 pub ahead : (d m d' m' : ℤ) → d' ≡ d → m' ≡ m → int_le d' m' ≡ false → m <ℤ d
 ahead d m d' m' same_d same_m e = omega (arith, ints)
@@ -166,6 +189,6 @@ not_reached d m d' m' same_d same_m e h = omega (arith, ints)
 -- ---- which rule is broken
 
 -- a rule but that of moments
-pub breaks_rule : (C : Configuration) (before : Entries) (e : Entry) (r : BrokenRule) → BreaksRule C before e.moment e.what r → Breaks C before e r
-breaks_rule C before e rule.Moment breaks = absurd breaks
-breaks_rule C before e r breaks = breaks
+pub breaks_rule : (C : Configuration) (period : ℕ) (before : Entries) (e : Entry) (r : BrokenRule) → BreaksRule C period before e.moment e.what r → Breaks C period before e r
+breaks_rule C period before e rule.Moment breaks = absurd breaks
+breaks_rule C period before e r breaks = breaks

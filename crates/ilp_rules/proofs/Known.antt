@@ -15,7 +15,7 @@ use Rattle.ilp_journal.specs.TrialBalance.{has_asset}
 use Rattle.ilp_rules.specs.Configured.{IsKnown, peer_assets, asset_of}
 
 -- a known peer stands among the peers
-peer_stands : (C : Configuration) (p : ℕ) → IsKnown C p → slice_get C.peers p ≡ Some (peer_at C p)
+pub peer_stands : (C : Configuration) (p : ℕ) → IsKnown C p → slice_get C.peers p ≡ Some (peer_at C p)
 peer_stands C p known = let at = slice_get-get_or C.peers p nobody known in at ∙ ap Some (sym (ap (λ o. unwrap_or o nobody) at))
 
 -- so it is a valid peer

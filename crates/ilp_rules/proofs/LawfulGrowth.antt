@@ -1,5 +1,5 @@
 -- A lawful journal stays lawful by an entry that its rules admit.
-use Rattle.std.proofs.Common.{◌≡◌, ℕ, ◌+◌, ◌≤◌, ℤ, pos, ◌+ℤ◌, ◌-ℤ◌, Bool, true, false, cond, [], ◌∷◌, ◌++◌, length, arith, length-append}
+use Rattle.std.proofs.Common.{◌≡◌, ℕ, ◌+◌, ◌^◌, ◌<◌, ◌≤◌, ℤ, pos, ◌+ℤ◌, ◌-ℤ◌, Bool, true, false, cond, [], ◌∷◌, ◌++◌, length, arith, length-append}
 use Rattle.std.specs.Prelude.{◌≤ℤ◌, nat_le}
 use Rattle.std.proofs.lemmas.Int.{ints}
 use Rattle.std.proofs.lemmas.List.Sums.{fold_push}
@@ -20,6 +20,7 @@ use Rattle.ilp_journal.proofs.BooksGrowth.{total_in-push, total_out-push, total_
 use Rattle.ilp_rules.specs.Configured.{IsKnown, peer_assets}
 use Rattle.ilp_terms.specs.Expiry.{last_of_all}
 use Rattle.ilp_rules.specs.Book.{PlainBook, with_entries, with_base, pushed}
+use Rattle.ilp_rules.specs.Heads.{StandsInHead}
 use Rattle.ilp_rules.specs.Lawful.{IsLawful, IsWithinLimits, KeepsRule, KeepsRuleOf, IsInTime}
 use Rattle.ilp_rules.proofs.Known.{peer_valid}
 use Rattle.ilp_rules.proofs.Rules.{rule_answers, rule_closes, answers_once, closes_once}
@@ -47,8 +48,8 @@ limits_after book e lawful new =
     let j = book.entries in
     let answers = answers_once book lawful in
     let closings = closes_once book lawful in
-    let answer = rule_answers C book.base j e new.rule in
-    let closing = rule_closes C book.base j e new.rule in
+    let answer = rule_answers C book.period book.base j e new.rule in
+    let closing = rule_closes C book.period book.base j e new.rule in
     record {
       least = λ p known. covered (peer_at C p).least (balance j p) (balance (j ++ e ∷ []) p) (rise j p e.what) (fall p e.what)
           (balance-push j e p answers closings answer closing) (new.cover p known);
@@ -76,6 +77,7 @@ pub lawful_push : (book : PlainBook) (e : Entry) → IsLawful book → Admits bo
 lawful_push book e lawful new =
     let j = book.entries in
     record {
+      numbered = lawful.numbered;
       rules = Each-push (KeepsRuleOf book) j e lawful.rules new.rule;
       moments = Each-push IsInTime j e lawful.moments new.moments;
       empty = lawful.empty;
@@ -83,9 +85,10 @@ lawful_push book e lawful new =
     }
 
 -- the book of no entries is lawful, whatever its base
-pub lawful_empty : (book : PlainBook) → IsValid book.config → IsLawful (with_entries book [])
+pub lawful_empty : (book : PlainBook) → IsValid book.config → book.period < 2 ^ 32 → IsLawful (with_entries book [])
 unfolding balance total_in total_out open_asks
-lawful_empty book valid = record {
+lawful_empty book valid numbered = record {
+  numbered = numbered;
   rules = tt;
   moments = tt;
   empty = record { least = λ p known. (peer_valid book.config p valid known).least; room = omega arith; totals_in = λ x. omega arith; totals_out = λ x. omega arith };
@@ -118,6 +121,7 @@ limits_raised book raised later limits = record {
 -- a lawful book whose base is raised is lawful
 pub lawful_raised : (book : PlainBook) (raised : ℕ) → book.base ≤ raised → IsLawful book → IsLawful (with_base book raised)
 lawful_raised book raised later lawful = record {
+  numbered = lawful.numbered;
   rules = Each-each (KeepsRuleOf book) (KeepsRuleOf (with_base book raised)) book.entries (λ before e rule. kept before e.moment e.what rule) lawful.rules;
   moments = lawful.moments;
   empty = limits_raised (with_entries book []) raised later lawful.empty;
@@ -125,7 +129,10 @@ lawful_raised book raised later lawful = record {
       (λ before e within. limits_raised (pushed (with_entries book before) e) raised later within) lawful.limits;
 }
   where
-    kept : (before : Entries) (m : ℤ) (w : What) → KeepsRule book.config book.base before m w → KeepsRule book.config raised before m w
+    in_head : (before : Entries) (w : What) → StandsInHead book.config book.period book.base before w → StandsInHead book.config book.period raised before w
+    in_head before w stands = record { later = stands.later; front = stands.front; begun = omega (arith, stands.begun, later); rule = stands.rule; keys = stands.keys }
+
+    kept : (before : Entries) (m : ℤ) (w : What) → KeepsRule book.config book.period book.base before m w → KeepsRule book.config book.period raised before m w
     kept before m (what.Hold h) rule = rule
     kept before m (what.Fulfilled hold preimage) rule = rule
     kept before m (what.Released hold cause) rule = (rule.0, λ (is : cause ≡ Restart). omega (arith, rule.1 is, later))
@@ -133,3 +140,6 @@ lawful_raised book raised later lawful = record {
     kept before m (what.Asked a) rule = rule
     kept before m (what.Confirmed ask) rule = rule
     kept before m (what.Undone ask) rule = rule
+    kept before m (what.Opened peer b) rule = in_head before (what.Opened peer b) rule
+    kept before m (what.Known c) rule = in_head before (what.Known c) rule
+    kept before m (what.Pending peer amount key) rule = in_head before (what.Pending peer amount key) rule

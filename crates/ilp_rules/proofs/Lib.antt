@@ -6,6 +6,10 @@ pub mod InTime
 pub mod Admitting
 pub mod TableSteps
 pub mod Keeping
+mod HeadLemmas
+mod JudgingHeads
+mod KeyFronts
+mod PendingKeys
 pub mod Judging
 pub mod Ending
 pub mod Rebasing
@@ -14,4 +18,5 @@ mod TakingUp
 mod CarriedBooks
 pub mod Saved
 mod Recovered
-mod KeptOnce
+pub mod KeptOnce
+pub mod OwnKeys

@@ -1,5 +1,5 @@
 -- Texts of saved journals, with the lines that were logged behind them.
-use Rattle.std.proofs.Common.{◌≡◌, ℕ, ◌+◌, ℤ, pos, List, [], ◌∷◌, ◌++◌, length, take, Option, Some, None, true, false, refl, sym, ap, ◌∙◌, subst, arith, inl, inr}
+use Rattle.std.proofs.Common.{◌≡◌, ℕ, ◌+◌, ◌<◌, ℤ, pos, List, [], ◌∷◌, ◌++◌, length, take, Option, Some, None, true, false, refl, sym, ap, ◌∙◌, subst, arith, inl, inr}
 use Rattle.std.specs.Prelude.{All, Result, Ok, Err, OnOk, ◌⊎◌, option_map, option_to_list, int_le, Bool, if◌then◌else◌}
 use Rattle.std.specs.List.{flat_map, range_with_len}
 use Rattle.std.proofs.Math.Seq.{take-append_seam, take-append-add, drop-append_seam}
@@ -13,7 +13,7 @@ use Rattle.ilp_journal.specs.Journal.{Entries, open_hold_at}
 use Rattle.ilp_journal_text.specs.declared.reading.TextFault.{TextFault}
 use Rattle.ilp_journal_text.specs.declared.reading.TextFault.TheVariants as text_fault
 use Rattle.ilp_journal_text.specs.Text.{entry_lines, journal_text}
-use Rattle.ilp_journal_text.specs.Reading.{CanStand, IsTyped, IsTextOf, IsFirstBadLine, AreLinesOf, IsFirstBadEntryLine}
+use Rattle.ilp_journal_text.specs.Reading.{StandsIn, IsTyped, IsTextOf, IsFirstBadLine, AreLinesOf, IsFirstBadEntryLine}
 use Rattle.ilp_journal_text.proofs.OneText as text
 use Rattle.ilp_journal_text.proofs.FirstBad.{never_bad}
 use Rattle.ilp_journal_text.proofs.EntryLines as lines
@@ -28,6 +28,7 @@ use Rattle.ilp_rules.specs.Judging.{carrying}
 use Rattle.ilp_rules.specs.Carried.{begun_with, carried, end_of, ended_by_start, ends_of_open}
 use Rattle.ilp_rules.specs.Carry.{IsCarriedOver, IsFirstUnlawful, IsWhyNotCarried}
 use Rattle.ilp_rules.specs.Recover.{IsRecovered, IsWhyNotRecovered, IsEndByStart, BeginsWith, of_saved, of_logged, of_stop}
+use Rattle.ilp_rules.specs.Heads.{IsBooked}
 use Rattle.ilp_rules.specs.Lawful.{IsLawful}
 use Rattle.ilp_rules.specs.TakenUp.{HasStopped, AreTakenUp, NamesLine}
 use Rattle.ilp_rules.proofs.CarriedBooks.{lawful_front}
@@ -44,14 +45,14 @@ module _ (C : Configuration) (saved logged : List ℕ) where
   saved_is_bad text_fault.Memory bad = tt
 
   -- what was logged is bad
-  pub logged_is_bad : (fault : TextFault) (j : Entries) → IsTextOf C j saved → NamesLine (IsFirstBadEntryLine C logged) fault → IsWhyNotRecovered C saved logged (of_logged fault)
-  logged_is_bad (text_fault.BadLine line) j written bad = (j, written, bad)
-  logged_is_bad text_fault.Memory j written bad = tt
+  pub logged_is_bad : (fault : TextFault) (period : ℕ) (j : Entries) → IsTextOf C period j saved → NamesLine (IsFirstBadEntryLine C logged) fault → IsWhyNotRecovered C saved logged (of_logged fault)
+  logged_is_bad (text_fault.BadLine line) period j written bad = (period, j, written, bad)
+  logged_is_bad text_fault.Memory period j written bad = tt
 
   -- an entry isn't lawful
-  pub not_lawful : (why : Stop) (j l : Entries) → IsTextOf C j saved → AreLinesOf C l logged → HasStopped C (j ++ l) why → IsWhyNotRecovered C saved logged (of_stop why)
-  not_lawful (stop.Unlawful n rule) j l written are stopped = (j, l, written, are, first_unlawful C (j ++ l) n rule stopped)
-  not_lawful stop.Memory j l written are stopped = tt
+  pub not_lawful : (why : Stop) (period : ℕ) (j l : Entries) → IsTextOf C period j saved → AreLinesOf C l logged → HasStopped C period (j ++ l) why → IsWhyNotRecovered C saved logged (of_stop why)
+  not_lawful (stop.Unlawful n rule) period j l written are stopped = (period, j, l, written, are, first_unlawful C period (j ++ l) n rule stopped)
+  not_lawful stop.Memory period j l written are stopped = tt
 
 -- ---- what came of a text and of lines
 
@@ -62,62 +63,68 @@ unless_err (Err e) P never ok = absurd (never e refl)
 
 -- the entries of both, and the book of them
 pub record CameOf (C : Configuration) (saved logged : List ℕ) (book : PlainBook) (taken : Result Unit Stop) : Type 0 where
+  pub period : ℕ
   pub entries : Entries
   pub later : Entries
-  pub written : IsTextOf C entries saved
+  pub written : IsTextOf C period entries saved
   pub lines : AreLinesOf C later logged
-  pub state : AreTakenUp C (entries ++ later) book taken
+  pub state : AreTakenUp C period (entries ++ later) book taken
 
 module _ (C : Configuration) (saved logged : List ℕ) where
-  pub came_of : (book new : PlainBook) (taken done : Result Unit Stop) → (j : Entries) × IsTextOf C j saved × AreTakenUp C j book taken
-      → ((before : Entries) → AreTakenUp C before book taken → (l : Entries) × AreLinesOf C l logged × AreTakenUp C (before ++ l) new done) → CameOf C saved logged new done
+  pub came_of : (book new : PlainBook) (taken done : Result Unit Stop) → (period : ℕ) × (j : Entries) × IsTextOf C period j saved × AreTakenUp C period j book taken
+      → ((period : ℕ) (before : Entries) → AreTakenUp C period before book taken → (l : Entries) × AreLinesOf C l logged × AreTakenUp C period (before ++ l) new done) → CameOf C saved logged new done
   came_of book new taken done of_text of_rest =
-      let of_lines = of_rest of_text.0 of_text.2 in
-      record { entries = of_text.0; later = of_lines.0; written = of_text.1; lines = of_lines.1; state = of_lines.2 }
+      let of_lines = of_rest of_text.0 of_text.1 of_text.3 in
+      record { period = of_text.0; entries = of_text.1; later = of_lines.0; written = of_text.2; lines = of_lines.1; state = of_lines.2 }
 
   -- not all were taken up
   pub why_stopped : (book : PlainBook) (taken : Result Unit Stop) (why : Stop) → CameOf C saved logged book taken → taken ≡ Err why → IsWhyNotRecovered C saved logged (of_stop why)
   why_stopped book taken why came is =
-      not_lawful C saved logged why came.entries came.later came.written came.lines (subst (λ (t : Result Unit Stop). AreTakenUp C (came.entries ++ came.later) book t) is came.state).1
+      not_lawful C saved logged why came.period came.entries came.later came.written came.lines (subst (λ (t : Result Unit Stop). AreTakenUp C came.period (came.entries ++ came.later) book t) is came.state).1
 
   -- all were, and the open holds ended
   pub all_recovered : (now moment : ℤ) (book ended result : PlainBook) (taken : Result Unit Stop) (u : Unit) → CameOf C saved logged book taken → taken ≡ Ok u → moment ≡ now → IsLawful book
-      → ended ≡ extended book (ends_of_open (moment_at book.entries moment) book.entries) → result ≡ begun_with ended.config ended.entries → IsRecovered C saved logged now result
+      → ended ≡ extended book (ends_of_open (moment_at book.entries moment) book.entries) → result ≡ begun_with ended.config ended.period ended.entries → IsRecovered C saved logged now result
   all_recovered now moment book ended result taken u came is same lawful ends begins =
       let j : Entries = came.entries ++ came.later in
-      let taken_up : book ≡ with_entries (carrying C) j = subst (λ (t : Result Unit Stop). AreTakenUp C j book t) is came.state in
+      let taken_up : book ≡ with_entries (carrying C came.period) j = subst (λ (t : Result Unit Stop). AreTakenUp C came.period j book t) is came.state in
       record {
+        period = came.period;
         entries = came.entries;
         later = came.later;
         written = came.written;
         lines = came.lines;
-        lawful = lawful_behind (with_entries (carrying C) j) (length j) (omega arith) (subst IsLawful taken_up lawful);
+        lawful = lawful_behind (with_entries (carrying C came.period) j) (length j) (omega arith) (subst IsLawful taken_up lawful);
         begins =
             begins
-            ∙ ap (λ (b : PlainBook). begun_with b.config b.entries) (ends ∙ ap (λ (b : PlainBook). extended b (ends_of_open (moment_at b.entries moment) b.entries)) taken_up)
-            ∙ ap (λ t. begun_with C (j ++ ends_of_open (moment_at j t) j)) same;
+            ∙ ap (λ (b : PlainBook). begun_with b.config b.period b.entries) (ends ∙ ap (λ (b : PlainBook). extended b (ends_of_open (moment_at b.entries moment) b.entries)) taken_up)
+            ∙ ap (λ t. begun_with C came.period (j ++ ends_of_open (moment_at j t) j)) same;
       }
 
 -- ---- in one way
 
 -- what is recovered isn't refused for what it says
 pub recovered_or_not : (C : Configuration) (saved logged : List ℕ) (now : ℤ) (book : PlainBook) (fault : RecoverFault) → IsValid C → IsRecovered C saved logged now book → IsWhyNotRecovered C saved logged fault → fault ≡ Memory
-recovered_or_not C saved logged now book (BadJournalText line) valid is bad = absurd (never_bad C is.entries saved line is.written bad)
-recovered_or_not C saved logged now book (BadLogLine line) valid is bad = absurd (lines.no_bad_line C valid is.later logged line is.lines bad.2)
+recovered_or_not C saved logged now book (BadJournalText line) valid is bad = absurd (never_bad C is.period is.entries saved line is.written bad)
+recovered_or_not C saved logged now book (BadLogLine line) valid is bad = absurd (lines.no_bad_line C valid is.later logged line is.lines bad.3)
 recovered_or_not C saved logged now book (Unlawful n rule) valid is bad =
-    let before : bad.0 ≡ is.entries = text.one_journal C valid bad.0 is.entries saved bad.2 is.written in
-    let behind : bad.1 ≡ is.later = lines.one_list C valid bad.1 is.later logged bad.3 is.lines in
-    let same : bad.0 ++ bad.1 ≡ is.entries ++ is.later = ap (λ (j : Entries). j ++ bad.1) before ∙ ap (λ (l : Entries). is.entries ++ l) behind in
-    let first : IsFirstUnlawful C (is.entries ++ is.later) n rule = subst (λ (j : Entries). IsFirstUnlawful C j n rule) same bad.4 in
-    absurd (first.unlawful (lawful_front (begun_with C (is.entries ++ is.later)) (n + 1) is.lawful))
+    let before = text.one_journal C valid bad.0 is.period bad.1 is.entries saved bad.3 is.written in
+    let behind : bad.2 ≡ is.later = lines.one_list C valid bad.2 is.later logged bad.4 is.lines in
+    let same : bad.1 ++ bad.2 ≡ is.entries ++ is.later = ap (λ (j : Entries). j ++ bad.2) before.1 ∙ ap (λ (l : Entries). is.entries ++ l) behind in
+    let first : IsFirstUnlawful C is.period (is.entries ++ is.later) n rule =
+    subst (λ (p : ℕ). IsFirstUnlawful C p (is.entries ++ is.later) n rule) before.0 (subst (λ (j : Entries). IsFirstUnlawful C bad.0 j n rule) same bad.5) in
+    absurd (first.unlawful (lawful_front (begun_with C is.period (is.entries ++ is.later)) (n + 1) is.lawful))
 recovered_or_not C saved logged now book Memory valid is bad = refl
 
 -- and is recovered as one book
 pub recovered_as_one : (C : Configuration) (saved logged : List ℕ) (now : ℤ) (book other : PlainBook) → IsValid C → IsRecovered C saved logged now book → IsRecovered C saved logged now other → book ≡ other
 recovered_as_one C saved logged now book other valid is also =
-    let before : is.entries ≡ also.entries = text.one_journal C valid is.entries also.entries saved is.written also.written in
+    let before = text.one_journal C valid is.period also.period is.entries also.entries saved is.written also.written in
     let behind : is.later ≡ also.later = lines.one_list C valid is.later also.later logged is.lines also.lines in
-    is.begins ∙ ap (λ (j : Entries). carried C (j ++ is.later) now) before ∙ ap (λ (l : Entries). carried C (also.entries ++ l) now) behind ∙ sym also.begins
+    is.begins
+    ∙ ap (λ (p : ℕ). carried C p (is.entries ++ is.later) now) before.0
+    ∙ ap (λ (j : Entries). carried C also.period (j ++ is.later) now) before.1
+    ∙ ap (λ (l : Entries). carried C also.period (also.entries ++ l) now) behind ∙ sym also.begins
 
 -- ---- where nothing was logged
 
@@ -126,33 +133,35 @@ module _ (C : Configuration) (octets : List ℕ) where
   as_carried now book is =
       let same : is.entries ++ is.later ≡ is.entries = ap (λ (l : Entries). is.entries ++ l) (lines.no_lines C is.later is.lines) ∙ append-nil is.entries in
       record {
+        period = is.period;
         entries = is.entries;
         written = is.written;
-        lawful = subst (λ (j : Entries). IsLawful (begun_with C j)) same is.lawful;
-        begins = is.begins ∙ ap (λ (j : Entries). carried C j now) same;
+        lawful = subst (λ (j : Entries). IsLawful (begun_with C is.period j)) same is.lawful;
+        begins = is.begins ∙ ap (λ (j : Entries). carried C is.period j now) same;
       }
 
   pub as_recovered : (now : ℤ) (book : PlainBook) → IsCarriedOver C octets now book → IsRecovered C octets [] now book
   as_recovered now book is =
       let same : is.entries ≡ is.entries ++ [] = sym (append-nil is.entries) in
       record {
+        period = is.period;
         entries = is.entries;
         later = [];
         written = is.written;
-        lines = record { whole = refl; stand = All-nil (CanStand C) };
-        lawful = subst (λ (j : Entries). IsLawful (begun_with C j)) same is.lawful;
-        begins = is.begins ∙ ap (λ (j : Entries). carried C j now) same;
+        lines = record { whole = refl; stand = All-nil (StandsIn C 0) };
+        lawful = subst (λ (j : Entries). IsLawful (begun_with C is.period j)) same is.lawful;
+        begins = is.begins ∙ ap (λ (j : Entries). carried C is.period j now) same;
       }
 
   -- the first unlawful entry is that of the text
   pub unlawful_as_carried : (n : ℕ) (rule : BrokenRule) → IsWhyNotRecovered C octets [] (Unlawful n rule) → IsWhyNotCarried C octets (carry_fault.Unlawful n rule)
   unlawful_as_carried n rule bad =
-      let same : bad.0 ++ bad.1 ≡ bad.0 = ap (λ (l : Entries). bad.0 ++ l) (lines.no_lines C bad.1 bad.3) ∙ append-nil bad.0 in
-      (bad.0, bad.2, subst (λ (j : Entries). IsFirstUnlawful C j n rule) same bad.4)
+      let same : bad.1 ++ bad.2 ≡ bad.1 = ap (λ (l : Entries). bad.1 ++ l) (lines.no_lines C bad.2 bad.4) ∙ append-nil bad.1 in
+      (bad.0, bad.1, bad.3, subst (λ (j : Entries). IsFirstUnlawful C bad.0 j n rule) same bad.5)
 
   -- and no line is bad
   pub no_log_is_bad : (line : ℕ) → IsWhyNotRecovered C octets [] (BadLogLine line) → ⊥
-  no_log_is_bad line bad = lines.none_is_bad C line bad.2
+  no_log_is_bad line bad = lines.none_is_bad C line bad.3
 
 -- ---- what a recovered book begins with
 
@@ -175,20 +184,39 @@ ends_alone m j = all_of_flat_map IsEndByStart (end_of m j) (range_with_len 0 (le
 
 -- ---- what was logged of a lawful book
 
-module _ (book : PlainBook) (j l : Entries) (n : ℕ) (lawful : IsLawful book) (typed : All IsTyped book.entries) (whole : book.entries ≡ j ++ l) where
+module _ (book : PlainBook) (j l : Entries) (n : ℕ) (lawful : IsLawful book) (typed : All IsTyped book.entries) (whole : book.entries ≡ j ++ l)
+    (own : 0 < book.period → All IsBooked l) where
   front : take (length j + n) book.entries ≡ j ++ take n l
   front = ap (take (length j + n)) whole ∙ take-append-add j l n
 
-  stand : All (CanStand book.config) (j ++ take n l)
-  stand = subst (All (CanStand book.config)) front (All-take (CanStand book.config) (length j + n) book.entries (all_stand book [] book.entries lawful.rules lawful.moments typed))
+  stand : All (StandsIn book.config book.period) (j ++ take n l)
+  stand =
+      subst (All (StandsIn book.config book.period)) front
+      (All-take (StandsIn book.config book.period) (length j + n) book.entries (all_stand book [] book.entries lawful.rules lawful.moments typed))
+
+  -- what was logged can stand in lines behind a text
+  logged_stand : All (StandsIn book.config 0) (take n l)
+  logged_stand =
+      let of_period : All (StandsIn book.config book.period) (take n l) =
+      subst (All (StandsIn book.config book.period)) (drop-append_seam j (take n l)) (All-drop (StandsIn book.config book.period) (length j) (j ++ take n l) stand) in
+      λ k d below. record {
+        stands = (of_period k d below).stands;
+        later = λ is. absurd (All-take IsBooked n l (own ((of_period k d below).later is)) k d below is);
+      }
 
   -- whatever has reached the log is recovered
-  pub logged_recovered : (now : ℤ) → IsRecovered book.config (journal_text book.config j) (entry_lines book.config (take n l)) now (carried book.config (j ++ take n l) now)
+  pub logged_recovered : (now : ℤ)
+      → IsRecovered book.config (journal_text book.config book.period j) (entry_lines book.config (take n l)) now (carried book.config book.period (j ++ take n l) now)
   logged_recovered now = record {
+    period = book.period;
     entries = j;
     later = take n l;
-    written = record { whole = refl; entries = subst (All (CanStand book.config)) (take-append_seam j (take n l)) (All-take (CanStand book.config) (length j) (j ++ take n l) stand) };
-    lines = record { whole = refl; stand = subst (All (CanStand book.config)) (drop-append_seam j (take n l)) (All-drop (CanStand book.config) (length j) (j ++ take n l) stand) };
+    written = record {
+      whole = refl;
+      numbered = lawful.numbered;
+      entries = subst (All (StandsIn book.config book.period)) (take-append_seam j (take n l)) (All-take (StandsIn book.config book.period) (length j) (j ++ take n l) stand);
+    };
+    lines = record { whole = refl; stand = logged_stand };
     lawful =
         let some : IsLawful (with_entries book (j ++ take n l)) = subst (λ (es : Entries). IsLawful (with_entries book es)) front (lawful_front book (length j + n) lawful) in
         lawful_behind (with_entries book (j ++ take n l)) (length (j ++ take n l)) (omega arith) some;
@@ -197,9 +225,10 @@ module _ (book : PlainBook) (j l : Entries) (n : ℕ) (lawful : IsLawful book) (
 
   module _ (valid : IsValid book.config) where
     -- as a book that begins with all of it, behind which nothing but ends of holds stands
-    pub logged_begins : (now : ℤ) (recovered : PlainBook) → IsRecovered book.config (journal_text book.config j) (entry_lines book.config (take n l)) now recovered → BeginsWith (j ++ take n l) recovered
+    pub logged_begins : (now : ℤ) (recovered : PlainBook) → IsRecovered book.config (journal_text book.config book.period j) (entry_lines book.config (take n l)) now recovered
+        → BeginsWith (j ++ take n l) recovered
     logged_begins now recovered is =
-        let same = recovered_as_one book.config (journal_text book.config j) (entry_lines book.config (take n l)) now recovered (carried book.config (j ++ take n l) now) valid is (logged_recovered now) in
+        let same = recovered_as_one book.config (journal_text book.config book.period j) (entry_lines book.config (take n l)) now recovered (carried book.config book.period (j ++ take n l) now) valid is (logged_recovered now) in
         record {
           ends = ends_of_open (moment_at (j ++ take n l) now) (j ++ take n l);
           whole = ap (λ (b : PlainBook). b.entries) same;
@@ -207,6 +236,6 @@ module _ (book : PlainBook) (j l : Entries) (n : ℕ) (lawful : IsLawful book) (
         }
 
     -- and isn't refused for what it says
-    pub logged_not_refused : (fault : RecoverFault) → IsWhyNotRecovered book.config (journal_text book.config j) (entry_lines book.config (take n l)) fault → fault ≡ Memory
+    pub logged_not_refused : (fault : RecoverFault) → IsWhyNotRecovered book.config (journal_text book.config book.period j) (entry_lines book.config (take n l)) fault → fault ≡ Memory
     logged_not_refused fault bad =
-        recovered_or_not book.config (journal_text book.config j) (entry_lines book.config (take n l)) (pos 0) (carried book.config (j ++ take n l) (pos 0)) fault valid (logged_recovered (pos 0)) bad
+        recovered_or_not book.config (journal_text book.config book.period j) (entry_lines book.config (take n l)) (pos 0) (carried book.config book.period (j ++ take n l) (pos 0)) fault valid (logged_recovered (pos 0)) bad

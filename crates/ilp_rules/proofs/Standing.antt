@@ -1,5 +1,5 @@
 -- What is found in a journal, and what is open in it.
-use Rattle.std.proofs.Common.{◌≡◌, ℕ, suc, ◌+◌, Bool, true, false, cond, List, [], ◌∷◌, Option, Some, None, refl, ◌∙◌, sym, subst, arith}
+use Rattle.std.proofs.Common.{◌≡◌, ℕ, suc, ◌+◌, Bool, true, false, cond, List, [], ◌∷◌, Some, refl, ◌∙◌, sym, subst, arith}
 use Rattle.std.specs.Prelude.{slice_get, IsSome, IsNone, IfSome}
 use Rattle.ilp_order.specs.Places.{first_from}
 use Rattle.ilp_order.proofs.RefusalLemmas.{chosen, is_none_at, is_some_at, some_same}

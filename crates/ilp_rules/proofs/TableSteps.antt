@@ -1,6 +1,6 @@
 -- How a book's tables follow its journal.
 use Rattle.std.proofs.Common.{◌≡◌, ℕ, ℤ, Bool, true, false, cond, List, [], ◌∷◌, ◌++◌, length, Option, Some, None, refl, sym, ap, ◌∙◌, subst, arith, zero-add}
-use Rattle.std.specs.Prelude.{◌==◌, ◌&&◌, IsNone, IfSome, option_map, unwrap_or}
+use Rattle.std.specs.Prelude.{◌==◌, ◌&&◌, IsNone, IfSome, is_some, option_map, unwrap_or}
 use Rattle.std.specs.Ordering.{nat_cmp}
 use Rattle.std.specs.FinMap as fin_map
 use Rattle.std.specs.FinMap.{FinMap, get-empty, get-insert, get-remove}
@@ -8,6 +8,7 @@ use Rattle.std.specs.Cmp.{unsigned_tied}
 use Rattle.std.specs.Option.{option_or}
 use Rattle.std.specs.Str.{bytes_eq}
 use Rattle.std.proofs.lemmas.Bool.{eqb-true}
+use Rattle.std.proofs.lemmas.List.{append-nil}
 use Rattle.std.proofs.lemmas.Cmp.{nat_cmp_total}
 use Rattle.std.proofs.lemmas.Slice.Eq.{bytes_eq-Decides}
 use Rattle.ilp_accounts.specs.Configuration.{Configuration}
@@ -19,25 +20,27 @@ use Rattle.ilp_journal.specs.declared.entry.Credited.{Credited}
 use Rattle.ilp_order.specs.Places.{Each}
 use Rattle.ilp_journal.specs.Journal.{Entries, AnswersOnce, as_hold, answered, is_number, open_hold_at}
 use Rattle.ilp_order.proofs.Sums.{first_from-append}
+use Rattle.ilp_order.proofs.PlaceLemmas.{places-push}
 use Rattle.ilp_journal.proofs.Growth.{open_hold_at-push}
 use Rattle.ilp_holds.specs.Table.{Table}
-use Rattle.ilp_settlement.specs.KeyTable.{PlainKeyTable, entry_of}
 use Rattle.ilp_tallies.specs.OpenAsks.{HasRoomToAsk}
 use Rattle.ilp_tallies.specs.Tallies.{PlainTallies, AreTallies, KnowsPeers}
+use Rattle.ilp_settlement.specs.KeyTable.{entry_of}
+use Rattle.ilp_rules.specs.CreditTables.{PlainCredits, no_credits, credit_numbers, AreKept, KeepsKey}
 use Rattle.ilp_rules.specs.Configured.{peer_assets}
-use Rattle.ilp_rules.specs.Open.{as_credit, has_key, kept_at}
+use Rattle.ilp_journal.specs.Credits.{as_credit, has_key, kept_at}
 use Rattle.ilp_rules.specs.Lawful.{KeepsRule}
 use Rattle.ilp_rules.proofs.Known.{peers_listed}
-use Rattle.ilp_rules.specs.Tables.{deadline_of, AreTables, AreOpen, AreKept, FollowsHolds, KeepsKey}
+use Rattle.ilp_rules.specs.Tables.{deadline_of, AreTables, AreOpen, FollowsHolds}
 
 -- ---- at first
 
 -- the tables of no entries
-pub tables_new : (assets : List ℕ) (base : ℕ) (tallies : PlainTallies) (holds : Table) (keys : PlainKeyTable) → AreTallies assets base [] tallies → holds.map ≡ fin_map.empty → keys ≡ [] → AreTables assets base [] tallies holds keys
+pub tables_new : (assets : List ℕ) (base : ℕ) (tallies : PlainTallies) (holds : Table) (keys : PlainCredits) → AreTallies assets base [] tallies → holds.map ≡ fin_map.empty → keys ≡ no_credits → AreTables assets base [] tallies holds keys
 tables_new assets base tallies holds keys tallied empty none = record {
   tallied = tallied;
   open_holds = λ n. ap (λ (m : FinMap nat_cmp ℤ). fin_map.get m n) empty ∙ get-empty nat_cmp n;
-  kept = λ peer key. ap (λ (t : PlainKeyTable). entry_of t peer key) none;
+  kept = record { under = λ peer key. ap (λ (t : PlainCredits). entry_of t.keys peer key) none; listed = ap (λ (t : PlainCredits). t.numbers) none };
 }
 
 -- ---- open holds
@@ -102,11 +105,17 @@ abbrev pub IsFresh : Entries → What → Type 0
 IsFresh j w = IfSome (as_credit w) (λ (c : Credited). IsNone (kept_at j c.peer c.key))
 
 -- a table that keeps the entry's key has the keys after it
-pub kept_after : (j : Entries) (e : Entry) (old new : PlainKeyTable) → IsFresh j e.what → AreKept j old → KeepsKey old new (length j) e.what → AreKept (j ++ e ∷ []) new
-kept_after j e old new fresh kept_now keeps peer key =
-    keeps peer key ∙ ap (λ o. cond (has_key peer key e.what) (Some (length j)) o) (kept_now peer key)
-    ∙ by_test (has_key peer key e.what) refl (kept_at j peer key) refl
-    ∙ sym (kept_at-push j e peer key)
+pub kept_after : (j : Entries) (e : Entry) (old new : PlainCredits) → IsFresh j e.what → AreKept j old → KeepsKey old new (length j) e.what → AreKept (j ++ e ∷ []) new
+kept_after j e old new fresh kept_now keeps = record {
+  under = λ peer key.
+      keeps.under peer key ∙ ap (λ o. cond (has_key peer key e.what) (Some (length j)) o) (kept_now.under peer key)
+      ∙ by_test peer key (has_key peer key e.what) refl (kept_at j peer key) refl
+      ∙ sym (kept_at-push j e peer key);
+  listed =
+      keeps.listed ∙ ap (λ (numbers : List ℕ). numbers ++ cond (is_some (as_credit e.what)) (length j ∷ []) []) kept_now.listed
+      ∙ sym (places-push (λ _ (d : Entry). is_some (as_credit d.what)) 0 j e
+      ∙ ap (λ n. credit_numbers j ++ cond (is_some (as_credit e.what)) (n ∷ []) []) (zero-add (length j)));
+}
   where
     none_or : (o : Option ℕ) → o ≡ option_or o None
     none_or None = refl
@@ -116,43 +125,54 @@ kept_after j e old new fresh kept_now keeps peer key =
     of_none None none = refl
     of_none (Some n) none = cc
 
-    by_test : (b : Bool) → has_key peer key e.what ≡ b → (o : Option ℕ) → kept_at j peer key ≡ o → cond b (Some (length j)) o ≡ option_or o (cond b (Some (length j)) None)
-    by_test true t o is = of_none o (subst IsNone is (has_key_parts e.what peer key t (λ p k. IsNone (kept_at j p k)) fresh))
-    by_test false t o is = none_or o
+    by_test : (peer : ℕ) (key : List ℕ) (b : Bool) → has_key peer key e.what ≡ b → (o : Option ℕ) → kept_at j peer key ≡ o → cond b (Some (length j)) o ≡ option_or o (cond b (Some (length j)) None)
+    by_test peer key true t o is = of_none o (subst IsNone is (has_key_parts e.what peer key t (λ p k. IsNone (kept_at j p k)) fresh))
+    by_test peer key false t o is = none_or o
 
 -- an entry that is no credit keeps no key
-pub keeps_nothing : (keys : PlainKeyTable) (n : ℕ) (w : What) → as_credit w ≡ None → KeepsKey keys keys n w
-keeps_nothing keys n w none peer key =
-    ap (λ o. cond (unwrap_or (option_map (λ (c : Credited). (c.peer == peer) && bytes_eq c.key key) o) false) (Some n) (entry_of keys peer key)) (sym none)
+pub keeps_nothing : (keys : PlainCredits) (n : ℕ) (w : What) → as_credit w ≡ None → KeepsKey keys keys n w
+keeps_nothing keys n w none = record {
+  under = λ peer key. ap (λ o. cond (unwrap_or (option_map (λ (c : Credited). (c.peer == peer) && bytes_eq c.key key) o) false) (Some n) (entry_of keys.keys peer key)) (sym none);
+  listed = sym (append-nil keys.numbers) ∙ ap (λ (o : Option Credited). keys.numbers ++ cond (is_some o) (n ∷ []) []) (sym none);
+}
 
 -- ---- what the rules say of an entry's peers
 
 -- the peers of an entry that its rules allow are known
-pub peers_known : (C : Configuration) (base : ℕ) (j : Entries) (m : ℤ) (w : What) → KeepsRule C base j m w → KnowsPeers (length (peer_assets C)) w
-peers_known C base j m (what.Hold h) rule = (rw (peers_listed C) rule.sender, rw (peers_listed C) rule.receiver)
-peers_known C base j m (what.Fulfilled hold preimage) rule = tt
-peers_known C base j m (what.Released hold cause) rule = tt
-peers_known C base j m (what.Credited c) rule = rw (peers_listed C) rule.known
-peers_known C base j m (what.Asked a) rule = rw (peers_listed C) rule.known
-peers_known C base j m (what.Confirmed ask) rule = tt
-peers_known C base j m (what.Undone ask) rule = tt
+pub peers_known : (C : Configuration) (period base : ℕ) (j : Entries) (m : ℤ) (w : What) → KeepsRule C period base j m w → KnowsPeers (length (peer_assets C)) w
+peers_known C period base j m (what.Hold h) rule = (rw (peers_listed C) rule.sender, rw (peers_listed C) rule.receiver)
+peers_known C period base j m (what.Fulfilled hold preimage) rule = tt
+peers_known C period base j m (what.Released hold cause) rule = tt
+peers_known C period base j m (what.Credited c) rule = rw (peers_listed C) rule.known
+peers_known C period base j m (what.Asked a) rule = rw (peers_listed C) rule.known
+peers_known C period base j m (what.Confirmed ask) rule = tt
+peers_known C period base j m (what.Undone ask) rule = tt
+peers_known C period base j m (what.Opened peer balance) rule = rw (peers_listed C) rule.rule.0
+peers_known C period base j m (what.Known c) rule = rw (peers_listed C) rule.rule.0
+peers_known C period base j m (what.Pending peer amount key) rule = rw (peers_listed C) rule.rule.0
 
--- a settlement is asked for where fewer are open than there is room for
-pub room_to_ask : (C : Configuration) (base : ℕ) (j : Entries) (m : ℤ) (w : What) → KeepsRule C base j m w → HasRoomToAsk j w
-room_to_ask C base j m (what.Hold h) rule = tt
-room_to_ask C base j m (what.Fulfilled hold preimage) rule = tt
-room_to_ask C base j m (what.Released hold cause) rule = tt
-room_to_ask C base j m (what.Credited c) rule = tt
-room_to_ask C base j m (what.Asked a) rule = omega (arith, rule.few_open)
-room_to_ask C base j m (what.Confirmed ask) rule = tt
-room_to_ask C base j m (what.Undone ask) rule = tt
+-- a settlement is opened where fewer are open than there is room for
+pub room_to_ask : (C : Configuration) (period base : ℕ) (j : Entries) (m : ℤ) (w : What) → KeepsRule C period base j m w → HasRoomToAsk j w
+room_to_ask C period base j m (what.Hold h) rule = tt
+room_to_ask C period base j m (what.Fulfilled hold preimage) rule = tt
+room_to_ask C period base j m (what.Released hold cause) rule = tt
+room_to_ask C period base j m (what.Credited c) rule = tt
+room_to_ask C period base j m (what.Asked a) rule = omega (arith, rule.few_open)
+room_to_ask C period base j m (what.Confirmed ask) rule = tt
+room_to_ask C period base j m (what.Undone ask) rule = tt
+room_to_ask C period base j m (what.Opened peer balance) rule = tt
+room_to_ask C period base j m (what.Known c) rule = tt
+room_to_ask C period base j m (what.Pending peer amount key) rule = omega (arith, rule.rule.1)
 
 -- a credit's key is not kept yet
-pub key_fresh : (C : Configuration) (base : ℕ) (j : Entries) (m : ℤ) (w : What) → KeepsRule C base j m w → IsFresh j w
-key_fresh C base j m (what.Hold h) rule = tt
-key_fresh C base j m (what.Fulfilled hold preimage) rule = tt
-key_fresh C base j m (what.Released hold cause) rule = tt
-key_fresh C base j m (what.Credited c) rule = rule.fresh
-key_fresh C base j m (what.Asked a) rule = tt
-key_fresh C base j m (what.Confirmed ask) rule = tt
-key_fresh C base j m (what.Undone ask) rule = tt
+pub key_fresh : (C : Configuration) (period base : ℕ) (j : Entries) (m : ℤ) (w : What) → KeepsRule C period base j m w → IsFresh j w
+key_fresh C period base j m (what.Hold h) rule = tt
+key_fresh C period base j m (what.Fulfilled hold preimage) rule = tt
+key_fresh C period base j m (what.Released hold cause) rule = tt
+key_fresh C period base j m (what.Credited c) rule = rule.fresh
+key_fresh C period base j m (what.Asked a) rule = tt
+key_fresh C period base j m (what.Confirmed ask) rule = tt
+key_fresh C period base j m (what.Undone ask) rule = tt
+key_fresh C period base j m (what.Opened peer balance) rule = tt
+key_fresh C period base j m (what.Known c) rule = rule.rule.1
+key_fresh C period base j m (what.Pending peer amount key) rule = tt

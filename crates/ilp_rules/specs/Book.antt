@@ -7,23 +7,25 @@ use Rattle.ilp_journal.specs.declared.entry.Entry.{Entry}
 use Rattle.ilp_journal.specs.declared.entry.What.{What}
 use Rattle.ilp_journal.specs.Journal.{Entries, last_moment, open_count}
 
--- a book, apart from where it lies in memory; base is the number of entries that it began with
+-- a book, apart from where it lies in memory; period is the number of the run of its journal from an opening to a closing of the
+-- books, and base the number of entries that it began with
 pub record PlainBook : Type 0 where
   pub config : Configuration
+  pub period : ℕ
   pub base : ℕ
   pub entries : Entries
 
--- a book of this configuration, in which nothing was booked
+-- a book of this configuration, in which nothing was booked: of the first period
 abbrev pub new_book : Configuration → PlainBook
-new_book C = record { config = C; base = 0; entries = [] }
+new_book C = record { config = C; period = 0; base = 0; entries = [] }
 
 -- the book with these entries in place of its own
 abbrev pub with_entries : PlainBook → Entries → PlainBook
-with_entries book entries = record { config = book.config; base = book.base; entries = entries }
+with_entries book entries = record { config = book.config; period = book.period; base = book.base; entries = entries }
 
 -- the book with another base
 abbrev pub with_base : PlainBook → ℕ → PlainBook
-with_base book base = record { config = book.config; base = base; entries = book.entries }
+with_base book base = record { config = book.config; period = book.period; base = base; entries = book.entries }
 
 -- the book with one more entry
 abbrev pub pushed : PlainBook → Entry → PlainBook

@@ -9,9 +9,9 @@ use Rattle.ilp_journal.specs.declared.entry.Hold.{Hold}
 use Rattle.ilp_journal.specs.Journal.{Entries, open_hold_at}
 use Rattle.ilp_rules.specs.Book.{PlainBook, moment_at}
 
--- the book that begins with these entries
-abbrev pub begun_with : Configuration → Entries → PlainBook
-begun_with C entries = record { config = C; base = length entries; entries = entries }
+-- the book of a period that begins with these entries
+abbrev pub begun_with : Configuration → ℕ → Entries → PlainBook
+begun_with C period entries = record { config = C; period = period; base = length entries; entries = entries }
 
 -- the end of the open hold n as the connector starts again, at the moment m
 abbrev pub ended_by_start : ℤ → ℕ → Hold → Entry
@@ -26,5 +26,5 @@ abbrev pub ends_of_open : ℤ → Entries → Entries
 ends_of_open m j = flat_map (end_of m j) (range_with_len 0 (length j))
 
 -- the book that begins with carried entries and the ends of their open holds
-abbrev pub carried : Configuration → Entries → ℤ → PlainBook
-carried C entries now = begun_with C (entries ++ ends_of_open (moment_at entries now) entries)
+abbrev pub carried : Configuration → ℕ → Entries → ℤ → PlainBook
+carried C period entries now = begun_with C period (entries ++ ends_of_open (moment_at entries now) entries)

@@ -1,5 +1,5 @@
 -- Which journals a configuration allows. Each rule is one of an entry and the entries before it.
-use Rattle.std.specs.Prelude.{◌≡◌, ◌≢◌, ℕ, ◌+◌, ◌≤◌, ◌<◌, ℤ, pos, ◌+ℤ◌, ◌-ℤ◌, ◌<ℤ◌, ◌≤ℤ◌, int_le, nat_abs, Option, Some, None, if◌then◌else◌, ◌↔◌, IsTrue, IsNone, IsSome, IsSomeAnd, IsOkAnd, length, []}
+use Rattle.std.specs.Prelude.{◌≡◌, ◌≢◌, ℕ, ◌+◌, ◌≤◌, ◌<◌, ◌^◌, ℤ, pos, ◌+ℤ◌, ◌-ℤ◌, ◌<ℤ◌, ◌≤ℤ◌, int_le, nat_abs, Option, Some, None, if◌then◌else◌, ◌↔◌, IsTrue, IsNone, IsSome, IsSomeAnd, IsOkAnd, length, []}
 use Rattle.std.specs.Int.{int_min}
 use Rattle.ilp_assets.specs.declared.quote.Quote.{Quote}
 use Rattle.ilp_assets.specs.Quote.{most}
@@ -23,7 +23,9 @@ use Rattle.ilp_terms.specs.Expiry.{last_of_all}
 use Rattle.ilp_terms.specs.Condition.{meets}
 use Rattle.ilp_rules.specs.Book.{PlainBook, with_entries, pushed}
 use Rattle.ilp_rules.specs.Configured.{IsKnown, peer_assets, scale_at, quote_between}
-use Rattle.ilp_rules.specs.Open.{kept_at}
+use Rattle.ilp_journal.specs.Credits.{kept_at}
+pub use Rattle.ilp_rules.specs.Heads.{most_open_asks}
+use Rattle.ilp_rules.specs.Heads.{StandsInHead}
 
 -- ---- holds
 
@@ -59,10 +61,6 @@ abbrev pub due_amount : ℤ → Option Levels → Option ℕ
 due_amount balance None = None
 due_amount balance (Some l) = if int_le l.threshold balance then Some (nat_abs (owed_above balance l)) else None
 
--- how many settlements to a peer may be open at once
-abbrev pub most_open_asks : ℕ
-most_open_asks = 4
-
 -- A settlement is asked for from the peer's threshold on, where fewer of its settlements are open than may be.
 pub record IsDueAsk (C : Configuration) (before : Entries) (a : Ask) : Type 0 where
   pub known : IsKnown C a.peer
@@ -74,20 +72,23 @@ pub record IsDueAsk (C : Configuration) (before : Entries) (a : Ask) : Type 0 wh
 
 -- The rule of an entry, by what it books. A hold ends once, and so does a settlement. A preimage counts where it meets the
 -- condition before the deadline. A release is late exactly from the deadline on; for a restart it is among what the book began
--- with, the entries below the base.
-abbrev pub KeepsRule : Configuration → ℕ → Entries → ℤ → What → Type 0
-KeepsRule C base before moment (what.Hold h) = HasTerms C moment h
-KeepsRule C base before moment (what.Fulfilled hold preimage) =
+-- with, the entries below the base. What is brought forward stands in the head.
+abbrev pub KeepsRule : Configuration → ℕ → ℕ → Entries → ℤ → What → Type 0
+KeepsRule C period base before moment (what.Hold h) = HasTerms C moment h
+KeepsRule C period base before moment (what.Fulfilled hold preimage) =
     IsSomeAnd (open_hold_at before hold) (λ (h : Hold). IsTrue (meets h.condition preimage) × (moment <ℤ h.deadline))
-KeepsRule C base before moment (what.Released hold cause) =
+KeepsRule C period base before moment (what.Released hold cause) =
     IsSomeAnd (open_hold_at before hold) (λ (h : Hold). (cause ≡ Late) ↔ (h.deadline ≤ℤ moment)) × (cause ≡ Restart → length before < base)
-KeepsRule C base before moment (what.Credited c) = IsFreshCredit C before c
-KeepsRule C base before moment (what.Asked a) = IsDueAsk C before a
-KeepsRule C base before moment (what.Confirmed ask) = IsSome (open_ask_at before ask)
-KeepsRule C base before moment (what.Undone ask) = IsSome (open_ask_at before ask)
+KeepsRule C period base before moment (what.Credited c) = IsFreshCredit C before c
+KeepsRule C period base before moment (what.Asked a) = IsDueAsk C before a
+KeepsRule C period base before moment (what.Confirmed ask) = IsSome (open_ask_at before ask)
+KeepsRule C period base before moment (what.Undone ask) = IsSome (open_ask_at before ask)
+KeepsRule C period base before moment (what.Opened peer balance) = StandsInHead C period base before (what.Opened peer balance)
+KeepsRule C period base before moment (what.Known c) = StandsInHead C period base before (what.Known c)
+KeepsRule C period base before moment (what.Pending peer amount key) = StandsInHead C period base before (what.Pending peer amount key)
 
 abbrev pub KeepsRuleOf : PlainBook → Entries → Entry → Type 0
-KeepsRuleOf book before e = KeepsRule book.config book.base before e.moment e.what
+KeepsRuleOf book before e = KeepsRule book.config book.period book.base before e.moment e.what
 
 -- ---- moments and limits
 
@@ -107,8 +108,10 @@ pub record IsWithinLimits (book : PlainBook) : Type 0 where
 
 -- ---- journals
 
--- Each entry of a book keeps its rule and is in time, and the limits are kept at first and after each entry.
+-- A book's period has a number of 32 bits. Each entry keeps its rule and is in time, and the limits are kept at first and after
+-- each entry.
 pub record IsLawful (book : PlainBook) : Type 0 where
+  pub numbered : book.period < 2 ^ 32
   pub rules : Each (KeepsRuleOf book) book.entries
   pub moments : Each IsInTime book.entries
   pub empty : IsWithinLimits (with_entries book [])

@@ -1,7 +1,10 @@
 pub mod Book
 pub mod Configured
 pub mod Open
+pub mod CreditTables
 pub mod Tables
+pub mod Heads
+pub mod SettlementKeys
 pub mod Lawful
 pub mod Parts
 pub mod Judging
@@ -17,6 +20,8 @@ pub use Rattle.ilp_accounts.specs.Configuration
 pub use Rattle.ilp_accounts.specs.Valid
 pub use Rattle.ilp_journal.specs.Journal
 pub use Rattle.ilp_journal.specs.Keys
+pub use Rattle.ilp_journal.specs.Credits
+pub use Rattle.ilp_journal.specs.BroughtForward
 pub use Rattle.ilp_journal.specs.Balance
 pub use Rattle.ilp_journal.specs.TrialBalance
 pub use Rattle.ilp_settlement.specs.Quantity

@@ -1,15 +1,8 @@
--- What is open in a journal, and which credit is kept in it under a key.
-use Rattle.std.specs.Prelude.{◌≡◌, ℕ, ◌+◌, ◌≤◌, ◌<ℤ◌, ◌⊎◌, int_lt, Bool, false, ◌&&◌, ◌==◌, List, [], ◌∷◌, Option, Some, None, slice_get, option_and_then, option_map, unwrap_or, if◌then◌else◌}
-use Rattle.std.specs.Str.{bytes_eq}
-use Rattle.ilp_journal.specs.declared.entry.Entry.{Entry}
+-- Which hold is open in a journal whose deadline comes first.
+use Rattle.std.specs.Prelude.{◌≡◌, ℕ, ◌+◌, ◌≤◌, ◌<ℤ◌, ◌⊎◌, int_lt, Bool, [], ◌∷◌, Option, Some, None, option_map, if◌then◌else◌}
 use Rattle.ilp_journal.specs.declared.entry.What.{What}
-use Rattle.ilp_journal.specs.declared.entry.What.TheVariants as what
 use Rattle.ilp_journal.specs.declared.entry.Hold.{Hold}
-use Rattle.ilp_journal.specs.declared.entry.Credited.{Credited}
-use Rattle.ilp_order.specs.Places.{first_from}
 use Rattle.ilp_journal.specs.Journal.{Entries, as_hold, is_unanswered, open_hold_at}
-
--- ---- the open hold whose deadline comes first, and of several the first
 
 -- The hold n is open, and of all open holds its deadline comes first; of several of that deadline it has the least number.
 pub record IsEarliest (j : Entries) (n : ℕ) (h : Hold) : Type 0 where
@@ -33,22 +26,3 @@ earliest_from test n (e ∷ es) = earlier (if test n then numbered_hold n e.what
 
 abbrev pub earliest : Entries → Option (ℕ × Hold)
 earliest j = earliest_from (is_unanswered j) 0 j
-
--- ---- settlements from peers
-
--- the credit that an entry books
-abbrev pub as_credit : What → Option Credited
-as_credit (what.Credited c) = Some c
-as_credit _ = None
-
--- the credit under a number
-abbrev pub credit_at : Entries → ℕ → Option Credited
-credit_at j n = option_and_then (λ (e : Entry). as_credit e.what) (slice_get j n)
-
--- whether an entry credits the peer under the key
-abbrev pub has_key : ℕ → List ℕ → What → Bool
-has_key peer key w = unwrap_or (option_map (λ (c : Credited). (c.peer == peer) && bytes_eq c.key key) (as_credit w)) false
-
--- the number of the first credit of a peer under a key
-abbrev pub kept_at : Entries → ℕ → List ℕ → Option ℕ
-kept_at j peer key = first_from (λ _ (e : Entry). has_key peer key e.what) 0 j

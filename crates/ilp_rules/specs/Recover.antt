@@ -19,22 +19,25 @@ use Rattle.ilp_rules.specs.Carry.{IsFirstUnlawful}
 use Rattle.ilp_rules.specs.Lawful.{IsLawful}
 
 -- The text is that of a journal, and the lines are those of later entries. Together they are a lawful journal, in which holds may be
--- open, and this is the book that begins with it.
+-- open, and this is the book of the text's period that begins with it.
 pub record IsRecovered (C : Configuration) (saved logged : List ℕ) (now : ℤ) (book : PlainBook) : Type 0 where
+  pub period : ℕ
   pub entries : Entries
   pub later : Entries
-  pub written : IsTextOf C entries saved
+  pub written : IsTextOf C period entries saved
   pub lines : AreLinesOf C later logged
-  pub lawful : IsLawful (begun_with C (entries ++ later))
-  pub begins : book ≡ carried C (entries ++ later) now
+  pub lawful : IsLawful (begun_with C period (entries ++ later))
+  pub begins : book ≡ carried C period (entries ++ later) now
 
 -- The fault names the first bad line of a text that is no journal's; or, where it is one, the first bad line of what was logged; or,
 -- where that has none, the first unlawful one of all entries, with a rule that it breaks.
 abbrev pub IsWhyNotRecovered : Configuration → List ℕ → List ℕ → RecoverFault → Type 0
 IsWhyNotRecovered C saved logged (BadJournalText line) = IsFirstBadLine C saved line
-IsWhyNotRecovered C saved logged (BadLogLine line) = (entries : Entries) × IsTextOf C entries saved × IsFirstBadEntryLine C logged line
+IsWhyNotRecovered C saved logged (BadLogLine line) =
+    (period : ℕ) × (entries : Entries) × IsTextOf C period entries saved × IsFirstBadEntryLine C logged line
 IsWhyNotRecovered C saved logged (Unlawful entry rule) =
-    (entries : Entries) × (later : Entries) × IsTextOf C entries saved × AreLinesOf C later logged × IsFirstUnlawful C (entries ++ later) entry rule
+    (period : ℕ) × (entries : Entries) × (later : Entries) × IsTextOf C period entries saved × AreLinesOf C later logged
+    × IsFirstUnlawful C period (entries ++ later) entry rule
 IsWhyNotRecovered C saved logged Memory = ⊤
 
 -- ---- what a recovered book begins with

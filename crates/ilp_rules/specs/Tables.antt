@@ -1,5 +1,5 @@
 -- What a book keeps beside its journal, so that no call goes over the entries. No public clause cites these words.
-use Rattle.std.specs.Prelude.{◌≡◌, ℕ, ℤ, List, ◌==◌, Option, Some, None, option_map, if◌then◌else◌}
+use Rattle.std.specs.Prelude.{◌≡◌, ℕ, ℤ, List, ◌==◌, Option, None, option_map, if◌then◌else◌}
 use Rattle.std.specs.Ordering.{nat_cmp}
 use Rattle.std.specs.FinMap as fin_map
 use Rattle.std.specs.FinMap.{FinMap}
@@ -7,9 +7,8 @@ use Rattle.ilp_holds.specs.Table.{Table}
 use Rattle.ilp_journal.specs.declared.entry.What.{What}
 use Rattle.ilp_journal.specs.declared.entry.Hold.{Hold}
 use Rattle.ilp_journal.specs.Journal.{Entries, as_hold, answered, is_number, open_hold_at}
-use Rattle.ilp_settlement.specs.KeyTable.{PlainKeyTable, entry_of}
 use Rattle.ilp_tallies.specs.Tallies.{PlainTallies, AreTallies}
-use Rattle.ilp_rules.specs.Open.{has_key, kept_at}
+use Rattle.ilp_rules.specs.CreditTables.{PlainCredits, AreKept}
 
 -- the deadline of a hold, if there is one
 abbrev pub deadline_of : Option Hold → Option ℤ
@@ -23,12 +22,8 @@ IsTallied j t = AreTallies t.assets t.base j t
 abbrev pub AreOpen : Entries → FinMap nat_cmp ℤ → Type 0
 AreOpen j deadlines = (n : ℕ) → fin_map.get deadlines n ≡ deadline_of (open_hold_at j n)
 
--- each credit, and nothing else, is kept under its peer and key
-abbrev pub AreKept : Entries → PlainKeyTable → Type 0
-AreKept j keys = (peer : ℕ) (key : List ℕ) → entry_of keys peer key ≡ kept_at j peer key
-
--- These are the sums of the journal, its open holds by their deadlines, and its credits by their keys.
-pub record AreTables (assets : List ℕ) (base : ℕ) (j : Entries) (tallies : PlainTallies) (holds : Table) (keys : PlainKeyTable) : Type 0 where
+-- These are the sums of the journal, its open holds by their deadlines, and its credits by their keys and in order.
+pub record AreTables (assets : List ℕ) (base : ℕ) (j : Entries) (tallies : PlainTallies) (holds : Table) (keys : PlainCredits) : Type 0 where
   pub tallied : AreTallies assets base j tallies
   pub open_holds : AreOpen j holds.map
   pub kept : AreKept j keys
@@ -37,7 +32,3 @@ pub record AreTables (assets : List ℕ) (base : ℕ) (j : Entries) (tallies : P
 abbrev pub FollowsHolds : FinMap nat_cmp ℤ → FinMap nat_cmp ℤ → ℕ → What → Type 0
 FollowsHolds old new n w = (k : ℕ) → fin_map.get new k
     ≡ (if k == n then deadline_of (as_hold w) else (if is_number k (answered w) then None else fin_map.get old k))
-
--- the key of the credit that the entry n books is kept under that number, and the others are as they were
-abbrev pub KeepsKey : PlainKeyTable → PlainKeyTable → ℕ → What → Type 0
-KeepsKey old new n w = (peer : ℕ) (key : List ℕ) → entry_of new peer key ≡ (if has_key peer key w then Some n else entry_of old peer key)

@@ -19,7 +19,7 @@ pub record IsStop (book : PlainBook) (e : Entry) (n : ℕ) (rule : BrokenRule) :
   pub below : n < behind_all
   pub lawful : IsLawful book
   pub unlawful : IsLawful (pushed book e) → ⊥
-  pub broken : Breaks book.config book.entries e rule
+  pub broken : Breaks book.config book.period book.entries e rule
 
 -- why an entry isn't taken up
 abbrev pub StopsAt : PlainBook → Entry → Stop → Type 0
@@ -27,22 +27,22 @@ StopsAt book e (Unlawful n rule) = IsStop book e n rule
 StopsAt book e Memory = ⊤
 
 -- the entries before the number n are lawful, and with that one they aren't
-pub record StopsBelow (C : Configuration) (entries : Entries) (n : ℕ) (rule : BrokenRule) : Type 0 where
+pub record StopsBelow (C : Configuration) (period : ℕ) (entries : Entries) (n : ℕ) (rule : BrokenRule) : Type 0 where
   pub within : n < length entries
   pub below : n < behind_all
-  pub lawful : IsLawful (with_entries (carrying C) (take n entries))
-  pub unlawful : IsLawful (with_entries (carrying C) (take (n + 1) entries)) → ⊥
-  pub broken : IsSomeAnd (slice_get entries n) (λ (e : Entry). Breaks C (take n entries) e rule)
+  pub lawful : IsLawful (with_entries (carrying C period) (take n entries))
+  pub unlawful : IsLawful (with_entries (carrying C period) (take (n + 1) entries)) → ⊥
+  pub broken : IsSomeAnd (slice_get entries n) (λ (e : Entry). Breaks C period (take n entries) e rule)
 
 -- why not all entries were taken up
-abbrev pub HasStopped : Configuration → Entries → Stop → Type 0
-HasStopped C entries (Unlawful n rule) = StopsBelow C entries n rule
-HasStopped C entries Memory = ⊤
+abbrev pub HasStopped : Configuration → ℕ → Entries → Stop → Type 0
+HasStopped C period entries (Unlawful n rule) = StopsBelow C period entries n rule
+HasStopped C period entries Memory = ⊤
 
--- the book of these entries, or why it isn't
-abbrev pub AreTakenUp : Configuration → Entries → PlainBook → Result Unit Stop → Type 0
-AreTakenUp C entries book (Ok _) = book ≡ with_entries (carrying C) entries
-AreTakenUp C entries book (Err stop) = (book.config ≡ C) × HasStopped C entries stop
+-- the book of a period with these entries, or why it isn't
+abbrev pub AreTakenUp : Configuration → ℕ → Entries → PlainBook → Result Unit Stop → Type 0
+AreTakenUp C period entries book (Ok _) = book ≡ with_entries (carrying C period) entries
+AreTakenUp C period entries book (Err stop) = (book.config ≡ C) × HasStopped C period entries stop
 
 -- a fault names a bad line, or is want of memory
 abbrev pub NamesLine : (ℕ → Type 0) → TextFault → Type 0

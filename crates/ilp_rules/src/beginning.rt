@@ -20,6 +20,8 @@ use std::marker::Model;
 pub struct Beginning<A: Allocator> {
     /// What the book is configured to do.
     pub config: Config,
+    /// The number of its period.
+    pub period: u32,
     /// How many entries there are.
     pub base: u32,
     /// The carried entries, and the ends of those of their holds that were open.
@@ -35,10 +37,10 @@ impl<A: Allocator> Model for Beginning<A> {
 
     ghost Value = { PlainBook };
 
-    ghost view = { λ b. book_of b.config b.base b.journal };
+    ghost view = { λ b. book_of b.config b.period b.base b.journal };
 
     ghost invariant = { λ b.
-        AreParts b.config b.base b.journal b.tables.tallies b.tables.holds b.tables.keys
+        AreParts b.config b.period b.base b.journal b.tables.tallies b.tables.holds b.tables.keys
         × IsBase b.journal.entries b.base };
 }
 
@@ -90,10 +92,10 @@ impl<A: Allocator + Clone> Beginning<A> {
         ensures ok { IfOk result (IsRecovered config.now saved.now logged.now now) }
         ensures err { IfErr result (IsWhyNotRecovered config.now saved.now logged.now) }
     {
-        let mut taking = TakingUp::new(alloc, config)?;
-        if let Err(fault) = taking.take_text(saved) {
-            return Err(RecoverFault::of_saved(fault));
-        }
+        let mut taking = match TakingUp::of_text(alloc, config, saved) {
+            Ok(taking) => taking,
+            Err(fault) => return Err(RecoverFault::of_saved(fault)),
+        };
         if let Err(fault) = taking.take_lines(logged) {
             return Err(RecoverFault::of_logged(fault));
         }
@@ -106,13 +108,14 @@ impl<A: Allocator + Clone> Beginning<A> {
         Ok(Beginning::begun_with(carrying))
     }
 
-    // All that was carried over, where no hold is open any more.
-    fn begun_with(carrying: Carrying<A>) -> Beginning<A>
+    /// All that was taken up, where no hold is open in it.
+    pub fn begun_with(carrying: Carrying<A>) -> Beginning<A>
         requires ended { (n : ℕ) → open_hold_at carrying.entries n ≡ None }
-        ensures { result ≡ begun_with carrying.config carrying.entries }
+        ensures { result ≡ begun_with carrying.config carrying.period carrying.entries }
     {
         let Carrying {
             config,
+            period,
             journal,
             mut tables,
         } = carrying;
@@ -120,6 +123,7 @@ impl<A: Allocator + Clone> Beginning<A> {
         tables.tallies.set_base(base);
         Beginning {
             config,
+            period,
             base,
             journal,
             tables,

@@ -1,12 +1,13 @@
-//! What holds of every lawful journal, and of every text that is carried over or recovered. These functions do
-//! nothing: their contracts are the laws. A law tells whoever reads the definitions what follows from
-//! them; no code needs to call it.
+//! What holds of every lawful journal, and of every text that is carried over or recovered. These
+//! functions do nothing: their contracts are the laws. A law tells whoever reads the definitions
+//! what follows from them; no code needs to call it.
 
-ghost use Rattle.std.specs.Prelude.{◌≡◌, ℕ, ℤ, ◌≤◌, ◌++◌, ◌↔◌, [], List, All, Some, None, take};
+ghost use Rattle.std.specs.Prelude.{◌≡◌, ℕ, ℤ, ◌+◌, ◌<◌, ◌≤◌, ◌^◌, ◌++◌, ◌↔◌, [], List, All, Some, None, take};
 ghost use Rattle.ilp_accounts.specs.Configuration.{Configuration};
 ghost use Rattle.ilp_accounts.specs.Valid.{IsValid};
+ghost use Rattle.ilp_journal.specs.declared.entry.Ask.{Ask};
 ghost use Rattle.ilp_journal.specs.declared.entry.Credited.{Credited};
-ghost use Rattle.ilp_journal.specs.Journal.{Entries, IsBase, open_hold_at};
+ghost use Rattle.ilp_journal.specs.Journal.{Entries, IsBase, ask_at, open_hold_at};
 ghost use Rattle.ilp_journal.specs.TrialBalance.{IsBalanced};
 ghost use Rattle.ilp_journal_text.specs.Reading.{IsTyped};
 ghost use Rattle.ilp_journal_text.specs.Text.{entry_lines, journal_text};
@@ -19,7 +20,9 @@ ghost use Rattle.ilp_rules.specs.Configured.{peer_assets};
 ghost use Rattle.ilp_rules.specs.Carried.{begun_with, carried};
 ghost use Rattle.ilp_rules.specs.Carry.{IsCarriedOver, IsWhyNotCarried};
 ghost use Rattle.ilp_rules.specs.Recover.{IsRecovered, IsWhyNotRecovered, BeginsWith};
-ghost use Rattle.ilp_rules.specs.Open.{credit_at};
+ghost use Rattle.ilp_journal.specs.Credits.{credit_at};
+ghost use Rattle.ilp_rules.specs.Heads.{IsBooked, IsOfPeriodFrom, settlement_key_of};
+ghost use Rattle.ilp_rules.specs.SettlementKeys.{settlement_key_at};
 ghost use Rattle.ilp_rules.specs.Lawful.{IsLawful};
 
 /// A lawful book stays lawful where its base is raised. `ilp_journal::laws::bases_stay` says which
@@ -39,16 +42,35 @@ pub fn lawful_books()
         → IsBalanced (peer_assets book.config) book.entries asset }
 {}
 
+/// No two settlements of a lawful book have one key, whether the book asks for them itself or they were
+/// brought forward. No key of a run names two settlements: not of one period, nor of two; and under no
+/// key of a settlement could a later period of the run ask for one.
+pub fn settlements_have_own_keys()
+    ensures within { (book : PlainBook) (k m : ℕ) (a b : Ask) → IsValid book.config → IsLawful book
+        → ask_at book.entries k ≡ Some a → ask_at book.entries m ≡ Some b
+        → settlement_key_at book.config book.period book.entries k
+        ≡ settlement_key_at book.config book.period book.entries m → k ≡ m }
+    ensures between { (C D : Configuration) (p q m n : ℕ) → C.settings.run ≡ D.settings.run
+        → p < 2 ^ 32 → q < 2 ^ 32 → m < 2 ^ 32 → n < 2 ^ 32
+        → settlement_key_of C p m ≡ settlement_key_of D q n → (p ≡ q) × (m ≡ n) }
+    ensures onward { (book : PlainBook) (n : ℕ) (a : Ask) (next : Configuration)
+        → IsValid book.config → IsLawful book → next.settings.run ≡ book.config.settings.run
+        → ask_at book.entries n ≡ Some a → ¬ (IsOfPeriodFrom next (book.period + 1)
+        (settlement_key_at book.config book.period book.entries n)) }
+{}
+
 /// A book that is carried over is lawful, no hold is open in it, and all of its entries lie below its
 /// base.
 pub fn carried_books()
-    ensures lawful { (C : Configuration) (entries : Entries) (now : ℤ)
-        → IsValid C → IsLawful (begun_with C entries) → IsLawful (carried C entries now) }
-    ensures closed { (C : Configuration) (entries : Entries) (now : ℤ) (n : ℕ)
-        → IsLawful (begun_with C entries) → open_hold_at (carried C entries now).entries n ≡ None }
-    ensures opened { (C : Configuration) (entries : Entries) (now : ℤ)
-        → IsLawful (begun_with C entries)
-        → IsBase (carried C entries now).entries (carried C entries now).base }
+    ensures lawful { (C : Configuration) (period : ℕ) (entries : Entries) (now : ℤ)
+        → IsValid C → IsLawful (begun_with C period entries)
+        → IsLawful (carried C period entries now) }
+    ensures closed { (C : Configuration) (period : ℕ) (entries : Entries) (now : ℤ) (n : ℕ)
+        → IsLawful (begun_with C period entries)
+        → open_hold_at (carried C period entries now).entries n ≡ None }
+    ensures opened { (C : Configuration) (period : ℕ) (entries : Entries) (now : ℤ)
+        → IsLawful (begun_with C period entries)
+        → IsBase (carried C period entries now).entries (carried C period entries now).base }
 {}
 
 /// By a valid configuration a text that is carried over is refused for nothing but want of memory, and
@@ -66,11 +88,11 @@ pub fn texts_are_carried_in_one_way()
 /// is carried over, and refused for nothing but want of memory.
 pub fn saved_texts_are_carried()
     ensures carried { (book : PlainBook) (now : ℤ) → IsLawful book → All IsTyped book.entries
-        → IsCarriedOver book.config (journal_text book.config book.entries) now
-        (carried book.config book.entries now) }
+        → IsCarriedOver book.config (journal_text book.config book.period book.entries) now
+        (carried book.config book.period book.entries now) }
     ensures refused { (book : PlainBook) (fault : CarryFault) → IsValid book.config → IsLawful book
         → All IsTyped book.entries
-        → IsWhyNotCarried book.config (journal_text book.config book.entries) fault
+        → IsWhyNotCarried book.config (journal_text book.config book.period book.entries) fault
         → fault ≡ CarryFault.Memory }
 {}
 
@@ -88,21 +110,28 @@ pub fn texts_are_recovered_in_one_way()
         → IsRecovered C text [] now book ↔ IsCarriedOver C text now book }
 {}
 
-/// Of a lawful book whose numbers are of their types let j be the entries whose text was saved, and l
-/// those booked since. Whenever a crash comes, the lines of some first entries of l stand in the log.
-/// They are recovered, and refused for nothing but want of memory: the book begins with j and those
-/// entries, and behind them has nothing but the ends of the holds that were open.
+/// Of a lawful book whose numbers are of their types let j be the entries whose text was saved, with all
+/// that was brought forward, and l those booked since. Whenever a crash comes, the lines of some first
+/// entries of l stand in the log. They are recovered, and refused for nothing but want of memory: the
+/// book begins with j and those entries, and behind them has nothing but the ends of the holds that were
+/// open.
 pub fn recovered_begins()
     ensures recovered { (book : PlainBook) (j l : Entries) (n : ℕ) → IsLawful book
-        → All IsTyped book.entries → book.entries ≡ j ++ l → (now : ℤ)
-        → IsRecovered book.config (journal_text book.config j)
-        (entry_lines book.config (take n l)) now (carried book.config (j ++ take n l) now) }
+        → All IsTyped book.entries → book.entries ≡ j ++ l
+        → (0 < book.period → All IsBooked l) → (now : ℤ)
+        → IsRecovered book.config (journal_text book.config book.period j)
+        (entry_lines book.config (take n l)) now
+        (carried book.config book.period (j ++ take n l) now) }
     ensures begins { (book : PlainBook) (j l : Entries) (n : ℕ) → IsLawful book
-        → All IsTyped book.entries → book.entries ≡ j ++ l → IsValid book.config
-        → (now : ℤ) (recovered : PlainBook) → IsRecovered book.config (journal_text book.config j)
+        → All IsTyped book.entries → book.entries ≡ j ++ l
+        → (0 < book.period → All IsBooked l) → IsValid book.config
+        → (now : ℤ) (recovered : PlainBook)
+        → IsRecovered book.config (journal_text book.config book.period j)
         (entry_lines book.config (take n l)) now recovered → BeginsWith (j ++ take n l) recovered }
     ensures refused { (book : PlainBook) (j l : Entries) (n : ℕ) → IsLawful book
-        → All IsTyped book.entries → book.entries ≡ j ++ l → IsValid book.config
-        → (fault : RecoverFault) → IsWhyNotRecovered book.config (journal_text book.config j)
+        → All IsTyped book.entries → book.entries ≡ j ++ l
+        → (0 < book.period → All IsBooked l) → IsValid book.config
+        → (fault : RecoverFault)
+        → IsWhyNotRecovered book.config (journal_text book.config book.period j)
         (entry_lines book.config (take n l)) fault → fault ≡ RecoverFault.Memory }
 {}

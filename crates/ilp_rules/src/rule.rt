@@ -28,6 +28,12 @@ pub enum BrokenRule {
     /// A fulfillment comes before the deadline, and a release is Late exactly from the deadline on.
     #[error("its moment and the deadline of the hold don't go with what it says")]
     Lateness,
+    /// What is brought forward stands in a period above 0, before all that is booked in it.
+    #[error("it is brought forward, but stands in the first period or behind what was booked")]
+    Head,
+    /// A balance that is brought forward is not 0, and each peer has one at most.
+    #[error("the balance that is brought forward is 0, or the peer has one already")]
+    Opening,
     /// A credit is of the quantity at the scale of the peer's asset, rounded down.
     #[error("the credited amount is not the quantity at the scale of the peer's asset")]
     Credited,
@@ -41,13 +47,17 @@ pub enum BrokenRule {
     /// `settle_max`.
     #[error("by threshold, settle_to and settle_max this amount isn't asked for")]
     NotDue,
+    /// A settlement is brought forward under a key that no other one has or gets: none that is brought
+    /// forward too, and none of this period or a later one.
+    #[error("another settlement has its key, or one of this period or a later could have it")]
+    SettlementKey,
     /// A closing is that of an open settlement.
     #[error("the settlement that it names isn't open")]
     NoOpenAsk,
     /// The journal has room for it and for whatever ends what is open.
     #[error("the configured journal has no room for it")]
     Room,
-    /// No balance falls below the peer's `least`.
-    #[error("the sender's balance would fall below its least")]
+    /// No balance falls below the peer's `least`, nor is one brought forward that lies below.
+    #[error("the peer's balance would fall below its least")]
     Least,
 }

@@ -6,12 +6,13 @@ ghost use Rattle.ilp_journal.specs.Journal.{AnswersOnce, ClosesOnce, as_hold};
 ghost use Rattle.ilp_tallies.specs.OpenAsks.{HasRoomToAsk};
 ghost use Rattle.ilp_tallies.specs.Tallies.{AreTallies, GrowsBy, KnowsPeers};
 ghost use Rattle.ilp_rules.specs.Configured.{peer_assets};
-ghost use Rattle.ilp_rules.specs.Tables.{AreTables, FollowsHolds, KeepsKey};
+ghost use Rattle.ilp_rules.specs.CreditTables.{KeepsKey};
+ghost use Rattle.ilp_rules.specs.Tables.{AreTables, FollowsHolds};
 
+use crate::credits::CreditTable;
 use ilp_accounts::Config;
 use ilp_holds::HoldTable;
 use ilp_journal::{Entry, Journal, What};
-use ilp_settlement::KeyTable;
 use ilp_tallies::Tallies;
 use std::alloc::{AllocError, Allocator};
 
@@ -22,8 +23,8 @@ pub struct Tables<A: Allocator> {
     pub tallies: Tallies<A>,
     /// The open holds by their deadlines.
     pub holds: HoldTable<A>,
-    /// The numbers of the credits by their peers and keys.
-    pub keys: KeyTable<A>,
+    /// The numbers of the credits, by their peers and keys and in order.
+    pub keys: CreditTable<A>,
 }
 
 impl<A: Allocator + Clone> Tables<A> {
@@ -37,12 +38,13 @@ impl<A: Allocator + Clone> Tables<A> {
         Ok(Tables {
             tallies: Tallies::new(alloc.clone()?, assets, asset_count, base)?,
             holds: HoldTable::new(alloc.clone()?)?,
-            keys: KeyTable::new(alloc)?,
+            keys: CreditTable::new(alloc)?,
         })
     }
 
     /// Makes the room that an entry of this number takes in the tables, and keeps the key of a
-    /// credit. `AllocError` tells that memory is short, and leaves all as it was.
+    /// credit, also of one that is brought forward. `AllocError` tells that memory is short, and
+    /// leaves all as it was.
     pub fn prepare(&mut self, number: u32, what: &What) -> Result<(), AllocError>
         ensures tallies { self.new.tallies ≡ self.old.tallies }
         ensures holds { self.new.holds.map ≡ self.old.holds.map }
@@ -52,7 +54,7 @@ impl<A: Allocator + Clone> Tables<A> {
     {
         match what {
             What::Hold(_) => self.holds.reserve(1),
-            What::Credited(credited) => {
+            What::Credited(credited) | What::Known(credited) => {
                 self.keys
                     .keep(credited.peer, credited.key.as_slice(), number)
             }

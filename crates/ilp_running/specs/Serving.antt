@@ -3,7 +3,6 @@ use Rattle.std.specs.Prelude.{◌≡◌, ℕ, List, ⊤, Option, Result, Ok, Err
 use Rattle.std.specs.Io.KnownBytes.{Appends}
 use Rattle.ilp_io.specs.Writing.{AppendsProperPrefix}
 use Rattle.ilp_accounts.specs.Configuration.{Configuration}
-use Rattle.ilp_journal.specs.Journal.{Entries}
 use Rattle.ilp_book.specs.Book.{PlainBook}
 use Rattle.ilp_report.specs.Report.{report_text}
 use Rattle.ilp_desk.specs.Desk.{PlainDesk, IsBookOf}
@@ -31,9 +30,9 @@ fault_refusal (NotGathered (why.Disagrees actor)) = refusals.Disagrees actor
 
 -- ---- what is printed
 
--- the desk of a connector: of its configuration, opened with the journal that it begins with
-abbrev pub desk_of : Configuration → Entries → PlainDesk
-desk_of config opening = record { config = config; workers = config.settings.workers; opening = opening }
+-- the desk of a connector: of its configuration, and of the book that it begins with
+abbrev pub desk_of : Configuration → PlainBook → PlainDesk
+desk_of config book = record { config = config; workers = config.settings.workers; period = book.period; opening = book.entries }
 
 -- A book of the desk in the end: it is lawful, and its journal begins with the desk's. There are ends of the desk's actors, which
 -- add up to all that was booked since.

@@ -57,10 +57,10 @@ where
     W: Sink,
     requires config { book.config ≡ config.now }
     requires opening { length book.entries ≡ book.base }
-    ensures closed { IfOk result (λ b. IsClosed (desk_of config.now book.entries) b) }
+    ensures closed { IfOk result (λ b. IsClosed (desk_of config.now book) b) }
     ensures printed { IfOk result (λ b.
         Appends (W.contents writer.old) (W.contents writer.new) (report_text b)) }
-    ensures refused { IfErr result (λ fault. Refuses (desk_of config.now book.entries)
+    ensures refused { IfErr result (λ fault. Refuses (desk_of config.now book)
         (W.contents writer.old) (W.contents writer.new) fault) }
 {
     let unlogged: Option<BegunLog<MemoryDevice>> = None;
@@ -99,10 +99,10 @@ where
     requires opening { length book.entries ≡ book.base }
     requires base { IfSome log (λ l. l.start.base ≤ length book.entries) }
     requires begun { D.claims → IfSome log (IsBegun D.seen D.may_leave) }
-    ensures closed { IfOk result (λ run. IsClosed (desk_of config.now book.entries) run.book) }
+    ensures closed { IfOk result (λ run. IsClosed (desk_of config.now book) run.book) }
     ensures logged { D.claims → IfOk result (λ run. EndsLog D.seen D.may_leave D.left_since
         (form_of D.seen config.now log) (began_at D.moment log) run.book.entries run.log) }
-    ensures refused { IfErr result (IsWhyUnclosed (desk_of config.now book.entries)) }
+    ensures refused { IfErr result (IsWhyUnclosed (desk_of config.now book)) }
 {
     let blanks = Blank::new(u64::from(config.workers()) + 2);
     let Ok(list) = EntryList::new(config.allocator()) else {
@@ -139,6 +139,7 @@ where
     D: Device + Drop + Send,
     requires config { (config.now ≡ J.desk.config) × (book.config ≡ J.desk.config) }
     requires workers { config.now.settings.workers ≡ J.desk.workers }
+    requires period { book.period ≡ J.desk.period }
     requires opening { (book.entries ≡ J.desk.opening) × (book.base ≡ base_of J.desk) }
     requires ledger { (blanks.name ≡ J.name) × (blanks.parts ≡ J.parts) }
     requires parts { J.parts ≡ desk.actors_of J.desk }

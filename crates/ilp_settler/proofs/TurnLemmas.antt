@@ -123,7 +123,7 @@ carries_before : (desk : PlainDesk) (peer : ℕ) (before between after : PlainSe
 carries_before desk peer before between after engine a seen told same (inl s) = inl (record {
   kept = subst (λ k. IsHanded seen (Ok tt) k after.kept after.seen) same.kept s.kept;
   said = s.said;
-  handed = subst (λ x. Tells x (settlement_told desk.config peer a s.said) after.engine) same.engine_is s.handed;
+  handed = subst (λ x. Tells x (settlement_told desk peer a s.said) after.engine) same.engine_is s.handed;
   closed = subst (λ r. ClosesBy desk peer a s.said (verdict_by s.said) between.moments after.moments (holding between.share r) (holding after.share after.records) told) same.records s.closed;
   tried = s.tried ∙ ap (λ t. with_tried t peer a.number) same.tried;
 })
@@ -207,7 +207,7 @@ taken_up desk peer before between after fault a told chosen same share moments c
 -- a settlement is carried out whose journal is kept
 pub carried_out : (desk : PlainDesk) (peer : ℕ) (before after : PlainSettler) (a : Asked) (said : EngineReply) (told : Turn)
     → IsHanded before.seen (Ok tt) before.kept after.kept after.seen
-    → Tells before.engine (settlement_told desk.config peer a said) after.engine
+    → Tells before.engine (settlement_told desk peer a said) after.engine
     → ClosesBy desk peer a said (verdict_by said) before.moments after.moments (holding before.share before.records) (holding after.share after.records) told
     → after.tried ≡ with_tried before.tried peer a.number
     → CarriesOut desk peer before after before.engine a before.share before.moments before.seen told

@@ -1,8 +1,6 @@
 -- A settler as contracts see it, and what a turn of it does.
-use Rattle.std.specs.Prelude.{◌≡◌, ℕ, ◌+◌, ℤ, Bool, true, false, List, [], ◌∷◌, ◌++◌, Option, Some, None, Result, Ok, Err, IsErr, ◌⊎◌, slice_get, slice_set, unwrap_or, replicate, codes}
-use Rattle.std.specs.Fmt.{decimal}
+use Rattle.std.specs.Prelude.{◌≡◌, ℕ, ◌+◌, ℤ, Bool, true, false, List, [], ◌∷◌, ◌++◌, Option, Some, None, Result, Ok, Err, IsErr, ◌⊎◌, slice_get, slice_set, unwrap_or, replicate}
 use Rattle.ilp_accounts.specs.Limits.{most_peers}
-use Rattle.ilp_accounts.specs.Configuration.{Configuration}
 use Rattle.ilp_journal.specs.Journal.{Entries}
 use Rattle.ilp_book.specs.declared.calls.Asked.{Asked}
 use Rattle.ilp_book.specs.declared.fault.AskFault.{AskFault}
@@ -15,7 +13,7 @@ use Rattle.ilp_settlement.specs.declared.verdict.EngineVerdict.TheVariants as ve
 use Rattle.ilp_book.specs.SettleStep.{ask_growth, ask_step, close_step}
 use Rattle.ilp_desk.specs.declared.record.Record.{Record}
 use Rattle.ilp_desk.specs.declared.record.Recorded.TheVariants as recorded
-use Rattle.ilp_desk.specs.Desk.{PlainDesk}
+use Rattle.ilp_desk.specs.Desk.{PlainDesk, settlement_key_in}
 use Rattle.ilp_desk.specs.Portion.{Portion, portion, Holding, holding}
 use Rattle.ilp_desk.specs.Session.{IsReplyAt, IsShownAt, IsShownLook}
 use Rattle.ilp_keeping.specs.declared.keeper.NotKept.{NotKept}
@@ -82,13 +80,9 @@ with_tried tried peer n = slice_set tried peer (Some n)
 
 -- ---- keys
 
--- the key of a settlement, by the number of its entry: it is the same whenever the engine is asked
-abbrev pub key_text : Configuration → ℕ → List ℕ
-key_text C number = C.settings.run ++ codes "-" ++ decimal number
-
--- the most octets of one, RUN-NUMBER: a run has at most 32, and an entry's number at most 10 digits
+-- the most octets of the key of a settlement: as many as one of an earlier period may have
 abbrev pub longest_key : ℕ
-longest_key = 43
+longest_key = 128
 
 -- ---- asking a book
 
@@ -119,8 +113,8 @@ IsChoosing desk peer tried seen seen' found = IsShownLook desk peer tried seen s
 -- ---- asking the engine
 
 -- what the peer's engine is handed for a settlement, and what it said of it
-abbrev pub settlement_told : Configuration → ℕ → Asked → EngineReply → ToEngine
-settlement_told C peer a said = settled (settling peer (key_text C a.number) a.amount (scale_at C peer) said)
+abbrev pub settlement_told : PlainDesk → ℕ → Asked → EngineReply → ToEngine
+settlement_told desk peer a said = settled (settling peer (settlement_key_in desk a.number) a.amount (scale_at desk.config peer) said)
 
 -- the verdict on a settlement by what the engine said, if that is one
 abbrev pub verdict_by : EngineReply → Option EngineVerdict
@@ -196,7 +190,7 @@ pub record IsIdle (before after : PlainSettler) (engine : Option (List ToEngine)
 pub record IsSettling (desk : PlainDesk) (peer : ℕ) (before after : PlainSettler) (engine : Option (List ToEngine)) (a : Asked) (share : Portion) (moments : Option (List ℤ)) (seen : Entries) (told : Turn) : Type 0 where
   pub kept : IsHanded seen (Ok tt) before.kept after.kept after.seen
   pub said : EngineReply
-  pub handed : Tells engine (settlement_told desk.config peer a said) after.engine
+  pub handed : Tells engine (settlement_told desk peer a said) after.engine
   pub closed : ClosesBy desk peer a said (verdict_by said) moments after.moments (holding share before.records) (holding after.share after.records) told
   pub tried : after.tried ≡ with_tried before.tried peer a.number
 

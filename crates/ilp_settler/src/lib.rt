@@ -16,7 +16,8 @@
 //!   engine is asked, and the turn is `Idle` with the refusal.
 //! - The keeper is handed the journal that has the one that was booked or found. Where it says that
 //!   this is not kept, no engine is asked, and the turn is `Unwritten`. Else the engine is handed just
-//!   that one: its amount at the scale of the peer's balance, under the key of its entry's number.
+//!   that one: its amount at the scale of the peer's balance, under its key (`settlement_key_in` of
+//!   `ilp_desk`): that of its entry's number in the period, or the one that it had in an earlier one.
 //! - Where the engine accepted or refused it, a book is told so at the clock's next moment. Just
 //!   where it was still open, the answer is `Closed`, and the list grows by that record. Else it is
 //!   `Kept`, as where the engine said neither; then no book is told. Both have the amount and what
@@ -30,6 +31,7 @@
 //! the desk's own book, follows from no clause but from the session's code.
 #![tactic(auto)]
 
+mod keys;
 mod settler;
 mod settling;
 mod sweeper;

@@ -4,11 +4,13 @@ ghost use Rattle.ilp_book.specs.Configured.{IsKnown};
 ghost use Rattle.ilp_desk.specs.Portion.{holding};
 ghost use Rattle.ilp_settler.specs.Settler.{settler, no_accounts, none_tried, Turns};
 
-use crate::settling::{LONGEST_KEY, MOST_PEERS, SettlerParts};
+use crate::keys::LONGEST_KEY;
+use crate::settling::{MOST_PEERS, SettlerParts};
 use crate::turn::Turn;
 use ilp_desk::{Desk, End, JournalReceipt, Naming, Record, Share};
 use ilp_keeping::Keeper;
 use ilp_link_traits::{Clock, EngineLink};
+use ilp_oer::Octets;
 use std::alloc::{AllocError, Allocator, Global};
 use std::marker::Model;
 use std::sync::Wait;
@@ -77,7 +79,8 @@ impl<J: Naming, C: Clock + Drop, E: EngineLink + Drop, K: Keeper<J> + Drop, A: A
         ensures links { IfErr result (λ e. (e.clock ≡ clock) × (e.engine ≡ engine)) }
         ensures kept { IfErr result (λ e. (e.receipt ≡ receipt) × (e.keeper ≡ keeper)) }
     {
-        let Ok(key) = String::with_capacity(alloc, LONGEST_KEY) else {
+        let mut key = Octets::new(alloc);
+        let Ok(()) = key.reserve(LONGEST_KEY) else {
             return Err(NoSettler {
                 share,
                 receipt,
@@ -120,7 +123,8 @@ impl<J: Naming, C: Clock + Drop, E: EngineLink + Drop, K: Keeper<J> + Drop, A: A
     /// that, the open one behind the one that was tried last for this peer is taken up, else the
     /// first of all. Where none is open, the turn ends as `Idle`. The keeper is handed the journal
     /// that has its entry; where that is not kept, the turn ends as `Unwritten`. The engine is asked
-    /// for it under the key `RUN-NUMBER`, while no lock is held, and what it said is booked.
+    /// for it while no lock is held, and what it said is booked. The key is `RUN-NUMBER` in the first
+    /// period and `RUN.PERIOD-NUMBER` in a later one; a settlement of an earlier period keeps its own.
     ///
     /// The error is want of memory, which is denied before the engine is asked to settle. Nothing is
     /// booked then, share and records are as they were, and that the engine has the account is kept,

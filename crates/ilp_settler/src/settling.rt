@@ -1,25 +1,22 @@
 //! Of what a settler consists, and how it has a peer's engine settle.
-ghost use Rattle.std.specs.Prelude.{◌≡◌, ◌<◌, ◌≤◌, Ok, true, false, vec_len, vec_capacity, string_bytes, string_capacity};
+ghost use Rattle.std.specs.Prelude.{◌≡◌, ◌+◌, ◌<◌, ◌≤◌, Ok, true, false, length, vec_len, vec_capacity};
 ghost use Rattle.ilp_accounts.specs.Limits.{most_peers};
 ghost use Rattle.ilp_book.specs.Configured.{IsKnown};
 ghost use Rattle.ilp_desk.specs.Portion.{holding};
 ghost use Rattle.ilp_link_traits.specs.declared.links.EngineReply.{EngineReply};
 ghost use Rattle.ilp_link_traits.specs.Links.{Tells};
-ghost use Rattle.ilp_settler.specs.Settler.{settler, longest_key, key_text, knows_account, with_account, account_told, HasAccount, last_tried, with_tried, IsAsking, IsChoosing, IsTakingUp, settlement_told, verdict_by, IsClosing, ClosesBy, CarriesOut, record_of_close, Turns};
+ghost use Rattle.ilp_settler.specs.Settler.{settler, longest_key, knows_account, with_account, account_told, HasAccount, last_tried, with_tried, IsAsking, IsChoosing, IsTakingUp, settlement_told, verdict_by, IsClosing, ClosesBy, CarriesOut, record_of_close, Turns};
 
+use crate::keys::put_key;
 use crate::turn::Turn;
 use ilp_accounts::Config;
 use ilp_book::{AskFault, Asked, EngineVerdict};
 use ilp_desk::{Desk, End, JournalReceipt, Naming, Record, Recorded, Share};
 use ilp_keeping::Keeper;
 use ilp_link_traits::{Clock, EngineLink, EngineReply};
-use itoa::Buffer;
+use ilp_oer::Octets;
 use std::alloc::{AllocError, Allocator, Global};
 use std::sync::Wait;
-
-// The most octets that the key of a settlement has: RUN-NUMBER, where a run has at most 32 and the
-// number of an entry at most 10 digits.
-pub(crate) const LONGEST_KEY: usize = 43;
 
 // The most peers that a desk has.
 pub(crate) const MOST_PEERS: usize = 256;
@@ -41,12 +38,12 @@ pub(crate) struct SettlerParts<
     pub(crate) engine: E,
     pub(crate) keeper: K,
     // The key of the settlement that an engine is asked for.
-    pub(crate) key: String<A>,
+    pub(crate) key: Octets<A>,
     // By peers' places: whether the engine said that it has the account.
     pub(crate) accounts: [bool; MOST_PEERS],
     // By peers' places: the settlement that the engine was asked for last.
     pub(crate) tried: [Option<u32>; MOST_PEERS],
-    ghost room: { longest_key ≤ string_capacity key },
+    ghost room: { longest_key ≤ length key.octets + key.spare },
 }
 
 impl<
@@ -163,21 +160,22 @@ impl<
     }
 
     // Hands the settlement to the peer's engine, under its key. No lock is held meanwhile.
-    fn settle(&mut self, config: &Config, peer: u32, asked: Asked) -> EngineReply
-        requires known { IsKnown config.now peer }
+    fn settle(&mut self, rt: &impl Wait, desk: &Desk<J>, peer: u32, asked: Asked) -> EngineReply
+        requires known { IsKnown J.desk.config peer }
         ensures handed { Tells (E.told self.old.engine)
-            (settlement_told config.now peer asked result) (E.told self.new.engine) }
+            (settlement_told J.desk peer asked result) (E.told self.new.engine) }
         ensures books { (self.new.share ≡ self.old.share) × (self.new.records ≡ self.old.records)
             × (self.new.clock ≡ self.old.clock) × (self.new.accounts ≡ self.old.accounts) }
         ensures tried { self.new.tried ≡ with_tried self.old.tried peer asked.number }
         ensures keeping { (self.new.keeper ≡ self.old.keeper)
             × (self.new.receipt ≡ self.old.receipt) }
     {
-        put_key(&mut self.key, config, asked.number);
+        let config = desk.config();
+        put_key(rt, desk, asked.number, &mut self.key);
         let scale = config.scale(peer);
         self.tried[place_of(config, peer)] = Some(asked.number);
         self.engine
-            .settle(peer, self.key.as_str(), asked.amount, scale)
+            .settle(peer, self.key.as_slice(), asked.amount, scale)
     }
 
     // Has the settlement's entry kept, and then the engine asked.
@@ -209,7 +207,7 @@ impl<
         requires known { IsKnown J.desk.config peer }
         requires room { vec_len self.old.records < vec_capacity self.old.records }
         ensures settled { (said : EngineReply)
-            × Tells (E.told self.old.engine) (settlement_told J.desk.config peer asked said)
+            × Tells (E.told self.old.engine) (settlement_told J.desk peer asked said)
             (E.told self.new.engine)
             × ClosesBy J.desk peer asked said (verdict_by said) (C.told self.old.clock)
             (C.told self.new.clock) (holding self.old.share self.old.records.items)
@@ -219,7 +217,7 @@ impl<
         ensures keeping { (self.new.keeper ≡ self.old.keeper)
             × (self.new.receipt ≡ self.old.receipt) }
     {
-        let said = self.settle(desk.config(), peer, asked);
+        let said = self.settle(rt, desk, peer, asked);
         match verdict_by(said) {
             Some(verdict) => self.close(rt, desk, peer, asked, said, verdict),
             None => Turn::Kept {
@@ -305,26 +303,6 @@ fn place_of(config: &Config, peer: u32) -> usize
     // Called for what its contract tells: there are at most as many peers as places.
     let _ = config.peers();
     peer as usize
-}
-
-// Writes the key of the settlement of this number in place of what stands there, into the room that
-// there is.
-fn put_key<A: Allocator>(key: &mut String<A>, config: &Config, number: u32)
-    requires room { longest_key ≤ string_capacity key.old }
-    ensures text { string_bytes key.new ≡ key_text config.now number }
-    ensures room { longest_key ≤ string_capacity key.new }
-{
-    // Called for what its contract tells: a run is as long as one may be, at most.
-    let _ = config.peers();
-    let mut digits = Buffer::new();
-    key.clear();
-    let (Ok(()), Ok(()), Ok(())) = (
-        key.push_str(config.run()),
-        key.push_str("-"),
-        key.push_str(digits.format(number)),
-    ) else {
-        unreachable!();
-    };
 }
 
 // The record of a settlement that was closed by this entry.

@@ -11,16 +11,17 @@ use crate::warning::{JournalWarnings, Telling};
 use ilp_accounts::Config;
 use ilp_book::Book;
 use ilp_io::Recording;
-use ilp_journal_file::{FileFault, Found, JournalFile, LogDevice, PlacesFiles};
+use ilp_journal_file::{FileFault, Found, JournalFile, LogDevice, PlacesFiles, has_text};
 use ilp_line_file::{Device, LineFile};
 use ilp_log::LogStart;
 use ilp_log_text::head_text;
-use ilp_notices::{journal_absent, journal_carried, nothing_to_save};
+use ilp_notices::{journal_absent, journal_carried, journal_unread, nothing_to_save};
 use ilp_refusals::Refusal;
 use ilp_remembered::remembered_text;
 use ilp_running::{BegunLog, ServeFault, Unprinted};
 use std::fs::OpenFile;
-use std::io::{Eprint, Print, Read, Seek, Write};
+use std::io;
+use std::io::{Eprint, ErrorKind, Print, Read, Seek, Write};
 use std::rt::Files;
 
 /// A journal's file, which no other connector has, and the configuration by which its book is read.
@@ -71,6 +72,46 @@ where
         }
     }
 
+    /// The book of a journal whose books are to be closed: the one with which a run would begin, so no hold is
+    /// open in it. What there is to say of a sudden stop is told. Nothing is changed.
+    ///
+    /// Refusals: those of `book_of`; `JournalUnread` where there is neither a file nor a log, or the file can't be
+    /// used, of which a line on standard error says more.
+    pub fn ending(&self) -> Result<Book, Refused>
+        ensures config { IfOk result (λ b. b.config ≡ self.now.config.now) }
+        ensures opening { IfOk result (λ b. length b.entries ≡ b.base) }
+    {
+        let found = self.found()?;
+        if found.text.is_none() && found.log.is_none() {
+            let absent = io::Error::from(ErrorKind::NotFound);
+            journal_unread(self.rt, self.path, &absent);
+            return Err(Refused::from(Refusal::JournalUnread));
+        }
+        match found_book(self.rt, self.config, self.path, &found) {
+            Ok(carried) => {
+                carried.tell(self.rt, self.path, Telling::Line);
+                let Carried { book, source: _ } = carried;
+                Ok(book)
+            }
+            Err(refused) => Err(refused),
+        }
+    }
+
+    /// Has the file have the text of this book, and no log stand beside it. A book in which nothing was booked
+    /// needs no file.
+    ///
+    /// Refusals: `WriteFault` where a file can't be written or the log can't be removed, of which a line says
+    /// more; `JournalUnread`; `Memory`.
+    pub fn settle(&self, book: &Book) -> Result<(), Refused>
+        requires { book.now.config ≡ self.now.config.now }
+    {
+        self.saved_text(book)?;
+        match self.file.expect_no_log(self.rt) {
+            Ok(()) => Ok(()),
+            Err(fault) => Err(Refused::from(fault)),
+        }
+    }
+
     // Has the configuration remembered, and begins a log that goes on from this book.
     fn go_on(&self, book: &Book) -> Result<BegunLog<LogDevice<'r, R, F>>, Refused>
         requires { book.now.config ≡ self.now.config.now }
@@ -80,7 +121,10 @@ where
         self.begin_log(book)
     }
 
-    fn remember(&self) -> Result<(), Refused> {
+    /// Has the configuration remembered beside the file.
+    ///
+    /// Refusals: `WriteFault` and `JournalUnread`, of which a line on standard error says more; `Memory`.
+    pub fn remember(&self) -> Result<(), Refused> {
         let alloc = self.rt.alloc();
         let text = remembered_text(alloc, self.config)?;
         match self.file.remember(self.rt, alloc, text.as_bytes()) {
@@ -157,7 +201,7 @@ where
             config: self.config,
         };
         match self.file.read(rt, rt.alloc())? {
-            Some(text) if saved.is_text(&text) => return Ok(text),
+            Some(text) if has_text(&saved, &text) => return Ok(text),
             None if book.len() == 0 => return Ok(Vec::new(rt.alloc())),
             _ => {}
         }

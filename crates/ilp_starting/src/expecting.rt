@@ -2,8 +2,11 @@
 
 use std::alloc::{AllocError, Global};
 
-// What lines of entries have behind their moment and their actor.
-const FORMS: [(&str, &str); 7] = [
+// What a line of an entry has behind its moment and its actor, by its first word.
+type Form = (&'static str, &'static str);
+
+// Lines of what is booked.
+const FORMS: [Form; 7] = [
     ("hold", "hold FROM TO AMOUNT FEE OUT DEADLINE CONDITION"),
     ("fulfilled", "fulfilled HOLD PREIMAGE"),
     ("released", "released HOLD CAUSE"),
@@ -13,11 +16,23 @@ const FORMS: [(&str, &str); 7] = [
     ("undone", "undone ASK"),
 ];
 
+// Lines of what is brought forward, which only the text of a period above 0 has.
+const HEAD_FORMS: [Form; 3] = [
+    ("opened", "opened PEER BALANCE"),
+    ("known", "known PEER KEY AMOUNT SCALE CREDITED"),
+    ("pending", "pending PEER AMOUNT KEY"),
+];
+
+// What the text of a period above 0 begins with.
+const LATER_FORM: &[u8] = b"ilp-journal 2 ";
+
 /// What was expected at the line of this number, counted from 1, which is bad.
 pub(crate) fn expected_at(alloc: Global, text: &[u8], number: u64) -> Result<String, AllocError> {
     let before = number.saturating_sub(1);
     if before == 0 {
-        return format!(in alloc; "`ilp-journal 1`, ended by LF");
+        return format!(in alloc;
+            "`ilp-journal 1`, or of a period above 0 `ilp-journal 2 PERIOD`, ended by LF"
+        );
     }
     // The first line is none of an entry, and neither is the last.
     let entries = before - 1;
@@ -34,7 +49,7 @@ pub(crate) fn expected_at(alloc: Global, text: &[u8], number: u64) -> Result<Str
     }
     match lines.next() {
         None | Some([]) => format!(in alloc; "an entry, or `end {entries}` as the last line"),
-        Some(line) => match form_of(line) {
+        Some(line) => match form_in(text, line) {
             Some(form) => entry_of(alloc, form),
             None => {
                 format!(in alloc; "an entry, or `end {entries}`, ended by LF, as the last line")
@@ -55,7 +70,7 @@ pub(crate) fn expected_of_entry(
         .split(|octet| *octet == b'\n')
         .nth(before as usize)
         .unwrap_or(&[]);
-    match form_of(line) {
+    match form_of(&FORMS, line) {
         Some(form) => entry_of(alloc, form),
         None => format!(in alloc; "an entry, ended by LF"),
     }
@@ -66,10 +81,18 @@ fn entry_of(alloc: Global, form: &str) -> Result<String, AllocError> {
     format!(in alloc; "`MOMENT ACTOR {form}` with peers of the configuration, ended by LF")
 }
 
-// The form of the entry that a line seems to be meant for.
-fn form_of(line: &[u8]) -> Option<&'static str> {
+// The form of the entry that a line of this journal seems to be meant for.
+fn form_in(text: &[u8], line: &[u8]) -> Option<&'static str> {
+    match form_of(&FORMS, line) {
+        None if text.starts_with(LATER_FORM) => form_of(&HEAD_FORMS, line),
+        form => form,
+    }
+}
+
+// The one of these forms that a line seems to be meant for.
+fn form_of(forms: &[Form], line: &[u8]) -> Option<&'static str> {
     let word = line.split(|octet| *octet == b' ').nth(2)?;
-    FORMS
+    forms
         .iter()
         .find(|(name, _)| name.as_bytes() == word)
         .map(|(_, form)| *form)

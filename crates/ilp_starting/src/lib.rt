@@ -43,5 +43,6 @@ pub use finding::book_at;
 pub use host::Host;
 pub use ilp_journal_file::PlacesFiles;
 pub use refused::{Refused, RunFault};
+pub use saved::Saved;
 pub use serving::serve;
 pub use warning::{JournalWarnings, Telling, tell_warnings};

@@ -118,7 +118,9 @@ fn unlawful(
     rule: BrokenRule,
 ) -> Result<String, AllocError> {
     let line = behind.saturating_add(1);
-    format!(in alloc; "{file:?} line {line}: the entry {entry} is not lawful: {rule}")
+    format!(in alloc;
+        "{file:?} line {line}: the entry {entry} is not lawful: {rule}: where the configuration was changed, `connector new-period` brings the books forward to it"
+    )
 }
 
 fn unlawful_in_log(

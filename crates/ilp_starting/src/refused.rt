@@ -19,7 +19,7 @@ pub struct Refused {
 
 impl Refused {
     /// A refusal with the line that says why.
-    pub(crate) fn because(refusal: Refusal, why: Result<String, AllocError>) -> Refused
+    pub fn because(refusal: Refusal, why: Result<String, AllocError>) -> Refused
         ensures { result.refusal ≡ refusal }
     {
         Refused {

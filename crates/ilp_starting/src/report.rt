@@ -13,9 +13,9 @@ use std::io::{Eprint, Print};
 use std::time::Clock;
 use std::{io, str};
 
-// The most octets of a report: two lines for each of 256 peers, five for each of 64 assets and two more,
-// of 61 octets each.
-const LONGEST_REPORT: usize = 50_874;
+// The most octets of a report: two lines for each of 256 peers, five for each of 64 assets and three
+// more, of 61 octets each.
+const LONGEST_REPORT: usize = 50_935;
 
 /// Room for the longest report, to be made before anything is booked that it would tell of.
 pub(crate) fn room_for_report(alloc: Global) -> Result<Recording, AllocError>

@@ -62,7 +62,7 @@ where
         requires opening { length book.entries ≡ book.base }
         requires base { IfSome log (λ l. l.start.base ≤ length book.entries) }
         requires begun { D.claims → IfSome log (IsBegun D.seen D.may_leave) }
-        ensures { ClosesDesk (desk_of self.now.config.now book.entries) result }
+        ensures { ClosesDesk (desk_of self.now.config.now book) result }
     {
         let hurry = Hurry::new();
         let clock = SystemClock::new(*self.rt);

@@ -140,6 +140,9 @@ module _ (rows : List (List ℕ)) (j : Entries) (p : ℕ) (are : AreOpenAsks j r
   asks_after_is (what.Asked a) known c = asked_row a known
   asks_after_is (what.Confirmed n) known c = closed_row n (ask_at j n) refl known c.0
   asks_after_is (what.Undone n) known c = closed_row n (ask_at j n) refl known c.0
+  asks_after_is (what.Opened peer balance) known c = nothing
+  asks_after_is (what.Known credit) known c = nothing
+  asks_after_is (what.Pending peer amount key) known c = asked_row (record { peer = peer; amount = amount }) known
 
 -- the open settlements after one more entry
 pub open_asks_grow : (rows : List (List ℕ)) (j : Entries) (e : Entry) → AreOpenAsks j rows → KnowsNamed (length rows) j e.what → Each ClosesOnce j → ClosesOnce j e
@@ -163,3 +166,6 @@ asks_after-length rows j (what.Undone n) = of (ask_at j n)
     of : (o : Option Ask) → length (without_named rows n o) ≡ length rows
     of None = refl
     of (Some a) = length-set rows a.peer (filter (λ k. not (k == n)) (asks_row rows a.peer))
+asks_after-length rows j (what.Opened peer balance) = refl
+asks_after-length rows j (what.Known c) = refl
+asks_after-length rows j (what.Pending peer amount key) = length-set rows peer (asks_row rows peer ++ length j ∷ [])

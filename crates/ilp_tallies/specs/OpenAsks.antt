@@ -16,9 +16,10 @@ is_open_ask_of peer j n e = is_ask_of peer e.what && is_unclosed j n
 abbrev pub open_numbers : Entries → ℕ → List ℕ
 open_numbers j peer = places_from (is_open_ask_of peer j) 0 j
 
--- fewer than the most are open to the peer that an entry asks for a settlement to
+-- fewer than the most are open to the peer to whom an entry opens a settlement
 abbrev pub HasRoomToAsk : Entries → What → Type 0
 HasRoomToAsk j (what.Asked a) = open_asks j a.peer < MOST_OPEN
+HasRoomToAsk j (what.Pending peer amount key) = open_asks j peer < MOST_OPEN
 HasRoomToAsk j _ = ⊤
 
 -- ---- a row of numbers for each peer
@@ -53,3 +54,6 @@ asks_after rows j (what.Credited c) = rows
 asks_after rows j (what.Asked a) = with_ask rows a.peer (length j)
 asks_after rows j (what.Confirmed ask) = without_named rows ask (ask_at j ask)
 asks_after rows j (what.Undone ask) = without_named rows ask (ask_at j ask)
+asks_after rows j (what.Opened peer balance) = rows
+asks_after rows j (what.Known c) = rows
+asks_after rows j (what.Pending peer amount key) = with_ask rows peer (length j)

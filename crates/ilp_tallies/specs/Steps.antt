@@ -1,11 +1,12 @@
 -- What each kind of entry adds: to the rows of two peers and of the assets that they have, and to the counts.
-use Rattle.std.specs.Prelude.{ℕ, ◌≤◌, nat_le, length, Option, unwrap_or, option_map, if◌then◌else◌}
+use Rattle.std.specs.Prelude.{ℕ, ℤ, ◌≤◌, nat_le, length, Option, unwrap_or, option_map, if◌then◌else◌}
 use Rattle.ilp_journal.specs.declared.entry.What.{What}
 use Rattle.ilp_journal.specs.declared.entry.What.TheVariants as what
 use Rattle.ilp_journal.specs.declared.entry.Hold.{Hold}
 use Rattle.ilp_journal.specs.declared.entry.Ask.{Ask}
 use Rattle.ilp_journal.specs.declared.entry.Credited.{Credited}
 use Rattle.ilp_journal.specs.Journal.{Entries, hold_at, ask_at}
+use Rattle.ilp_journal.specs.Balance.{above, below}
 use Rattle.ilp_tallies.specs.declared.step.Step.{Step}
 use Rattle.ilp_tallies.specs.Rows.{zero_peer, zero_asset, peer_plus, asset_plus, FitsPeer, FitsAsset}
 
@@ -86,6 +87,17 @@ confirm_step a = record (no_step a.peer) { closed = 1 }
 abbrev pub undo_step : Ask → Step
 undo_step a = record (paid_in a.peer a.amount) { closed = 1 }
 
+-- a balance that is brought forward raises or lowers the balance of its peer
+abbrev pub open_step : ℕ → ℤ → Step
+open_step peer balance = record (no_step peer) {
+  from_row = record zero_peer { raised = above balance; lowered = below balance };
+  from_sums = record zero_asset { paid_in = above balance; paid_out = below balance };
+}
+
+-- a settlement that is still open changes no balance
+abbrev pub pending_step : ℕ → Step
+pending_step peer = record (no_step peer) { opened = 1 }
+
 -- the step that was found; where there is none, a step that adds nothing
 abbrev pub or_nothing : Option Step → Step
 or_nothing o = unwrap_or o (no_step 0)
@@ -99,6 +111,9 @@ step_of base j (what.Credited c) = credit_step c
 step_of base j (what.Asked a) = ask_step a
 step_of base j (what.Confirmed ask) = or_nothing (option_map confirm_step (ask_at j ask))
 step_of base j (what.Undone ask) = or_nothing (option_map undo_step (ask_at j ask))
+step_of base j (what.Opened peer balance) = open_step peer balance
+step_of base j (what.Known c) = no_step c.peer
+step_of base j (what.Pending peer amount key) = pending_step peer
 
 -- the step of one entry adds to each number at most an amount of 64 bits, and to each count at most 1
 pub record FitsStep (s : Step) : Type 0 where

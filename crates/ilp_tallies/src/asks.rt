@@ -45,8 +45,8 @@ pub(crate) fn next_ask<A: Allocator>(
     }
 }
 
-/// Adds the settlement that an entry asks for, or removes the one that it closes. The entry comes
-/// next in the journal.
+/// Adds the settlement that an entry opens, or removes the one that it closes. The entry comes next
+/// in the journal.
 pub(crate) fn update_asks<A: Allocator, B: Allocator>(
     rows: &mut Vec<OpenAsks, A>,
     journal: &Journal<B>,
@@ -58,6 +58,7 @@ pub(crate) fn update_asks<A: Allocator, B: Allocator>(
 {
     match what {
         What::Asked(ask) => add_ask(rows, ask.peer, journal.len()),
+        What::Pending { peer, .. } => add_ask(rows, *peer, journal.len()),
         What::Confirmed { ask } | What::Undone { ask } => {
             let named = journal.ask(*ask);
             remove_named(rows, *ask, named);

@@ -4,7 +4,7 @@ ghost use Rattle.ilp_tallies.specs.Steps as steps;
 ghost use Rattle.ilp_tallies.specs.Steps.{FitsStep};
 
 use crate::rows::{AssetRow, PeerRow};
-use ilp_journal::{Ask, Credited, Hold, Journal, What};
+use ilp_journal::{Ask, Credited, Hold, Journal, What, above, below};
 use std::alloc::Allocator;
 
 /// What an entry adds: to the rows of two peers and of the assets that they have, and to the
@@ -57,6 +57,9 @@ pub(crate) fn step_of<A: Allocator>(base: u32, journal: &Journal<A>, what: &What
             Some(ask) => undo_step(&ask),
             None => no_step(0),
         },
+        What::Opened { peer, balance } => open_step(*peer, *balance),
+        What::Known(credited) => no_step(credited.peer),
+        What::Pending { peer, .. } => pending_step(*peer),
     }
 }
 
@@ -217,6 +220,39 @@ fn undo_step(ask: &Ask) -> Step
     Step {
         closed: 1,
         ..paid_in(ask.peer, ask.amount)
+    }
+}
+
+// A balance that is brought forward raises or lowers the balance of its peer.
+fn open_step(peer: u32, balance: i64) -> Step
+    ensures step { result ≡ steps.open_step peer balance }
+    ensures fits { FitsStep result }
+{
+    let raised = u128::from(above(balance));
+    let lowered = u128::from(below(balance));
+    Step {
+        from_row: PeerRow {
+            raised,
+            lowered,
+            ..PeerRow::zero()
+        },
+        from_sums: AssetRow {
+            paid_in: raised,
+            paid_out: lowered,
+            ..AssetRow::zero()
+        },
+        ..no_step(peer)
+    }
+}
+
+// A settlement that is still open changes no balance.
+fn pending_step(peer: u32) -> Step
+    ensures step { result ≡ steps.pending_step peer }
+    ensures fits { FitsStep result }
+{
+    Step {
+        opened: 1,
+        ..no_step(peer)
     }
 }
 

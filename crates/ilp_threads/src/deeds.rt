@@ -3,7 +3,6 @@
 
 use crate::threads::Shared;
 use ilp_desk::Naming;
-use ilp_journal::What;
 use ilp_notices::{ShownKey, ToldQuantity};
 use ilp_server::Deed;
 use ilp_settlement::Quantity;
@@ -68,19 +67,17 @@ struct ShownCredit {
     quantity: ToldQuantity,
 }
 
-// The credit that the entry of this number is. The lock is free again when it is told.
+// The credit whose key the entry of this number keeps. The lock is free again when it is told.
 fn credit_at<J: Naming, R: Wait>(shared: &Shared<'_, J, R>, number: u32) -> Option<ShownCredit> {
     let locked = shared.desk.lock(shared.rt);
-    match &locked.book().entry(number)?.what {
-        What::Credited(credit) => Some(ShownCredit {
-            key: ShownKey::new(credit.key.as_slice()),
-            quantity: ToldQuantity {
-                amount: credit.named,
-                scale: credit.scale,
-            },
-        }),
-        _ => None,
-    }
+    let credit = locked.book().entry(number)?.what.credit()?;
+    Some(ShownCredit {
+        key: ShownKey::new(credit.key.as_slice()),
+        quantity: ToldQuantity {
+            amount: credit.named,
+            scale: credit.scale,
+        },
+    })
 }
 
 /// Counts a Reject whose response was written whole.

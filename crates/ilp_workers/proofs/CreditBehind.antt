@@ -11,7 +11,7 @@ use Rattle.ilp_book.specs.declared.calls.Kept.{Kept}
 use Rattle.ilp_book.specs.declared.fault.CreditFault.{CreditFault}
 use Rattle.ilp_book.specs.declared.fault.CreditFault.TheVariants as credit_fault
 use Rattle.ilp_book.specs.Book.{PlainBook, By, by, Growth, granted, denied, Does, has_room, entry_by, appended, with_entry}
-use Rattle.ilp_book.specs.Open.{as_credit, credit_at}
+use Rattle.ilp_journal.specs.Credits.{as_credit, credit_at}
 use Rattle.ilp_book.specs.SettleStep.{kept, credit_kept, Payment, amount_of, credit_of, credit_fresh, credit_checked, credit_growth, credit_booked, credit_step}
 use Rattle.ilp_desk.specs.Desk.{PlainDesk}
 use Rattle.ilp_keeping.specs.declared.keeper.NotKept.{NotKept}

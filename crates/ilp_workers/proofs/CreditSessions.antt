@@ -1,8 +1,9 @@
 -- What a worker learns of a credit: how many entries it booked, and what amount it answers.
-use Rattle.std.proofs.Common.{◌≡◌, ◌≢◌, ℕ, ◌≤◌, ℤ, Bool, true, false, cond, List, [], ◌∷◌, ◌++◌, length, Option, Some, None, refl, sym, ap, ◌∙◌, subst, arith}
-use Rattle.std.specs.Prelude.{◌<◌, ◌^◌, Result, Ok, Err, slice_get, nat_lt, ◌==◌, ◌&&◌, not, option_and_then, option_map, unwrap_or, IfOk}
+use Rattle.std.proofs.Common.{◌≡◌, ◌≢◌, ℕ, ◌≤◌, ℤ, Bool, true, false, cond, List, [], ◌∷◌, ◌++◌, length, Option, Some, None, refl, sym, ap, ◌∙◌, subst, arith, inl, inr}
+use Rattle.std.specs.Prelude.{◌<◌, ◌^◌, ◌⊎◌, Result, Ok, Err, slice_get, nat_lt, ◌==◌, ◌&&◌, not, option_and_then, option_map, unwrap_or, IfOk}
 use Rattle.std.specs.Str.{bytes_eq}
 use Rattle.std.proofs.lemmas.Bool.{eqb-true, le-ltb}
+use Rattle.std.proofs.lemmas.Result.{IfOk-weaker}
 use Rattle.std.proofs.lemmas.Slice.Eq.{bytes_eq-Decides}
 use Rattle.ilp_assets.specs.Quote.{most}
 use Rattle.ilp_settlement.specs.declared.quantity.Quantity.{Quantity}
@@ -10,6 +11,7 @@ use Rattle.ilp_settlement.specs.Quantity.{credited_at}
 use Rattle.ilp_accounts.specs.Configuration.{Configuration}
 use Rattle.ilp_journal.specs.declared.entry.Entry.{Entry}
 use Rattle.ilp_journal.specs.declared.entry.What.{What}
+use Rattle.ilp_journal.specs.declared.entry.What.TheVariants as what
 use Rattle.ilp_journal.specs.declared.entry.Credited.{Credited}
 use Rattle.ilp_journal.specs.Places.{Each}
 use Rattle.ilp_journal.specs.Journal.{Entries}
@@ -22,15 +24,15 @@ use Rattle.ilp_book.specs.declared.fault.CreditFault.{CreditFault}
 use Rattle.ilp_book.specs.declared.fault.CreditFault.TheVariants as credit_fault
 use Rattle.ilp_book.specs.Configured.{scale_at}
 use Rattle.ilp_book.specs.Book.{PlainBook, By, by, Growth, granted, denied, Made, Does, has_room}
-use Rattle.ilp_book.specs.Open.{as_credit, credit_at, has_key, kept_at}
-use Rattle.ilp_book.specs.Lawful.{IsLawful, KeepsRuleOf, quantity_named}
+use Rattle.ilp_journal.specs.Credits.{as_credit, credit_at, has_key, kept_at}
+use Rattle.ilp_book.specs.Lawful.{IsLawful, KeepsRule, KeepsRuleOf, quantity_named}
 use Rattle.ilp_book.specs.SettleStep.{kept, credit_kept, Payment, amount_of, credit_of, credit_fresh, credit_checked, credit_growth, credit_booked, credit_step}
 use Rattle.ilp_rules.proofs.Standing.{first_found}
-use Rattle.ilp_rules.proofs.Rules.{rule_credits}
-use Rattle.ilp_desk.specs.Desk.{PlainDesk}
+use Rattle.ilp_desk.specs.Desk.{PlainDesk, IsBookOf}
+use Rattle.ilp_desk.proofs.Heads.{same_stands}
 use Rattle.ilp_link_traits.specs.Links.{Tells}
 use Rattle.ilp_workers.specs.Worker.{Seat}
-use Rattle.ilp_workers.specs.Crediting.{IsCreditedAt, kept_of, IsCredited}
+use Rattle.ilp_workers.specs.Crediting.{IsCreditedAt, kept_of, as_known, known_at, IsKnownCredit, TellsAmount, IsCredited}
 use Rattle.ilp_desk.proofs.Raising.{raised_by, count_in, booked_more}
 
 -- ---- credits of a lawful journal
@@ -39,19 +41,36 @@ use Rattle.ilp_desk.proofs.Raising.{raised_by, count_in, booked_more}
 abbrev IsRounded : Configuration → Credited → Type 0
 IsRounded C c = c.credited ≡ credited_at (quantity_named c) (scale_at C c.peer)
 
+-- or it is one of an earlier period
+abbrev IsRoundedOr : PlainBook → Option Credited → Credited → Type 0
+IsRoundedOr book known c = IsRounded book.config c ⊎ ((0 < book.period) × (known ≡ Some c))
+
+rule_rounds : (book : PlainBook) (j : Entries) (m : ℤ) (w : What) (c : Credited) → as_credit w ≡ Some c → KeepsRule book.config book.period book.base j m w → IsRoundedOr book (as_known w) c
+rule_rounds book j m (what.Hold h) c is rule = absurd cc
+rule_rounds book j m (what.Fulfilled n preimage) c is rule = absurd cc
+rule_rounds book j m (what.Released n cause) c is rule = absurd cc
+rule_rounds book j m (what.Credited d) c is rule = inl (subst (IsRounded book.config) (some_same d c is) rule.rounded)
+rule_rounds book j m (what.Asked a) c is rule = absurd cc
+rule_rounds book j m (what.Confirmed n) c is rule = absurd cc
+rule_rounds book j m (what.Undone n) c is rule = absurd cc
+rule_rounds book j m (what.Opened peer balance) c is rule = absurd cc
+rule_rounds book j m (what.Known d) c is rule = inr (rule.later, is)
+rule_rounds book j m (what.Pending peer amount key) c is rule = absurd cc
+
 -- whichever it is
-all_rounded : (book : PlainBook) (j : Entries) → Each (KeepsRuleOf book) j → (n : ℕ) (c : Credited) → credit_at j n ≡ Some c → IsRounded book.config c
-all_rounded book = by_push (λ j. Each (KeepsRuleOf book) j → (n : ℕ) (c : Credited) → credit_at j n ≡ Some c → IsRounded book.config c) (λ _ n c at. absurd cc) more
+all_rounded : (book : PlainBook) (j : Entries) → Each (KeepsRuleOf book) j → (n : ℕ) (c : Credited) → credit_at j n ≡ Some c → IsRoundedOr book (known_at j n) c
+all_rounded book = by_push (λ j. Each (KeepsRuleOf book) j → (n : ℕ) (c : Credited) → credit_at j n ≡ Some c → IsRoundedOr book (known_at j n) c) (λ _ n c at. absurd cc) more
   where
-    more : (j : Entries) (e : Entry) → (Each (KeepsRuleOf book) j → (n : ℕ) (c : Credited) → credit_at j n ≡ Some c → IsRounded book.config c)
-        → Each (KeepsRuleOf book) (j ++ e ∷ []) → (n : ℕ) (c : Credited) → credit_at (j ++ e ∷ []) n ≡ Some c → IsRounded book.config c
+    more : (j : Entries) (e : Entry) → (Each (KeepsRuleOf book) j → (n : ℕ) (c : Credited) → credit_at j n ≡ Some c → IsRoundedOr book (known_at j n) c)
+        → Each (KeepsRuleOf book) (j ++ e ∷ []) → (n : ℕ) (c : Credited) → credit_at (j ++ e ∷ []) n ≡ Some c → IsRoundedOr book (known_at (j ++ e ∷ []) n) c
     more j e before each n c at =
         let parts : Each (KeepsRuleOf book) j × KeepsRuleOf book j e = Each-parts (KeepsRuleOf book) j e each in
-        of (n == length j) (sym (stands_at-push as_credit j e n) ∙ at) parts
+        of (n == length j) (known_at (j ++ e ∷ []) n) (stands_at-push as_known j e n) (sym (stands_at-push as_credit j e n) ∙ at) parts
       where
-        of : (last : Bool) → cond last (as_credit e.what) (credit_at j n) ≡ Some c → Each (KeepsRuleOf book) j × KeepsRuleOf book j e → IsRounded book.config c
-        of true at parts = (rule_credits book.config book.base j e.moment e.what c at parts.1).rounded
-        of false at parts = before parts.0 n c at
+        of : (last : Bool) (known : Option Credited) → known ≡ cond last (as_known e.what) (known_at j n) → cond last (as_credit e.what) (credit_at j n) ≡ Some c
+            → Each (KeepsRuleOf book) j × KeepsRuleOf book j e → IsRoundedOr book known c
+        of true known is at parts = subst (λ o. IsRoundedOr book o c) (sym is) (rule_rounds book j e.moment e.what c at parts.1)
+        of false known is at parts = subst (λ o. IsRoundedOr book o c) (sym is) (before parts.0 n c at)
 
 -- the credit that is kept under a peer's key is the peer's
 pub kept_is_its : (j : Entries) (peer : ℕ) (key : List ℕ) (n : ℕ) (c : Credited) → kept j peer key ≡ Some (n, c) → (credit_at j n ≡ Some c) × (c.peer ≡ peer) × (c.key ≡ key)
@@ -85,51 +104,95 @@ kept_is_its j peer key n c e = of (kept_at j peer key) refl e
 
 -- A step of a payment makes as many entries as are kept of its reply, answers what the payment comes to, and refuses none as too
 -- large that isn't.
-record IsCreditStep (C : Configuration) (p : Payment) (made : Made (Result Kept CreditFault)) : Type 0 where
+record IsCreditStep (book : PlainBook) (p : Payment) (made : Made (Result Kept CreditFault)) : Type 0 where
   pub counted : count_in made.entry ≡ length (kept_of p made.reply)
-  pub amount : IfOk made.reply (λ told. told.amount ≡ amount_of C p)
+  pub amount : IfOk made.reply (TellsAmount book.config book.period book.entries p)
   pub allowed : made.reply ≢ Err credit_fault.TooLarge
 
 -- a credit that is kept is answered as it was
 by_kept : (book : PlainBook) (caller : By) (p : Payment) (growth : Growth) (n : ℕ) (c : Credited) → IsLawful book → kept book.entries p.peer p.key ≡ Some (n, c)
-    → IsCreditStep book.config p (credit_booked book caller growth (Err (credit_kept p.quantity (n, c))))
+    → IsCreditStep book p (credit_booked book caller growth (Err (credit_kept p.quantity (n, c))))
 by_kept book caller p growth n c lawful is = of (c.named == p.quantity.amount) (c.scale == p.quantity.scale) refl refl
   where
     its : (credit_at book.entries n ≡ Some c) × (c.peer ≡ p.peer) × (c.key ≡ p.key)
     its = kept_is_its book.entries p.peer p.key n c is
 
-    amount : c.named ≡ p.quantity.amount → c.scale ≡ p.quantity.scale → c.credited ≡ amount_of book.config p
-    amount named scale =
-        all_rounded book book.entries lawful.rules n c its.0
+    rounded : IsRounded book.config c → c.named ≡ p.quantity.amount → c.scale ≡ p.quantity.scale → c.credited ≡ amount_of book.config p
+    rounded is named scale =
+        is
         ∙ (ap (λ a. credited_at (record { amount = a; scale = c.scale }) (scale_at book.config c.peer)) named
         ∙ (ap (λ s. credited_at (record { amount = p.quantity.amount; scale = s }) (scale_at book.config c.peer)) scale
         ∙ ap (λ x. credited_at p.quantity (scale_at book.config x)) its.1))
 
+    kept_now : Kept
+    kept_now = record { number = n; amount = c.credited; fresh = false }
+
+    amount : c.named ≡ p.quantity.amount → c.scale ≡ p.quantity.scale → IsRoundedOr book (known_at book.entries n) c → TellsAmount book.config book.period book.entries p kept_now
+    amount named scale (inl is) = inl (rounded is named scale)
+    amount named scale (inr is) = inr (record {
+      later = is.0;
+      credit = c;
+      known = is.1;
+      peer = its.1;
+      key = its.2;
+      named = named;
+      scale = scale;
+      amount = refl;
+    })
+
     of : (a b : Bool) → (c.named == p.quantity.amount) ≡ a → (c.scale == p.quantity.scale) ≡ b
-        → IsCreditStep book.config p (credit_booked book caller growth (Err (cond (a && b) (Ok (record { number = n; amount = c.credited; fresh = false })) (Err (credit_fault.KeyTaken n)))))
-    of true true named scale = record { counted = refl; amount = amount (eqb-true _ _ named) (eqb-true _ _ scale); allowed = λ e. cc }
+        → IsCreditStep book p (credit_booked book caller growth (Err (cond (a && b) (Ok (record { number = n; amount = c.credited; fresh = false })) (Err (credit_fault.KeyTaken n)))))
+    of true true named scale = record { counted = refl; amount = amount (eqb-true _ _ named) (eqb-true _ _ scale) (all_rounded book book.entries lawful.rules n c its.0); allowed = λ e. cc }
     of true false named scale = record { counted = refl; amount = tt; allowed = λ e. cc }
     of false b named scale = record { counted = refl; amount = tt; allowed = λ e. cc }
 
 -- a new one is booked, if there is room and memory for it
-by_fitted : (book : PlainBook) (caller : By) (p : Payment) (growth : Growth) (room : Bool) → IsCreditStep book.config p (credit_booked book caller growth (refuse_if (not room) (Err credit_fault.Full) >>= λ _. Ok (credit_of book.config p)))
+by_fitted : (book : PlainBook) (caller : By) (p : Payment) (growth : Growth) (room : Bool) → IsCreditStep book p (credit_booked book caller growth (refuse_if (not room) (Err credit_fault.Full) >>= λ _. Ok (credit_of book.config p)))
 by_fitted book caller p growth false = record { counted = refl; amount = tt; allowed = λ e. cc }
 by_fitted book caller p denied true = record { counted = refl; amount = tt; allowed = λ e. cc }
-by_fitted book caller p granted true = record { counted = refl; amount = refl; allowed = λ e. cc }
+by_fitted book caller p granted true = record { counted = refl; amount = inl refl; allowed = λ e. cc }
 
-credit_step_is : (book : PlainBook) (caller : By) (p : Payment) (growth : Growth) → IsLawful book → amount_of book.config p ≤ most → IsCreditStep book.config p (credit_step book caller p growth)
+credit_step_is : (book : PlainBook) (caller : By) (p : Payment) (growth : Growth) → IsLawful book → amount_of book.config p ≤ most → IsCreditStep book p (credit_step book caller p growth)
 unfolding credit_step credit_checked
 credit_step_is book caller p growth lawful fits =
     let Step : Bool → Option (ℕ × Credited) → Type 0 = λ large o.
-    IsCreditStep book.config p (credit_booked book caller growth (refuse_if large (Err credit_fault.TooLarge) >>= λ _. credit_fresh book p o)) in
+    IsCreditStep book p (credit_booked book caller growth (refuse_if large (Err credit_fault.TooLarge) >>= λ _. credit_fresh book p o)) in
     let small : nat_lt most (amount_of book.config p) ≡ false = le-ltb most (amount_of book.config p) fits in
     subst (λ b. Step b (kept book.entries p.peer p.key)) (sym small) (of (kept book.entries p.peer p.key) refl)
   where
-    of : (o : Option (ℕ × Credited)) → kept book.entries p.peer p.key ≡ o → IsCreditStep book.config p (credit_booked book caller growth (credit_fresh book p o))
+    of : (o : Option (ℕ × Credited)) → kept book.entries p.peer p.key ≡ o → IsCreditStep book p (credit_booked book caller growth (credit_fresh book p o))
     of None is = by_fitted book caller p growth (has_room book 1)
     of (Some x) is = by_kept book caller p growth x.0 x.1 lawful is
 
 -- ---- sessions
+
+-- nothing of an earlier period is credited again since the desk was opened
+no_later_known : (C : Configuration) (period base : ℕ) (before : Entries) (m : ℤ) (w : What) → base ≤ length before → KeepsRule C period base before m w → as_known w ≡ None
+no_later_known C period base before m (what.Hold h) later rule = refl
+no_later_known C period base before m (what.Fulfilled hold preimage) later rule = refl
+no_later_known C period base before m (what.Released hold cause) later rule = refl
+no_later_known C period base before m (what.Credited c) later rule = refl
+no_later_known C period base before m (what.Asked a) later rule = refl
+no_later_known C period base before m (what.Confirmed ask) later rule = refl
+no_later_known C period base before m (what.Undone ask) later rule = refl
+no_later_known C period base before m (what.Opened peer balance) later rule = refl
+no_later_known C period base before m (what.Known c) later rule = absurd (omega (arith, rule.begun, later))
+no_later_known C period base before m (what.Pending peer amount key) later rule = refl
+
+-- so what a book of the desk tells, the desk tells
+tells_of_desk : (desk : PlainDesk) (book : PlainBook) (p : Payment) (told : Kept) → IsBookOf desk book → TellsAmount book.config book.period book.entries p told
+    → TellsAmount desk.config desk.period desk.opening p told
+tells_of_desk desk book p told of_desk (inl same) = inl (same ∙ ap (λ C. amount_of C p) of_desk.config)
+tells_of_desk desk book p told of_desk (inr was) = inr (record {
+  later = subst (λ period. 0 < period) of_desk.period was.later;
+  credit = was.credit;
+  known = sym (same_stands as_known no_later_known desk book told.number of_desk) ∙ was.known;
+  peer = was.peer;
+  key = was.key;
+  named = was.named;
+  scale = was.scale;
+  amount = was.amount;
+})
 
 -- A session with a payment that is not too large, at a moment that the clock gave, and what is kept of it.
 pub credited_by : (desk : PlainDesk) (p : Payment) (before after : Seat) (now : ℤ) (reply : Result Kept CreditFault)
@@ -149,7 +212,8 @@ credited_by desk p before after now reply fits asked at is unkept =
       raised = raised_by desk old at.1 before.share after.share (length (kept_of p reply)) at.2
           (booked_more old at.1 reply made (length (kept_of p reply)) does (step.counted ∙ ap (λ r. length (kept_of p r)) (sym does.reply)));
       records = is;
-      amount = subst (λ r. IfOk r (λ told. told.amount ≡ amount_of desk.config p)) (sym does.reply) (subst (λ C. IfOk made.reply (λ told. told.amount ≡ amount_of C p)) at.2.found.config step.amount);
+      amount = subst (λ r. IfOk r (TellsAmount desk.config desk.period desk.opening p)) (sym does.reply)
+          (IfOk-weaker made.reply (TellsAmount old.config old.period old.entries p) (TellsAmount desk.config desk.period desk.opening p) (λ told. tells_of_desk desk old p told at.2.found) step.amount);
       allowed = λ e. step.allowed (sym does.reply ∙ e);
       unkept = unkept;
     }

@@ -1,14 +1,17 @@
 -- What becomes of a settlement from a peer, which the peer's engine tells a worker of.
-use Rattle.std.specs.Prelude.{◌≡◌, ◌≢◌, ◌+◌, ◌<◌, ◌≤◌, ℤ, ◌⊎◌, List, [], ◌∷◌, ◌++◌, length, Some, Result, Ok, Err, IfOk, if◌then◌else◌}
+use Rattle.std.specs.Prelude.{◌≡◌, ◌≢◌, ℕ, ◌+◌, ◌<◌, ◌≤◌, ℤ, ◌⊎◌, List, [], ◌∷◌, ◌++◌, length, Option, Some, None, option_and_then, slice_get, Result, Ok, Err, IfOk, if◌then◌else◌}
 use Rattle.ilp_assets.specs.Quote.{most}
 use Rattle.ilp_accounts.specs.Configuration.{Configuration}
+use Rattle.ilp_journal.specs.declared.entry.Entry.{Entry}
+use Rattle.ilp_journal.specs.declared.entry.What.{What}
+use Rattle.ilp_journal.specs.declared.entry.What.TheVariants as what
 use Rattle.ilp_journal.specs.declared.entry.Credited.{Credited}
 use Rattle.ilp_journal.specs.Journal.{Entries}
 use Rattle.ilp_book.specs.declared.calls.Kept.{Kept}
 use Rattle.ilp_book.specs.declared.fault.CreditFault.{CreditFault}
 use Rattle.ilp_book.specs.declared.fault.CreditFault.TheVariants as credit_fault
 use Rattle.ilp_book.specs.Book.{by}
-use Rattle.ilp_book.specs.Open.{credit_at}
+use Rattle.ilp_journal.specs.Credits.{credit_at}
 use Rattle.ilp_book.specs.SettleStep.{Payment, amount_of, credit_growth, credit_step}
 use Rattle.ilp_desk.specs.declared.record.Record.{Record}
 use Rattle.ilp_desk.specs.declared.record.Recorded.TheVariants as recorded
@@ -40,8 +43,32 @@ abbrev pub kept_of : Payment → Result Kept CreditFault → List Record
 kept_of p (Ok kept) = if kept.fresh then record_of_credit p kept ∷ [] else []
 kept_of p (Err fault) = []
 
+-- the credit of an earlier period that an entry brings forward
+abbrev pub as_known : What → Option Credited
+as_known (what.Known c) = Some c
+as_known _ = None
+
+abbrev pub known_at : Entries → ℕ → Option Credited
+known_at j n = option_and_then (λ (e : Entry). as_known e.what) (slice_get j n)
+
+-- In a period above 0 a credit of an earlier one was brought forward under the payment's key, of the same quantity, and what is told
+-- is the amount that was credited then.
+pub record IsKnownCredit (period : ℕ) (j : Entries) (p : Payment) (told : Kept) : Type 0 where
+  pub later : 0 < period
+  pub credit : Credited
+  pub known : known_at j told.number ≡ Some credit
+  pub peer : credit.peer ≡ p.peer
+  pub key : credit.key ≡ p.key
+  pub named : credit.named ≡ p.quantity.amount
+  pub scale : credit.scale ≡ p.quantity.scale
+  pub amount : told.amount ≡ credit.credited
+
+-- what is told is what the payment comes to, or what was credited in an earlier period
+abbrev pub TellsAmount : Configuration → ℕ → Entries → Payment → Kept → Type 0
+TellsAmount C period j p told = (told.amount ≡ amount_of C p) ⊎ IsKnownCredit period j p told
+
 -- A payment that is not too large is told to a book, at a moment that the clock gives. Share and records are raised by the credit
--- that this made, if it made one; the amount of the reply is what the payment comes to, also where an earlier credit is kept.
+-- that this made, if it made one; the amount of the reply is what the payment comes to, also where a credit of this period is kept.
 pub record IsCredited (desk : PlainDesk) (p : Payment) (before after : Seat) (reply : Result Kept CreditFault) : Type 0 where
   pub fits : amount_of desk.config p ≤ most
   pub now : ℤ
@@ -49,7 +76,7 @@ pub record IsCredited (desk : PlainDesk) (p : Payment) (before after : Seat) (re
   pub booked : IsCreditedAt desk p now before.seen after.seen before.share after.share reply
   pub raised : after.share ≡ portion before.share.actor (before.share.entries + length (kept_of p reply))
   pub records : after.records ≡ before.records ++ kept_of p reply
-  pub amount : IfOk reply (λ told. told.amount ≡ amount_of desk.config p)
+  pub amount : IfOk reply (TellsAmount desk.config desk.period desk.opening p)
   pub allowed : reply ≢ Err credit_fault.TooLarge
   pub unkept : after.kept ≡ before.kept
 

@@ -56,7 +56,7 @@
 //!   peer's balance; then it may refuse as for want of memory. Both leave all as it was.
 //! - `credit` else has a book of the desk credit it under its key at a moment of the clock. Share
 //!   and records grow by one just where that is a new credit. The answer is what the quantity comes
-//!   to, also where an earlier credit is kept.
+//!   to, also where a credit is kept; of one of an earlier period it is what was credited then.
 //! - Of either the keeper is first handed the journal that has it. Where it says that this isn't
 //!   kept, the answer is `NotKept`, and entry and record stay. Of a refusal it is handed nothing.
 //! - `credits_are_told_behind_their_entries`: so, over a keeper that tells, the last that it was

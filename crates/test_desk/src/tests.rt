@@ -205,6 +205,7 @@ fn book_at_once<J: Naming + Send + Sync, R: Threads + Wait + Abort + Sync>(
 ) -> Option<usize>
     requires config { (config.now ≡ J.desk.config) × (book.config ≡ J.desk.config) }
     requires workers { workers ≡ J.desk.workers }
+    requires period { book.period ≡ J.desk.period }
     requires opening { (book.entries ≡ J.desk.opening) × (book.base ≡ base_of J.desk) }
     requires ledger { (blanks.name ≡ J.name) × (blanks.parts ≡ J.parts) }
     requires parts { J.parts ≡ actors_of J.desk }
@@ -247,6 +248,7 @@ fn refused<J: Naming, A: Allocator>(
 ) -> Option<WhyNoDesk>
     requires config { (config.now ≡ J.desk.config) × (book.config ≡ J.desk.config) }
     requires workers { workers ≡ J.desk.workers }
+    requires period { book.period ≡ J.desk.period }
     requires opening { (book.entries ≡ J.desk.opening) × (book.base ≡ base_of J.desk) }
     requires ledger { (blanks.name ≡ J.name) × (blanks.parts ≡ J.parts) }
     requires parts { J.parts ≡ actors_of J.desk }

@@ -24,11 +24,14 @@ pub const LOG: &str = "journal.log";
 /// Of a log that is to take the place of the old one.
 pub const LOG_NEW: &str = "journal.log.new";
 
+/// Of the first period, once it has ended.
+pub const PERIOD: &str = "journal.0";
+
 /// Where Linux says what a process may have.
 pub const LIMITS: &str = "/proc/self/limits";
 
 // The names that a file can have.
-const NAMES: [&str; 7] = [JOURNAL, LOCK, RUNNING, NEW, LOG, LOG_NEW, LIMITS];
+const NAMES: [&str; 8] = [JOURNAL, LOCK, RUNNING, NEW, LOG, LOG_NEW, PERIOD, LIMITS];
 
 // The folder's own name.
 pub(crate) const FOLDER: &str = ".";
@@ -76,7 +79,7 @@ impl Content {
 }
 
 // Which content each name has, if it has one.
-type Folder = [Option<usize>; 7];
+type Folder = [Option<usize>; 8];
 
 // What is on a disk, and what was printed.
 #[derive(Drop)]
@@ -214,8 +217,8 @@ impl Disk {
             alloc,
             state: RefCell::new(State {
                 alloc,
-                now: [None; 7],
-                kept: [None; 7],
+                now: [None; 8],
+                kept: [None; 8],
                 contents: Vec::new(alloc),
                 calls: 0,
                 faults,

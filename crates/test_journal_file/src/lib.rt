@@ -11,8 +11,12 @@
 //! - A log that somebody removes or cuts, or that would become too large, takes no more lines.
 //! - A log that has failed is made anew: it is at each moment the old one or the new one, as a whole, and the
 //!   new one once that was told. Where that failed it can be done again.
+//! - A period that ends is kept as a whole before the next one is there, and what is kept is never written again. A
+//!   stop in between leaves what the same calls go on from.
 #![tactic(auto)]
 
+#[cfg(test)]
+mod periods;
 #[cfg(test)]
 mod renewals;
 #[cfg(test)]

@@ -37,9 +37,9 @@ pub(crate) const WHOLE_LOG: &[u8] =
 
 const REMEMBERED: &[u8] = b"what is to be remembered";
 
-// A text that is saved.
+/// A text that is saved.
 #[derive(Clone, Copy)]
-struct Text(&'static [u8]);
+pub(crate) struct Text(pub(crate) &'static [u8]);
 
 impl Content for Text {
     ghost text = { λ text. text.0.now };

@@ -1,6 +1,6 @@
 //! The line of an entry, printed with no call of the writer. Alice is the peer 0, and bob the peer 1.
 
-use ilp_journal::{Cause, Entry, What};
+use ilp_journal::{Cause, Credited, Entry, What};
 use std::alloc::{AllocError, Global};
 
 /// The line of an entry.
@@ -28,21 +28,33 @@ fn told_of(alloc: Global, what: &What) -> Result<String, AllocError> {
             let cause = cause_of(alloc, *cause)?;
             format!(in alloc; "released {hold} {cause}")
         }
-        What::Credited(credited) => {
-            let key = hex::encode(alloc, credited.key.as_slice())?;
-            let peer = name_of(credited.peer);
-            format!(in alloc;
-                "credited {peer} {key} {} {} {}",
-                credited.named, credited.scale, credited.credited
-            )
-        }
+        What::Credited(credited) => credit_of(alloc, "credited", credited),
+        What::Known(credited) => credit_of(alloc, "known", credited),
         What::Asked(ask) => {
             let peer = name_of(ask.peer);
             format!(in alloc; "asked {peer} {}", ask.amount)
         }
         What::Confirmed { ask } => format!(in alloc; "confirmed {ask}"),
         What::Undone { ask } => format!(in alloc; "undone {ask}"),
+        What::Opened { peer, balance } => {
+            let peer = name_of(*peer);
+            format!(in alloc; "opened {peer} {balance}")
+        }
+        What::Pending { peer, amount, key } => {
+            let key = hex::encode(alloc, key.as_slice())?;
+            let peer = name_of(*peer);
+            format!(in alloc; "pending {peer} {amount} {key}")
+        }
     }
+}
+
+fn credit_of(alloc: Global, word: &str, credited: &Credited) -> Result<String, AllocError> {
+    let key = hex::encode(alloc, credited.key.as_slice())?;
+    let peer = name_of(credited.peer);
+    format!(in alloc;
+        "{word} {peer} {key} {} {} {}",
+        credited.named, credited.scale, credited.credited
+    )
 }
 
 fn cause_of(alloc: Global, cause: Cause) -> Result<String, AllocError> {

@@ -38,6 +38,15 @@ ilp-journal 1
 end 5
 ";
 
+const LATER_TEXT: &str = "\
+ilp-journal 2 4294967295
+1735689600000 0 opened alice -9223372036854775808
+1735689600000 0 known a_name-of-16-oct 2d7e00 340282366920938463463374607431768211455 255 18446744073709551615
+1735689600000 0 pending alice 18446744073709551615 2d7e00
+1735689600002 1 undone 2
+end 4
+";
+
 fn push(rt: &impl Abort, journal: &mut Journal, moment: i64, actor: u32, what: What) {
     assert!(rt; journal.spare() > 0);
     assert!(rt; journal.len() < journal.limit());
@@ -84,12 +93,9 @@ fn booked(rt: &(impl Abort + AllocGlobal)) -> Result<Journal, Fail> {
     let cause = Cause::Peer(*b"F99");
     let released = What::Released { hold: 0, cause };
     push(rt, &mut journal, 1735689600001, 65, released);
-    let Ok(Some(key)) = Key::new(rt.alloc(), b"-~\0") else {
-        panic!(rt; "no key");
-    };
     let credited = What::Credited(Credited {
         peer: 1,
-        key,
+        key: key_of(rt),
         named: u128::MAX,
         scale: 255,
         credited: 0,
@@ -123,7 +129,7 @@ fn stops_where_a_write_takes_nothing(rt: HostRuntime) -> Result<(), Fail> {
             WhenFull::TakesNone
         };
         let mut sink = Narrow::new(rt.alloc(), 7, room, when_full);
-        let outcome = put_journal(&config, &journal, &mut sink);
+        let outcome = put_journal(&config, 0, &journal, &mut sink);
         let whole = room == TEXT.len();
         assert_eq!(rt;
             outcome,
@@ -131,6 +137,63 @@ fn stops_where_a_write_takes_nothing(rt: HostRuntime) -> Result<(), Fail> {
             "with room for {room}"
         );
         assert_eq!(rt; sink.recording.octets.as_slice(), &TEXT.as_bytes()[..room]);
+    }
+    Ok(())
+}
+
+// What a last period begins with.
+fn brought_forward(rt: &(impl Abort + AllocGlobal)) -> Result<Journal, Fail> {
+    let mut journal = Journal::new(rt.alloc(), 5)?;
+    journal.reserve(5)?;
+    let opened = What::Opened {
+        peer: 0,
+        balance: i64::MIN,
+    };
+    push(rt, &mut journal, 1735689600000, 0, opened);
+    let known = What::Known(Credited {
+        peer: 1,
+        key: key_of(rt),
+        named: u128::MAX,
+        scale: 255,
+        credited: u64::MAX,
+    });
+    push(rt, &mut journal, 1735689600000, 0, known);
+    let pending = What::Pending {
+        peer: 0,
+        amount: u64::MAX,
+        key: key_of(rt),
+    };
+    push(rt, &mut journal, 1735689600000, 0, pending);
+    push(rt, &mut journal, 1735689600002, 1, What::Undone { ask: 2 });
+    Ok(journal)
+}
+
+fn key_of(rt: &(impl Abort + AllocGlobal)) -> Key {
+    match Key::new(rt.alloc(), b"-~\0") {
+        Ok(Some(key)) => key,
+        _ => panic!(rt; "no key"),
+    }
+}
+
+#[test]
+fn writes_what_was_brought_forward(rt: HostRuntime) -> Result<(), Fail> {
+    let Ok(config) = Config::read(rt.alloc(), CONFIG.as_bytes()) else {
+        panic!(rt; "no configuration");
+    };
+    let journal = brought_forward(&rt)?;
+    for room in 0..=LATER_TEXT.len() {
+        let mut sink = Narrow::new(rt.alloc(), 7, room, WhenFull::Fails);
+        let outcome = put_journal(&config, u32::MAX, &journal, &mut sink);
+        let whole = room == LATER_TEXT.len();
+        assert_eq!(rt;
+            outcome,
+            if whole { Ok(()) } else { Err(WriteFault) },
+            "with room for {room}"
+        );
+        assert_eq!(rt;
+            sink.recording.octets.as_slice(),
+            &LATER_TEXT.as_bytes()[..room]
+        );
     }
     Ok(())
 }

@@ -225,6 +225,7 @@ fn run_desk<J: Naming, K: LogNaming>(
 ) -> Option<Stopped>
     requires config { (config.now ≡ J.desk.config) × (parts.book.config ≡ J.desk.config) }
     requires workers { 1 ≡ J.desk.workers }
+    requires period { parts.book.period ≡ J.desk.period }
     requires opening { (parts.book.entries ≡ J.desk.opening) × (parts.book.base ≡ base_of J.desk) }
     requires ledger { (blanks.name ≡ J.name) × (blanks.parts ≡ J.parts) }
     requires parts { J.parts ≡ actors_of J.desk }

@@ -94,6 +94,7 @@ fn logged<J: Naming + Send + Sync, K: LogNaming + Send + Sync, R: Threads + Wait
 ) -> Option<TearingDevice>
     requires config { (config.now ≡ J.desk.config) × (parts.book.config ≡ J.desk.config) }
     requires workers { 1 ≡ J.desk.workers }
+    requires period { parts.book.period ≡ J.desk.period }
     requires opening { (parts.book.entries ≡ J.desk.opening) × (parts.book.base ≡ base_of J.desk) }
     requires ledger { (blanks.name ≡ J.name) × (blanks.parts ≡ J.parts) }
     requires parts { J.parts ≡ actors_of J.desk }

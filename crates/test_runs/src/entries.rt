@@ -36,6 +36,8 @@ fn says(what: &What, moment: i64, call: &Call, reply: &Reply) -> bool {
         },
         What::Confirmed { ask } => closes(*ask, EngineVerdict::Accepted, call),
         What::Undone { ask } => closes(*ask, EngineVerdict::Refused, call),
+        // No call brings anything forward.
+        What::Opened { .. } | What::Known(_) | What::Pending { .. } => false,
     }
 }
 

@@ -81,6 +81,7 @@ fn play_on<J: Naming + Send + Sync, R: Print, P: Play<R>>(
 ) -> io::Result<()>
     requires config { (config.now ≡ J.desk.config) × (book.config ≡ J.desk.config) }
     requires workers { workers ≡ J.desk.workers }
+    requires period { book.period ≡ J.desk.period }
     requires opening { (book.entries ≡ J.desk.opening) × (book.base ≡ base_of J.desk) }
     requires ledger { (blanks.name ≡ J.name) × (blanks.parts ≡ J.parts) }
     requires parts { J.parts ≡ actors_of J.desk }

@@ -52,6 +52,9 @@ fn print_what(rt: &impl Print, entry: &Entry) -> io::Result<()> {
         What::Asked(ask) => println!(rt; "{ask:?}"),
         What::Confirmed { ask } => println!(rt; "confirmed {ask}"),
         What::Undone { ask } => println!(rt; "undone {ask}"),
+        What::Opened { peer, balance } => println!(rt; "opened {balance} of {peer}"),
+        What::Known(credit) => println!(rt; "known {} of {}", credit.credited, credit.peer),
+        What::Pending { peer, amount, .. } => println!(rt; "pending {amount} to {peer}"),
     }
 }
 

@@ -63,41 +63,43 @@ impl<A: Allocator + Clone> Book<A> {
 
 impl<A: Allocator> Book<A> {
     // The book of these parts.
-    fn of(beginning: Beginning<A>) -> Book<A>
+    pub(super) fn of(beginning: Beginning<A>) -> Book<A>
         ensures { result ≡ beginning }
     {
         let Beginning {
             config,
+            period,
             base,
             journal,
             tables,
         } = beginning;
         Book {
             config,
+            period,
             base,
             journal,
             tables,
         }
     }
 
-    /// Writes the text of the journal, which `carry_over` reads, with the peers' names in the
-    /// configuration, the book's own. No memory is taken. It is refused only where a write fails or
-    /// takes no octet. Then a front of the text was taken, and not all of it. What it wrote whole is
+    /// Writes the text of the period with its journal, which `carry_over` reads, with the peers' names
+    /// in the configuration, the book's own. No memory is taken. It is refused only where a write fails
+    /// or takes no octet. Then a front of the text was taken, and not all of it. What it wrote whole is
     /// carried over by that configuration, and refused for nothing but want of memory.
     pub fn save<W: Sink>(&self, config: &Config, sink: &mut W) -> Result<(), WriteFault>
         requires own { config.now ≡ self.now.config }
         ensures ok { OnOk result (Appends (W.contents sink.old) (W.contents sink.new)
-            (journal_text config.now self.now.entries)) }
+            (journal_text config.now self.now.period self.now.entries)) }
         ensures carried { OnOk result ((now : ℤ) → IsCarriedOver config.now
-            (journal_text config.now self.now.entries) now
-            (carried config.now self.now.entries now)) }
+            (journal_text config.now self.now.period self.now.entries) now
+            (carried config.now self.now.period self.now.entries now)) }
         ensures refused { OnOk result ((fault : CarryFault) → IsWhyNotCarried config.now
-            (journal_text config.now self.now.entries) fault → fault ≡ carry_fault.Memory) }
+            (journal_text config.now self.now.period self.now.entries) fault → fault ≡ carry_fault.Memory) }
         ensures err { OnErr result (AppendsProperPrefix (W.contents sink.old) (W.contents sink.new)
-            (journal_text config.now self.now.entries)) }
+            (journal_text config.now self.now.period self.now.entries)) }
         ensures failed { CountsUp (W.failures sink.old) (W.failures sink.new)
             (if is_err result then 1 else 0) }
     {
-        put_journal(config, &self.journal, sink)
+        put_journal(config, self.period, &self.journal, sink)
     }
 }

@@ -1,5 +1,5 @@
 //! Whether an entry may come next in a journal.
-ghost use Rattle.std.specs.Prelude.{◌≡◌, ℤ, pos, ◌+ℤ◌, ◌≤ℤ◌, ◌↔◌, None, IsTrue, IsSome, IsOkAnd, IfErr, OnOk, OnErr};
+ghost use Rattle.std.specs.Prelude.{◌≡◌, ℕ, ℤ, pos, ◌+ℤ◌, ◌≤ℤ◌, ◌↔◌, None, IsTrue, IsSome, IsOkAnd, IfErr, OnOk, OnErr};
 ghost use Rattle.ilp_terms.specs.Expiry.{last_of_all};
 ghost use Rattle.ilp_assets.specs.declared.quote.Quote.{Quote};
 ghost use Rattle.ilp_journal.specs.declared.entry.What.TheVariants as what;
@@ -31,7 +31,7 @@ impl<A: Allocator> Carrying<A> {
     pub(crate) fn judge(&self, entry: &Entry) -> Result<(), BrokenRule>
         ensures ok { OnOk result (IsLawful (pushed self.now entry.now)) }
         ensures err { OnErr result (IsLawful (pushed self.now entry.now) → ⊥) }
-        ensures broken { IfErr result (Breaks self.now.config self.now.entries entry.now) }
+        ensures broken { IfErr result (Breaks self.now.config self.now.period self.now.entries entry.now) }
     {
         self.judge_moment(entry)?;
         self.judge_rule(entry)?;
@@ -42,7 +42,7 @@ impl<A: Allocator> Carrying<A> {
     fn judge_moment(&self, entry: &Entry) -> Result<(), BrokenRule>
         ensures ok { OnOk result (IsInTime self.now.entries entry.now) }
         ensures err { OnErr result (IsInTime self.now.entries entry.now → ⊥) }
-        ensures broken { IfErr result (Breaks self.now.config self.now.entries entry.now) }
+        ensures broken { IfErr result (Breaks self.now.config self.now.period self.now.entries entry.now) }
         ensures valid { IsValid self.now.config }
         ensures lawful { IsLawful self.now }
         ensures behind { self.now.base ≡ behind_all }
@@ -59,7 +59,7 @@ impl<A: Allocator> Carrying<A> {
         requires last { entry.now.moment ≤ℤ last_of_all }
         ensures ok { OnOk result (KeepsRuleOf self.now self.now.entries entry.now) }
         ensures err { OnErr result (KeepsRuleOf self.now self.now.entries entry.now → ⊥) }
-        ensures broken { IfErr result (BreaksRule self.now.config self.now.entries
+        ensures broken { IfErr result (BreaksRule self.now.config self.now.period self.now.entries
             entry.now.moment entry.now.what) }
     {
         let moment = entry.moment;
@@ -70,6 +70,9 @@ impl<A: Allocator> Carrying<A> {
             What::Credited(credited) => self.judge_credited(credited),
             What::Asked(ask) => self.judge_asked(ask),
             What::Confirmed { ask } | What::Undone { ask } => self.judge_closing(*ask),
+            What::Opened { peer, balance } => self.judge_opened(*peer, *balance),
+            What::Known(credited) => self.judge_known(credited),
+            What::Pending { peer, amount, key } => self.judge_pending(*peer, *amount, key),
         }
     }
 
@@ -80,11 +83,14 @@ impl<A: Allocator> Carrying<A> {
         number: u32,
         preimage: &[u8; 32],
     ) -> Result<(), BrokenRule>
-        ensures ok { OnOk result (KeepsRule self.now.config self.now.base self.now.entries moment
+        ensures ok { OnOk result (KeepsRule self.now.config self.now.period self.now.base
+            self.now.entries moment
             (what.Fulfilled number preimage.now)) }
-        ensures err { OnErr result (KeepsRule self.now.config self.now.base self.now.entries moment
+        ensures err { OnErr result (KeepsRule self.now.config self.now.period self.now.base
+            self.now.entries moment
             (what.Fulfilled number preimage.now) → ⊥) }
-        ensures broken { IfErr result (BreaksRule self.now.config self.now.entries moment
+        ensures broken { IfErr result (BreaksRule self.now.config self.now.period
+            self.now.entries moment
             (what.Fulfilled number preimage.now)) }
     {
         let Some(hold) = open_hold_at(&self.journal, number) else {
@@ -101,11 +107,14 @@ impl<A: Allocator> Carrying<A> {
 
     // Whether the hold of this number is released for this cause.
     fn judge_released(&self, moment: i64, number: u32, cause: Cause) -> Result<(), BrokenRule>
-        ensures ok { OnOk result (KeepsRule self.now.config self.now.base self.now.entries moment
+        ensures ok { OnOk result (KeepsRule self.now.config self.now.period self.now.base
+            self.now.entries moment
             (what.Released number cause)) }
-        ensures err { OnErr result (KeepsRule self.now.config self.now.base self.now.entries moment
+        ensures err { OnErr result (KeepsRule self.now.config self.now.period self.now.base
+            self.now.entries moment
             (what.Released number cause) → ⊥) }
-        ensures broken { IfErr result (BreaksRule self.now.config self.now.entries moment
+        ensures broken { IfErr result (BreaksRule self.now.config self.now.period
+            self.now.entries moment
             (what.Released number cause)) }
     {
         let Some(hold) = open_hold_at(&self.journal, number) else {
@@ -121,7 +130,8 @@ impl<A: Allocator> Carrying<A> {
     fn judge_credited(&self, credit: &Credited) -> Result<(), BrokenRule>
         ensures ok { OnOk result (IsFreshCredit self.now.config self.now.entries credit.now) }
         ensures err { OnErr result (IsFreshCredit self.now.config self.now.entries credit.now → ⊥) }
-        ensures broken { (moment : ℤ) → IfErr result (BreaksRule self.now.config self.now.entries moment
+        ensures broken { (moment : ℤ) → IfErr result (BreaksRule self.now.config self.now.period
+            self.now.entries moment
             (what.Credited credit.now)) }
     {
         if self.config.peers() <= credit.peer {
@@ -149,7 +159,8 @@ impl<A: Allocator> Carrying<A> {
     fn judge_asked(&self, ask: &Ask) -> Result<(), BrokenRule>
         ensures ok { OnOk result (IsDueAsk self.now.config self.now.entries ask.now) }
         ensures err { OnErr result (IsDueAsk self.now.config self.now.entries ask.now → ⊥) }
-        ensures broken { (moment : ℤ) → IfErr result (BreaksRule self.now.config self.now.entries moment
+        ensures broken { (moment : ℤ) → IfErr result (BreaksRule self.now.config self.now.period
+            self.now.entries moment
             (what.Asked ask.now)) }
     {
         if self.config.peers() <= ask.peer {
@@ -186,7 +197,7 @@ impl<A: Allocator> Carrying<A> {
         requires rule { KeepsRuleOf self.now self.now.entries entry.now }
         ensures ok { OnOk result (KeepsLimits self.now entry.now.what) }
         ensures err { OnErr result (KeepsLimits self.now entry.now.what → ⊥) }
-        ensures broken { IfErr result (BreaksRule self.now.config self.now.entries
+        ensures broken { IfErr result (BreaksRule self.now.config self.now.period self.now.entries
             entry.now.moment entry.now.what) }
     {
         match &entry.what {
@@ -194,8 +205,12 @@ impl<A: Allocator> Carrying<A> {
                 self.judge_room(2)?;
                 self.judge_balance(hold)
             }
-            What::Credited(_) => self.judge_room(1),
-            What::Asked(_) => self.judge_room(2),
+            What::Credited(_) | What::Known(_) => self.judge_room(1),
+            What::Asked(_) | What::Pending { .. } => self.judge_room(2),
+            What::Opened { peer, balance } => {
+                self.judge_room(1)?;
+                self.judge_opening(*peer, *balance)
+            }
             _ => Ok(()),
         }
     }
@@ -206,9 +221,7 @@ impl<A: Allocator> Carrying<A> {
         ensures err { OnErr result (HasRoom self.now more → ⊥) }
         ensures broken { IfErr result (λ rule. rule ≡ BrokenRule.Room) }
     {
-        let open_count = self.tables.tallies.open_count();
-        let needed = u64::from(self.journal.len()) + u64::from(open_count) + u64::from(more);
-        if u64::from(self.config.journal()) < needed {
+        if !self.has_room(more) {
             return Err(BrokenRule::Room);
         }
         Ok(())
@@ -246,8 +259,8 @@ fn judge_terms(config: &Config, moment: i64, hold: &Hold) -> Result<(), BrokenRu
     requires last { moment ≤ℤ last_of_all }
     ensures ok { OnOk result (HasTerms config.now moment hold.now) }
     ensures err { OnErr result (HasTerms config.now moment hold.now → ⊥) }
-    ensures broken { (before : Entries) → IfErr result (BreaksRule config.now before moment
-        (what.Hold hold.now)) }
+    ensures broken { (period : ℕ) (before : Entries) → IfErr result (BreaksRule config.now period before
+        moment (what.Hold hold.now)) }
 {
     let peers = config.peers();
     if peers <= hold.from || peers <= hold.to || hold.from == hold.to {

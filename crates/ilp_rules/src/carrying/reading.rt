@@ -1,5 +1,5 @@
 //! The entries of a saved journal, and those that were logged behind it, are taken up.
-ghost use Rattle.std.specs.Prelude.{◌≡◌, ◌∷◌, ◌++◌, [], OnOk, OnErr, IfOk, IfErr};
+ghost use Rattle.std.specs.Prelude.{◌≡◌, ◌∷◌, ◌++◌, [], ℕ, OnOk, OnErr, IfOk, IfErr};
 ghost use Rattle.ilp_accounts.specs.Configuration.{Configuration};
 ghost use Rattle.ilp_journal.specs.Journal.{Entries};
 ghost use Rattle.ilp_journal_text.specs.Reading.{IsTextOf, IsFirstBadLine, AreLinesOf, IsFirstBadEntryLine};
@@ -24,41 +24,42 @@ pub(crate) struct TakingUp<A: Allocator> {
 }
 
 impl<A: Allocator + Clone> TakingUp<A> {
-    /// No entry came yet. `AllocError` tells that memory is short.
-    pub(crate) fn new(alloc: A, config: &Config) -> Result<TakingUp<A>, AllocError>
-        ensures { IfOk result (λ taking. AreTakenUp config.now [] taking.carrying taking.taken) }
+    /// No entry of a period came yet. `AllocError` tells that memory is short.
+    fn new(alloc: A, config: &Config, period: u32) -> Result<TakingUp<A>, AllocError>
+        ensures { IfOk result (λ taking.
+            AreTakenUp config.now period [] taking.carrying taking.taken) }
     {
         Ok(TakingUp {
-            carrying: Carrying::new(alloc, config)?,
+            carrying: Carrying::new(alloc, config, period)?,
             taken: Ok(()),
         })
     }
 
-    /// Takes up the entries of the text of a journal.
-    pub(crate) fn take_text(&mut self, text: &[u8]) -> Result<(), TextFault>
-        ensures ok { (C : Configuration) (before : Entries)
-            → AreTakenUp C before self.old.carrying self.old.taken → OnOk result ((entries : Entries)
-            × IsTextOf C entries text.now
-            × AreTakenUp C (before ++ entries) self.new.carrying self.new.taken) }
-        ensures err { (C : Configuration) (before : Entries)
-            → AreTakenUp C before self.old.carrying self.old.taken
-            → IfErr result (NamesLine (IsFirstBadLine C text.now)) }
+    /// Takes up the entries of the text of a journal, which come first, as those of its period.
+    pub(crate) fn of_text(alloc: A, config: &Config, text: &[u8]) -> Result<TakingUp<A>, TextFault>
+        ensures ok { IfOk result (λ taking. (period : ℕ) × (entries : Entries)
+            × IsTextOf config.now period entries text.now
+            × AreTakenUp config.now period entries taking.carrying taking.taken) }
+        ensures err { IfErr result (NamesLine (IsFirstBadLine config.now text.now)) }
     {
         let mut lines = JournalText::begin(text)?;
-        while let Some(entry) = lines.next(&self.carrying.config)? {
-            self.take(entry);
+        let Ok(mut taking) = TakingUp::new(alloc, config, lines.period()) else {
+            return Err(TextFault::Memory);
+        };
+        while let Some(entry) = lines.next(&taking.carrying.config)? {
+            taking.take(entry);
         }
-        Ok(())
+        Ok(taking)
     }
 
     /// Takes up the entries of lines that were logged.
     pub(crate) fn take_lines(&mut self, text: &[u8]) -> Result<(), TextFault>
-        ensures ok { (C : Configuration) (before : Entries)
-            → AreTakenUp C before self.old.carrying self.old.taken → OnOk result ((entries : Entries)
-            × AreLinesOf C entries text.now
-            × AreTakenUp C (before ++ entries) self.new.carrying self.new.taken) }
-        ensures err { (C : Configuration) (before : Entries)
-            → AreTakenUp C before self.old.carrying self.old.taken
+        ensures ok { (C : Configuration) (period : ℕ) (before : Entries)
+            → AreTakenUp C period before self.old.carrying self.old.taken
+            → OnOk result ((entries : Entries) × AreLinesOf C entries text.now
+            × AreTakenUp C period (before ++ entries) self.new.carrying self.new.taken) }
+        ensures err { (C : Configuration) (period : ℕ) (before : Entries)
+            → AreTakenUp C period before self.old.carrying self.old.taken
             → IfErr result (NamesLine (IsFirstBadEntryLine C text.now)) }
     {
         let mut lines = JournalLines::begin(text);
@@ -70,9 +71,9 @@ impl<A: Allocator + Clone> TakingUp<A> {
 
     // Takes an entry up, if all before it were taken up and it may come next.
     fn take(&mut self, entry: Entry)
-        ensures { (C : Configuration) (before : Entries)
-            → AreTakenUp C before self.old.carrying self.old.taken
-            → AreTakenUp C (before ++ entry ∷ []) self.new.carrying self.new.taken }
+        ensures { (C : Configuration) (period : ℕ) (before : Entries)
+            → AreTakenUp C period before self.old.carrying self.old.taken
+            → AreTakenUp C period (before ++ entry ∷ []) self.new.carrying self.new.taken }
     {
         if self.taken.is_ok() {
             self.taken = self.carrying.take_up(entry);

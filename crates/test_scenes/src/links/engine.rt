@@ -5,6 +5,7 @@ use crate::told::print_octets;
 use ilp_oer::Octets;
 use ilp_workers::{EngineLink, EngineReply, LinkFault};
 use std::alloc::{Allocator, Global};
+use std::str;
 use test_allocator::DenyingAllocator;
 
 /// An engine that has no account and takes nothing on.
@@ -16,7 +17,7 @@ impl EngineLink for NoEngine {
         false
     }
 
-    fn settle(&mut self, _peer: u32, _key: &str, _amount: u64, _scale: u8) -> EngineReply {
+    fn settle(&mut self, _peer: u32, _key: &[u8], _amount: u64, _scale: u8) -> EngineReply {
         EngineReply::Refused { status: 400 }
     }
 
@@ -83,8 +84,9 @@ impl<R: Print> EngineLink for Engine<'_, R> {
         account
     }
 
-    fn settle(&mut self, peer: u32, key: &str, amount: u64, scale: u8) -> EngineReply {
+    fn settle(&mut self, peer: u32, key: &[u8], amount: u64, scale: u8) -> EngineReply {
         let reply = self.settlements.next_settlement();
+        let key = str::from_utf8(key).unwrap_or("no text");
         let _ = println!(self.rt;
             "the engine is asked for {amount} at scale {scale} to peer {peer} under {key}: {reply:?}"
         );
@@ -121,7 +123,7 @@ impl<E: EngineLink + Drop> EngineLink for Wanting<'_, E> {
         has_room(self.accounts) && self.engine.account(peer)
     }
 
-    fn settle(&mut self, peer: u32, key: &str, amount: u64, scale: u8) -> EngineReply {
+    fn settle(&mut self, peer: u32, key: &[u8], amount: u64, scale: u8) -> EngineReply {
         if has_room(self.settlements) {
             self.engine.settle(peer, key, amount, scale)
         } else {

@@ -81,6 +81,7 @@ impl Totals {
                 self.add_settlement(asked_at(book, *ask), EngineVerdict::Refused);
             }
             What::Hold(_) | What::Released { .. } | What::Asked(_) => {}
+            What::Opened { .. } | What::Known(_) | What::Pending { .. } => {}
         }
     }
 }

@@ -6,7 +6,7 @@ abbrev pub ghosts-serve_desk-J-Ledger : goal.ghosts-serve_desk-J-Ledger
 ghosts-serve_desk-J-Ledger g a = record { name = a.blanks.name; parts = a.blanks.parts }
 
 abbrev pub ghosts-serve_desk-J-Naming : goal.ghosts-serve_desk-J-Naming
-ghosts-serve_desk-J-Naming g a = record { desk = desk_of a.config.now a.book.entries; list = a.list }
+ghosts-serve_desk-J-Naming g a = record { desk = desk_of a.config.now a.book; list = a.list }
 
 abbrev pub ghosts-serve_desk-K-ListNaming : goal.ghosts-serve_desk-K-ListNaming
 ghosts-serve_desk-K-ListNaming g a = record { table = a.acks }

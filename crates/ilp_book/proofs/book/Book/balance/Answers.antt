@@ -12,4 +12,4 @@ use Rattle.ilp_book.proofs.book.Book.balance.Goals as goal
 pub returns-clause-least : goal.returns-clause-least
 returns-clause-least g c =
     let Least : PlainBook → Type 0 = λ b. (p : ℕ) → IsKnown b.config p → (peer_at b.config p).least ≤ℤ balance b.entries p in
-    subst Least c.self.view_is (limits_now (book_of c.self.inside.config c.self.inside.base c.self.inside.journal) c.self.invariant.0.lawful).least
+    subst Least c.self.view_is (limits_now (book_of c.self.inside.config c.self.inside.period c.self.inside.base c.self.inside.journal) c.self.invariant.0.lawful).least

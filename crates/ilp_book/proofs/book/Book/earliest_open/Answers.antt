@@ -1,7 +1,8 @@
 use Rattle.std.proofs.Common.{sym, ap, ◌∙◌, refl}
 use Rattle.ilp_rules.specs.Book.{PlainBook}
 use Rattle.ilp_rules.specs.Open.{earliest}
-use Rattle.ilp_book.proofs.Earliest.{earliest_none, none_open, first_is_earliest, first_stands}
+use Rattle.ilp_next_period.proofs.OpenHolds.{none_open}
+use Rattle.ilp_book.proofs.Earliest.{earliest_none, first_is_earliest, first_stands}
 use Rattle.ilp_book.proofs.book.Book.earliest_open.Goals as goal
 
 -- where the table is empty none is open

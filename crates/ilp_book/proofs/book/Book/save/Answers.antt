@@ -18,7 +18,7 @@ returns-clause-carried g c =
     let book = c.args.self.now in
     let lawful : IsLawful book = subst IsLawful c.self.view_is c.self.invariant.0.lawful in
     on_ok_weaker c.put_journal.result
-    (λ typed now. subst (λ (C : Configuration). IsCarriedOver C (journal_text C book.entries) now (carried C book.entries now)) (sym c.requires.own)
+    (λ typed now. subst (λ (C : Configuration). IsCarriedOver C (journal_text C book.period book.entries) now (carried C book.period book.entries now)) (sym c.requires.own)
     (saved_carried book now lawful (subst (λ (b : PlainBook). All IsTyped b.entries) c.self.view_is typed)))
     c.put_journal.ensures.typed
 
@@ -29,5 +29,5 @@ returns-clause-refused g c =
     let valid : IsValid book.config = subst (λ (b : PlainBook). IsValid b.config) c.self.view_is c.self.invariant.0.valid in
     on_ok_weaker c.put_journal.result
     (λ typed fault bad. saved_not_refused book fault valid lawful (subst (λ (b : PlainBook). All IsTyped b.entries) c.self.view_is typed)
-    (subst (λ (C : Configuration). IsWhyNotCarried C (journal_text C book.entries) fault) c.requires.own bad))
+    (subst (λ (C : Configuration). IsWhyNotCarried C (journal_text C book.period book.entries) fault) c.requires.own bad))
     c.put_journal.ensures.typed

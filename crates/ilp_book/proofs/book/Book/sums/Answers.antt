@@ -15,7 +15,7 @@ use Rattle.ilp_book.proofs.book.Book.sums.Goals as goal
 pub returns-clause-balanced : goal.returns-clause-balanced
 returns-clause-balanced g c =
     let Balanced : PlainBook → Type 0 = λ b. IsBalanced (peer_assets b.config) b.entries c.args.asset in
-    subst Balanced c.self.view_is (lawful_balanced (book_of c.self.inside.config c.self.inside.base c.self.inside.journal) c.args.asset c.self.invariant.0.lawful)
+    subst Balanced c.self.view_is (lawful_balanced (book_of c.self.inside.config c.self.inside.period c.self.inside.base c.self.inside.journal) c.args.asset c.self.invariant.0.lawful)
 
 -- each sum is its tally
 pub returns-clause-settled : goal.returns-clause-settled

@@ -11,7 +11,7 @@ grow-requires g c = rw c.named-entries.ensures (prefix_nil c.args.book.entries)
 pub invariant_of-result : goal.invariant_of-result
 invariant_of-result g c = (
   record {
-    of_desk = opened g.J.Naming.desk c.args.book c.requires.config c.requires.opening c.requires.base c.entry.ensures.lawful;
+    of_desk = opened g.J.Naming.desk c.args.book c.requires.config c.requires.period c.requires.opening c.requires.base c.entry.ensures.lawful;
     counted = c.requires.total ∙ sym (none_booked g.J.Naming.desk c.args.book.entries c.requires.opening);
     cut = c.requires.cut;
     told = c.requires.workers.0;

@@ -12,7 +12,7 @@ apply-requires g c =
     let P : PlainBook → Type 0 = λ b. IsLawful (pushed b c.args.ending) in
     let lawful = subst P (sym c.self.view_is) c.requires.lawful in
     let inside = c.self.inside in
-    let next = carried_next inside.config inside.journal inside.tables.tallies inside.tables.holds inside.tables.keys c.args.ending c.self.invariant lawful in
+    let next = carried_next inside.config inside.period inside.journal inside.tables.tallies inside.tables.holds inside.tables.keys c.args.ending c.self.invariant lawful in
     record {
       tallies = next.tallied;
       room = next.longer;
@@ -29,10 +29,10 @@ push_reserved-requires g c =
     let P : PlainBook → Type 0 = λ b. IsLawful (pushed b c.args.ending) in
     let lawful = subst P (sym c.self.view_is) c.requires.lawful in
     let inside = c.self.inside in
-    let book = book_of inside.config behind_all inside.journal in
+    let book = book_of inside.config inside.period behind_all inside.journal in
     record {
-      room = carried_end_fits inside.config inside.journal inside.tables.tallies inside.tables.holds inside.tables.keys c.args.ending c.self.invariant lawful c.requires.ends;
-      limit = carried_fits inside.config inside.journal inside.tables.tallies inside.tables.holds inside.tables.keys c.args.ending c.self.invariant lawful;
+      room = carried_end_fits inside.config inside.period inside.journal inside.tables.tallies inside.tables.holds inside.tables.keys c.args.ending c.self.invariant lawful c.requires.ends;
+      limit = carried_fits inside.config inside.period inside.journal inside.tables.tallies inside.tables.holds inside.tables.keys c.args.ending c.self.invariant lawful;
       answers = names_hold book c.args.ending lawful;
       closes = names_ask book c.args.ending lawful;
     }
@@ -42,5 +42,5 @@ invariant_of-self g c =
     let P : PlainBook → Type 0 = λ b. IsLawful (pushed b c.args.ending) in
     let lawful = subst P (sym c.self.view_is) c.requires.lawful in
     let inside = c.self.inside in
-    carried_closed inside.config inside.journal c.push_reserved.new.self inside.tables.tallies c.apply.new.self inside.tables.holds inside.tables.keys c.args.ending c.self.invariant lawful
+    carried_closed inside.config inside.period inside.journal c.push_reserved.new.self inside.tables.tallies c.apply.new.self inside.tables.holds inside.tables.keys c.args.ending c.self.invariant lawful
     c.requires.ends c.push_reserved.ensures.entries c.push_reserved.ensures.used c.push_reserved.ensures.limit c.apply.ensures

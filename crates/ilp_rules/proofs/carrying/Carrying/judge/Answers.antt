@@ -29,8 +29,8 @@ returns-in_err-judge_moment-clause-broken g c =
 pub returns-in_err-judge_rule-clause-broken : goal.returns-in_err-judge_rule-clause-broken
 returns-in_err-judge_rule-clause-broken g c =
     let p = err_from_is_err_and c.from_residual-in_err-judge_rule.result c.from_residual-in_err-judge_rule.ensures.1 in
-    rw (p.1, p.2) (breaks_rule c.args.self.now.config c.args.self.now.entries c.args.entry.now c.in_err-judge_rule.field-0.0 c.in_err-judge_rule.ensures.broken)
+    rw (p.1, p.2) (breaks_rule c.args.self.now.config c.args.self.now.period c.args.self.now.entries c.args.entry.now c.in_err-judge_rule.field-0.0 c.in_err-judge_rule.ensures.broken)
 
 pub returns-clause-broken : goal.returns-clause-broken
 returns-clause-broken g c =
-    IfErr-weaker c.judge_limits.result _ _ (λ rule breaks. breaks_rule c.args.self.now.config c.args.self.now.entries c.args.entry.now rule breaks) c.judge_limits.ensures.broken
+    IfErr-weaker c.judge_limits.result _ _ (λ rule breaks. breaks_rule c.args.self.now.config c.args.self.now.period c.args.self.now.entries c.args.entry.now rule breaks) c.judge_limits.ensures.broken

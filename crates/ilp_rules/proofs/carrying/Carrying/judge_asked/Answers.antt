@@ -11,7 +11,8 @@ use Rattle.ilp_order.proofs.RefusalLemmas.{some_same}
 use Rattle.ilp_rules.specs.Book.{PlainBook}
 use Rattle.ilp_rules.specs.Configured.{IsKnown, peer_assets}
 use Rattle.ilp_rules.specs.Judging.{behind_all}
-use Rattle.ilp_rules.specs.Lawful.{IsDueAsk, most_open_asks}
+use Rattle.ilp_rules.specs.Lawful.{IsDueAsk}
+use Rattle.ilp_rules.specs.Heads.{most_open_asks}
 use Rattle.ilp_rules.specs.Lawful.{due_amount}
 use Rattle.ilp_rules.proofs.Judging.{is_due, not_due, levels_ordered}
 use Rattle.ilp_rules.proofs.Known.{peer_valid}

@@ -12,7 +12,7 @@ use Rattle.ilp_rules.proofs.carrying.Carrying.judge_released.Goals as goal
 -- neither is the cause Late nor the deadline reached
 pub returns-in-true-true-2-clause-ok : goal.returns-in-true-true-2-clause-ok
 returns-in-true-true-2-clause-ok g c =
-    let book = book_of c.self.inside.config behind_all c.self.inside.journal in
+    let book = book_of c.self.inside.config c.self.inside.period behind_all c.self.inside.journal in
     let moment_fits : FitsSigned w64 c.args.moment = search rules in
     let deadline_fits : FitsSigned w64 c.in-Some.hold.deadline = search rules in
     let stands : open_hold_at c.args.self.now.entries c.args.number ≡ Some c.in-Some.hold =

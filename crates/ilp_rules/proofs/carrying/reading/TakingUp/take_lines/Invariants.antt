@@ -1,4 +1,4 @@
-use Rattle.std.proofs.Common.{length}
+use Rattle.std.proofs.Common.{ℕ, length}
 use Rattle.ilp_accounts.specs.Configuration.{Configuration}
 use Rattle.ilp_journal.specs.Journal.{Entries}
 use Rattle.ilp_journal_text.specs.Reading.{HasReadLines}
@@ -9,7 +9,7 @@ use Rattle.ilp_rules.proofs.carrying.reading.TakingUp.take_lines.Given as goal
 -- the entries that were read so far, and what came of them
 abbrev pub invariant-loop-entry : goal.invariant-loop-entry
 invariant-loop-entry g l =
-    (C : Configuration) (before : Entries) → AreTakenUp C before l.fn.self.carrying l.fn.self.taken → IsTakingUp (HasReadLines C l.text) C before l.lines l.self.carrying l.self.taken
+    (C : Configuration) (period : ℕ) (before : Entries) → AreTakenUp C period before l.fn.self.carrying l.fn.self.taken → IsTakingUp (HasReadLines C l.text) C period before l.lines l.self.carrying l.self.taken
 
 -- less is left with each
 abbrev pub decreases-loop-entry : goal.decreases-loop-entry

@@ -1,0 +1,33 @@
+//! Whether a text is what would be written.
+
+use crate::writing::Content;
+use std::io;
+use std::io::{ErrorKind, Write};
+
+/// Whether this text is just what would be written of the content.
+pub fn has_text<C: Content>(content: &C, text: &[u8]) -> bool {
+    let mut compared = Compared { left: text };
+    content.put(&mut compared).is_ok() && compared.left.is_empty()
+}
+
+// What takes only the octets that a text has, from its front on.
+#[derive(Drop)]
+struct Compared<'t> {
+    left: &'t [u8],
+}
+
+impl Write for Compared<'_> {
+    fn write(&mut self, octets: &[u8]) -> io::Result<usize> {
+        match self.left.strip_prefix(octets) {
+            Some(rest) => {
+                self.left = rest;
+                Ok(octets.len())
+            }
+            None => Err(io::Error::from(ErrorKind::InvalidData)),
+        }
+    }
+
+    fn flush(&mut self) -> io::Result<()> {
+        Ok(())
+    }
+}

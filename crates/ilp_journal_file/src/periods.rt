@@ -1,0 +1,107 @@
+//! Periods of a journal that have ended. The text of each is kept in a file of its own beside the journal, and is
+//! never written again.
+
+use crate::comparing::has_text;
+use crate::fault::FileFault;
+use crate::reading::read;
+use crate::saving::Reached;
+use crate::standing::expect_plain;
+use crate::taking::JournalFile;
+use crate::writing::Content;
+use ilp_notices::{period_begun, period_differs, period_kept, period_unwritten};
+use std::alloc::Global;
+use std::io;
+use std::io::Eprint;
+use std::rt::Files;
+use std::time::Clock;
+
+impl<F> JournalFile<F> {
+    /// The text of a period that has ended, `J.P` for its number P, or nothing where there is no file.
+    ///
+    /// Refusals: `Unread` where it is no plain file with one name, can't be read or has more than
+    /// 8,589,934,592 octets; `Memory`.
+    pub fn read_period<R>(
+        &self,
+        rt: &R,
+        alloc: Global,
+        period: u32,
+    ) -> Result<Option<Vec<u8>>, FileFault>
+    where
+        R: Files + Clock + Eprint,
+    {
+        let path = self.names.period(alloc, period)?;
+        expect_plain(rt, path.as_str())?;
+        read(rt, alloc, path.as_str())
+    }
+
+    /// Keeps the text of a period that has ended as `J.P` for its number P. It is written as `J.new`, and takes
+    /// the name once the device has it. A `J.P` that has this text already stays. The device has it by its name
+    /// then.
+    ///
+    /// Refusals: `Unread` where `J.P` has another text, and those of `read_period`; `Unwritten` where it can't be
+    /// written; `Memory`. A line says which. The journal is as it was.
+    pub fn keep_period<R, C>(
+        &self,
+        rt: &R,
+        alloc: Global,
+        period: u32,
+        content: &C,
+    ) -> Result<(), FileFault>
+    where
+        R: Files + Clock + Eprint,
+        C: Content,
+    {
+        let path = self.names.period(alloc, period)?;
+        let path = path.as_str();
+        match self.read_period(rt, alloc, period)? {
+            Some(text) if !has_text(content, &text) => {
+                period_differs(rt, path);
+                return Err(FileFault::Unread);
+            }
+            Some(_) => {}
+            None => unless_unwritten(rt, path, self.replace(rt, alloc, content, path))?,
+        }
+        unless_unwritten(rt, path, self.names.sync_folder(rt))?;
+        let journal = self.names.journal.as_str();
+        period_kept(rt, journal, period, path, content.entries());
+        Ok(())
+    }
+
+    /// Has the text of a period take the place of the journal, whose text is kept elsewhere: as `save` does, but
+    /// once.
+    ///
+    /// It is refused as `Unwritten` where it failed, and a line says so. Then the journal is as it was, or has
+    /// this text.
+    pub fn begin_period<R, C>(
+        &self,
+        rt: &R,
+        alloc: Global,
+        period: u32,
+        content: &C,
+    ) -> Result<(), FileFault>
+    where
+        R: Files + Clock + Eprint,
+        C: Content,
+    {
+        let journal = self.names.journal.as_str();
+        let begun = self.go_on(rt, alloc, content, &mut Reached::Nothing);
+        unless_unwritten(rt, journal, begun)?;
+        period_begun(rt, journal, period, content.entries());
+        Ok(())
+    }
+}
+
+// What a write came to. One that failed is told.
+fn unless_unwritten<R: Clock + Eprint>(
+    rt: &R,
+    path: &str,
+    written: io::Result<()>,
+) -> Result<(), FileFault> {
+    match written {
+        Ok(()) => Ok(()),
+        Err(error) => {
+            period_unwritten(rt, path, &error);
+            Err(FileFault::Unwritten)
+        }
+    }
+}

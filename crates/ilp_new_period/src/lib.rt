@@ -1,0 +1,22 @@
+//! Periods of a journal that no connector has: closing the books of one and beginning the next, and whether one
+//! follows another.
+//!
+//! What files give and take, no clause can say: it stands in the comments, and the cases of `scripts/check.py` try it
+//! on the program.
+//!
+//! # What is proved
+//!
+//! - `next_of`: the book of the next period is the one that `Book::bring_forward` makes at the moment of the last
+//!   entry, so the same books give the same text whenever they are closed; or the refusal names why there is none.
+//! - All else is proved safe, and no more.
+#![tactic(auto)]
+
+mod beginning;
+mod closing;
+mod following;
+mod left_out;
+mod printing;
+
+pub use beginning::next_of;
+pub use closing::new_period;
+pub use following::follows;

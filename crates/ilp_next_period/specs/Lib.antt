@@ -1,0 +1,15 @@
+pub mod NextPeriod
+pub use Rattle.ilp_accounts.specs.Configuration
+pub use Rattle.ilp_accounts.specs.Valid
+pub use Rattle.ilp_journal.specs.Journal
+pub use Rattle.ilp_journal.specs.Keys
+pub use Rattle.ilp_journal.specs.Balance
+pub use Rattle.ilp_journal.specs.Credits
+pub use Rattle.ilp_journal.specs.BroughtForward
+pub use Rattle.ilp_journal.specs.TrialBalance
+pub use Rattle.ilp_rules.specs.Book
+pub use Rattle.ilp_rules.specs.Configured
+pub use Rattle.ilp_rules.specs.CreditTables
+pub use Rattle.ilp_rules.specs.Heads
+pub use Rattle.ilp_rules.specs.Parts
+pub use Rattle.ilp_rules.specs.Carried
