@@ -1,6 +1,5 @@
 -- The worked runs compute. What looks at a preimage holds for every condition that it meets.
 use Rattle.std.proofs.Common.{◌≡◌, ℕ, List, refl, true, replicate}
-use Rattle.std.specs.Fmt.{digits}
 use Rattle.ilp_assets.specs.Quote.{quote}
 use Rattle.ilp_journal.specs.Balance.{balance}
 use Rattle.ilp_journal.specs.TrialBalance.{total_in, total_out}
@@ -9,8 +8,6 @@ use Rattle.ilp_journal.specs.Journal.{open_holds, open_asks}
 use Rattle.ilp_book.specs.HoldStep.{hold_terms, hold_fitted, hold_checked, hold_step}
 use Rattle.ilp_book.specs.AnswerStep.{judged_reply, answer_step, expire_step}
 use Rattle.ilp_book.specs.SettleStep.{credit_checked, credit_step, ask_checked, ask_step, close_step}
-use Rattle.ilp_journal.specs.BroughtForward.{brought_forward}
-use Rattle.ilp_book.specs.AlikeRows.{AlikeRow}
 use Rattle.ilp_book.specs.Rows.{PaidRow, LateRow, ReleasedRow, ExpiredRow, LeastRow, TermsRow, TotalRow, FullRow, OlderRow, CreditedRow, SettledRow, PartsRow, CarriedRow}
 
 pub paid_row : (c : List ℕ) → meets c (replicate 32 0) ≡ true → PaidRow c
@@ -79,7 +76,3 @@ parts_row = refl
 pub carried_row : (c : List ℕ) → CarriedRow c
 unfolding quote balance total_in total_out hold_terms hold_fitted hold_checked hold_step
 carried_row c = record { before = refl; from_then_on = refl; base = refl; given_back = refl }
-
-pub alike_row : (c : List ℕ) → AlikeRow c
-unfolding digits quote balance total_in total_out open_asks brought_forward hold_terms hold_fitted hold_checked hold_step judged_reply answer_step expire_step credit_checked credit_step ask_checked ask_step close_step
-alike_row c = record { later = refl; before = refl }

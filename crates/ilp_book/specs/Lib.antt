@@ -5,8 +5,6 @@ pub mod AnswerStep
 pub mod SettleStep
 pub mod Run
 pub mod Rows
-pub mod Alike
-pub mod AlikeRows
 pub use Rattle.ilp_order.specs.Refusals
 pub use Rattle.ilp_assets.specs.Quote
 pub use Rattle.ilp_lookup.specs.Route

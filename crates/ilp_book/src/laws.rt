@@ -23,7 +23,6 @@ ghost use Rattle.ilp_book.specs.AnswerStep.{answer_step, expire_step, IsOverBy};
 ghost use Rattle.ilp_book.specs.SettleStep.{kept, close_step, IsClosedBy, IsKeptBy};
 ghost use Rattle.ilp_book.specs.Run.{Step, AreAllowed, book_after};
 ghost use Rattle.ilp_book.specs.Rows.{PaidRow, LateRow, ReleasedRow, ExpiredRow, LeastRow, TermsRow, TotalRow, FullRow, OlderRow, CreditedRow, SettledRow, PartsRow, CarriedRow};
-ghost use Rattle.ilp_book.specs.AlikeRows.{AlikeRow};
 
 pub use ilp_rules::laws::{
     bases_can_rise, carried_books, lawful_books, recovered_begins, saved_texts_are_carried,
@@ -101,5 +100,4 @@ pub fn rows()
     ensures settled { SettledRow }
     ensures parts { PartsRow }
     ensures carried { (c : List ℕ) → CarriedRow c }
-    ensures alike { (c : List ℕ) → AlikeRow c }
 {}

@@ -1,7 +1,7 @@
 -- What is brought forward keeps the rules of the next period, entry by entry.
 use Rattle.std.proofs.Common.{◌≡◌, ℕ, zero, suc, ◌+◌, ◌<◌, ◌≤◌, ℤ, pos, negsuc, Bool, true, false, cond, List, [], ◌∷◌, ◌++◌, map, length, Option, Some, None, refl, sym, ap, ◌∙◌, subst, arith, zero-add, append_assoc, IfSome, IsNone, slice_get, option_map, option_and_then, unwrap_or, ◌==◌, All, is_some}
-use Rattle.std.specs.Prelude.{◌≤ℤ◌}
-use Rattle.std.specs.List.{cons_option}
+use Rattle.std.specs.Prelude.{◌≤ℤ◌, IsTrue}
+use Rattle.std.specs.List.{cons_option, list_all}
 use Rattle.std.specs.Str.{bytes_eq}
 use Rattle.std.proofs.lemmas.Bool.{eq-eqb, eqb-true}
 use Rattle.std.proofs.lemmas.Int.{ints}
@@ -30,12 +30,12 @@ use Rattle.ilp_journal.proofs.OpenGrowth.{open_asks-push}
 use Rattle.ilp_tallies.specs.OpenAsks.{HasRoomToAsk}
 use Rattle.ilp_terms.specs.Expiry.{last_of_all}
 use Rattle.ilp_rules.specs.Book.{PlainBook, by, entry_by, moment_at}
-use Rattle.ilp_rules.specs.Heads.{most_open_asks, HasOwnKey, IsHead, IsOfPeriodFrom, KeepsKeyRule, has_earlier_key, settlement_key_of}
+use Rattle.ilp_rules.specs.Heads.{most_open_asks, HasOwnKey, IsHead, IsOfPeriodFrom, KeepsKeyRule, has_earlier_key, is_key_octet, settlement_key_of}
 use Rattle.ilp_rules.specs.Heads as heads
 use Rattle.ilp_rules.specs.Lawful.{IsLawful, IsInTime, KeepsRule, KeepsRuleOf}
 use Rattle.ilp_rules.specs.SettlementKeys.{settlement_key_at}
 use Rattle.ilp_rules.proofs.InTime.{in_time}
-use Rattle.ilp_rules.proofs.OwnKeys.{own_keys, key_named, key_earlier}
+use Rattle.ilp_rules.proofs.OwnKeys.{own_keys, key_named, key_visible, key_earlier}
 use Rattle.ilp_rules.proofs.Rules.{rule_closes}
 use Rattle.ilp_rules.proofs.TableSteps.{key_fresh, room_to_ask}
 use Rattle.ilp_next_period.specs.NextPeriod.{period_end, next_head}
@@ -296,6 +296,7 @@ module _ (book : PlainBook) (next : Configuration) (now : ℤ) (valid : IsValid 
           own : HasOwnKey next (book.period + 1) (map h (front ++ filter_map_from (pending_at end book.entries) 0 done)) (key_in (length done) e)
           own = record {
             named = subst IsKey (key_is (length done) e at) (key_named book (length done) a valid lawful there);
+            visible = subst (λ (key : List ℕ). IsTrue (list_all is_key_octet key)) (key_is (length done) e at) (key_visible book (length done) a valid lawful there);
             single = single (key_in (length done) e) done (λ k x b at_k is_k. apart k (length done) x e b a (stands.1 k x at_k) at is_k is (within done k x at_k));
             earlier = subst (λ (key : List ℕ). ¬ (IsOfPeriodFrom next (book.period + 1) key)) (key_is (length done) e at) (key_earlier book (length done) a valid lawful there next run);
           }

@@ -1,6 +1,7 @@
 -- What is brought forward, judged: what may come next in a head, and what may not.
 use Rattle.std.proofs.Common.{◌≡◌, ◌≢◌, ◌⊎◌, ℕ, ◌<◌, ℤ, pos, List, Option, Some, None, refl, length, inl, inr}
-use Rattle.std.specs.Prelude.{IsSome, IsNone}
+use Rattle.std.specs.Prelude.{IsSome, IsNone, IsTrue}
+use Rattle.std.specs.List.{list_all}
 use Rattle.ilp_journal.specs.Keys.{IsKey}
 use Rattle.ilp_journal.specs.declared.entry.What.TheVariants as what
 use Rattle.ilp_journal.specs.Journal.{open_asks}
@@ -9,7 +10,7 @@ use Rattle.ilp_journal.specs.BroughtForward.{opening_at}
 use Rattle.ilp_rules.specs.Book.{PlainBook}
 use Rattle.ilp_rules.specs.Broken.{OpensWrong}
 use Rattle.ilp_rules.specs.Configured.{IsKnown}
-use Rattle.ilp_rules.specs.Heads.{IsHead, IsOfPeriodFrom, StandsInHead, pending_at, most_open_asks}
+use Rattle.ilp_rules.specs.Heads.{IsHead, IsOfPeriodFrom, StandsInHead, is_key_octet, pending_at, most_open_asks}
 use Rattle.ilp_rules.specs.Lawful.{IsLawful}
 use Rattle.ilp_rules.proofs.HeadLemmas.{told_by_opening, IsToldBy}
 
@@ -57,15 +58,15 @@ module _ (book : PlainBook) (lawful : IsLawful book) where
 
   -- ---- settlements
 
-  -- one that is still open may come next where few are, under a key that no other one has
+  -- one that is still open may come next where few are, under a key that can go out and that no other one has
   pub waits : (p a : ℕ) (key : List ℕ) → IsKnown book.config p → length book.entries < book.base → (0 < book.period) × IsHead book.entries → open_asks book.entries p < most_open_asks
-      → IsKey key → ¬ (IsSome (pending_at book.entries key)) → ¬ (IsOfPeriodFrom book.config book.period key) → StandsInHead book.config book.period book.base book.entries (what.Pending p a key)
-  waits p a key known begun head few named single earlier = record {
+      → IsKey key → IsTrue (list_all is_key_octet key) → ¬ (IsSome (pending_at book.entries key)) → ¬ (IsOfPeriodFrom book.config book.period key) → StandsInHead book.config book.period book.base book.entries (what.Pending p a key)
+  waits p a key known begun head few named visible single earlier = record {
     later = head.0;
     front = head.1;
     begun = begun;
     rule = (known, few);
-    keys = record { named = named; single = none (pending_at book.entries key) single; earlier = earlier };
+    keys = record { named = named; visible = visible; single = none (pending_at book.entries key) single; earlier = earlier };
   }
     where
       none : (o : Option ℕ) → ¬ (IsSome o) → IsNone o

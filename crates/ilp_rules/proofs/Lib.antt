@@ -9,6 +9,7 @@ pub mod Keeping
 mod HeadLemmas
 mod JudgingHeads
 mod KeyFronts
+mod KeyOctets
 mod PendingKeys
 pub mod Judging
 pub mod Ending

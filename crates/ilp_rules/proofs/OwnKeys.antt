@@ -1,7 +1,7 @@
 -- No two settlements have one key.
 use Rattle.std.proofs.Common.{◌≡◌, ℕ, ◌+◌, ◌^◌, ◌<◌, ◌≤◌, ℤ, Bool, true, false, cond, List, [], ◌∷◌, ◌++◌, length, slice_index, slice_index_or, Option, Some, None, refl, sym, ap, ◌∙◌, subst, arith, append_assoc, length-append}
-use Rattle.std.specs.Prelude.{codes, ◌==◌, slice_get, option_and_then, option_map, unwrap_or, IsNone}
-use Rattle.std.specs.List.{slice_split}
+use Rattle.std.specs.Prelude.{codes, ◌==◌, slice_get, option_and_then, option_map, unwrap_or, IsNone, IsTrue}
+use Rattle.std.specs.List.{slice_split, list_all}
 use Rattle.std.specs.Fmt.{decimal}
 use Rattle.std.specs.Str.{bytes_eq}
 use Rattle.std.proofs.lemmas.Bool.{eqb-true}
@@ -25,11 +25,12 @@ use Rattle.ilp_order.proofs.Sums.{by_push, Each-parts}
 use Rattle.ilp_order.proofs.RefusalLemmas.{some_same}
 use Rattle.ilp_journal.proofs.Naming.{stands_at-push}
 use Rattle.ilp_rules.specs.Book.{PlainBook}
-use Rattle.ilp_rules.specs.Heads.{HasOwnKey, IsOfPeriodFrom, key_front, has_earlier_key, pending_at, period_mark, settlement_key_of}
+use Rattle.ilp_rules.specs.Heads.{HasOwnKey, IsOfPeriodFrom, is_key_octet, key_front, has_earlier_key, pending_at, period_mark, settlement_key_of}
 use Rattle.ilp_rules.specs.Lawful.{IsLawful, KeepsRule, KeepsRuleOf}
 use Rattle.ilp_rules.specs.SettlementKeys.{settlement_key_at}
 use Rattle.ilp_rules.proofs.KeptOnce.{none_passes}
 use Rattle.ilp_rules.proofs.KeyFronts.{no_hyphen}
+use Rattle.ilp_rules.proofs.KeyOctets.{mark_visible, run_visible, digits_visible, both_visible}
 use Rattle.ilp_rules.proofs.LawfulGrowth.{limits_now}
 
 -- ---- keys of two periods
@@ -104,9 +105,10 @@ not_both j key m single earlier = at (slice_get j m) refl earlier
         ap (λ (o : Option (List ℕ)). unwrap_or (option_map (λ (other : List ℕ). bytes_eq other key) o) false) e ∙ (bytes_eq-Decides key key).1 refl in
         cc
 
--- two that are brought forward under one key are one, and the key is a key, and none of this period or a later one
+-- two that are brought forward under one key are one, and the key is a key that can go out, and none of this period or a later one
 record AreOwn (C : Configuration) (period : ℕ) (j : Entries) : Type 0 where
   named : (k : ℕ) (key : List ℕ) → earlier_key_at j k ≡ Some key → IsKey key
+  visible : (k : ℕ) (key : List ℕ) → earlier_key_at j k ≡ Some key → IsTrue (list_all is_key_octet key)
   single : (k m : ℕ) (key : List ℕ) → earlier_key_at j k ≡ Some key → earlier_key_at j m ≡ Some key → k ≡ m
   earlier : (k : ℕ) (key : List ℕ) → earlier_key_at j k ≡ Some key → ¬ (IsOfPeriodFrom C period key)
 
@@ -115,7 +117,7 @@ module _ (book : PlainBook) where
   Own j = AreOwn book.config book.period j
 
   are_own : (j : Entries) → Each (KeepsRuleOf book) j → Own j
-  are_own = by_push (λ j. Each (KeepsRuleOf book) j → Own j) (λ _. record { named = λ k key at. absurd cc; single = λ k m key at. absurd cc; earlier = λ k key at. absurd cc }) more
+  are_own = by_push (λ j. Each (KeepsRuleOf book) j → Own j) (λ _. record { named = λ k key at. absurd cc; visible = λ k key at. absurd cc; single = λ k m key at. absurd cc; earlier = λ k key at. absurd cc }) more
     where
       more : (j : Entries) (e : Entry) → (Each (KeepsRuleOf book) j → Own j) → Each (KeepsRuleOf book) (j ++ e ∷ []) → Own (j ++ e ∷ [])
       more j e before each =
@@ -123,6 +125,7 @@ module _ (book : PlainBook) where
           let own = λ (key : List ℕ) (is : earlier_key e.what ≡ Some key). rule_keys book.config book.period book.base j e.moment e.what key is parts.1 in
           record {
             named = λ k key at. is_key k key (k == length j) (sym (stands_at-push earlier_key j e k) ∙ at) (before parts.0) own;
+            visible = λ k key at. is_visible k key (k == length j) (sym (stands_at-push earlier_key j e k) ∙ at) (before parts.0) own;
             single = λ k m key at_k at_m.
                 one k m key (k == length j) (m == length j) refl refl (sym (stands_at-push earlier_key j e k) ∙ at_k) (sym (stands_at-push earlier_key j e m) ∙ at_m) (before parts.0) own;
             earlier = λ k key at. none k key (k == length j) (sym (stands_at-push earlier_key j e k) ∙ at) (before parts.0) own;
@@ -139,6 +142,11 @@ module _ (book : PlainBook) where
               → ((key : List ℕ) → earlier_key e.what ≡ Some key → HasOwnKey book.config book.period j key) → IsKey key
           is_key k key true at are own = (own key at).named
           is_key k key false at are own = are.named k key at
+
+          is_visible : (k : ℕ) (key : List ℕ) (a : Bool) → cond a (earlier_key e.what) (earlier_key_at j k) ≡ Some key → Own j
+              → ((key : List ℕ) → earlier_key e.what ≡ Some key → HasOwnKey book.config book.period j key) → IsTrue (list_all is_key_octet key)
+          is_visible k key true at are own = (own key at).visible
+          is_visible k key false at are own = are.visible k key at
 
           none : (k : ℕ) (key : List ℕ) (a : Bool) → cond a (earlier_key e.what) (earlier_key_at j k) ≡ Some key → Own j
               → ((key : List ℕ) → earlier_key e.what ≡ Some key → HasOwnKey book.config book.period j key) → ¬ (IsOfPeriodFrom book.config book.period key)
@@ -193,6 +201,17 @@ module _ (book : PlainBook) (n : ℕ) (a : Ask) (valid : IsValid book.config) (l
           let whole = length-append (key_front book.config book.period) (decimal n) in
           let front = length-append book.config.settings.run (period_mark book.period) in
           (omega (arith, whole, front, run_length.0), omega (arith, whole, front, run_length.1, short_mark (book.period == 0), digits))
+
+  -- which can go out
+  pub key_visible : IsTrue (list_all is_key_octet (settlement_key_at book.config book.period book.entries n))
+  key_visible = of (earlier_key_at book.entries n) refl
+    where
+      of : (o : Option (List ℕ)) → earlier_key_at book.entries n ≡ o → IsTrue (list_all is_key_octet (unwrap_or o (settlement_key_of book.config book.period n)))
+      of (Some key) at = (are_own book book.entries lawful.rules).visible n key at
+      of None at =
+          both_visible (key_front book.config book.period) (decimal n)
+          (both_visible book.config.settings.run (period_mark book.period) (run_visible book.config.settings.run valid.settings.run) (mark_visible book.period lawful.numbered))
+          (digits_visible n (number_fits book n a valid lawful is))
 
   -- under which no later period of the run asks for one
   pub key_earlier : (next : Configuration) → next.settings.run ≡ book.config.settings.run → ¬ (IsOfPeriodFrom next (book.period + 1) (settlement_key_at book.config book.period book.entries n))

@@ -1,5 +1,6 @@
 -- What stands at the head of a journal: what was brought forward from the period before.
-use Rattle.std.specs.Prelude.{◌≡◌, ℕ, ◌<◌, ◌≤◌, ◌^◌, All, Bool, false, IsTrue, IsNone, List, length, Option, option_map, unwrap_or, if◌then◌else◌, ◌==◌, ◌++◌, codes, ⊤}
+use Rattle.std.specs.Prelude.{◌≡◌, ℕ, ◌<◌, ◌≤◌, ◌^◌, All, Bool, false, IsTrue, IsNone, List, length, Option, option_map, unwrap_or, if◌then◌else◌, ◌==◌, ◌&&◌, nat_le, ◌++◌, codes, ⊤}
+use Rattle.std.specs.List.{list_all}
 use Rattle.std.specs.Str.{bytes_eq}
 use Rattle.std.specs.Fmt.{decimal}
 use Rattle.ilp_accounts.specs.Configuration.{Configuration}
@@ -58,10 +59,15 @@ has_earlier_key key w = unwrap_or (option_map (λ (other : List ℕ). bytes_eq o
 abbrev pub pending_at : Entries → List ℕ → Option ℕ
 pending_at j key = first_from (λ _ (e : Entry). has_earlier_key key e.what) 0 j
 
--- A settlement is brought forward under a key that no other one has or gets: none that is brought forward too, and none of this
--- period or a later one.
+-- visible ASCII, which a key needs to go out as the value of a field (RFC 9110, section 5.5)
+abbrev pub is_key_octet : ℕ → Bool
+is_key_octet octet = nat_le 33 octet && nat_le octet 126
+
+-- A settlement is brought forward under a key that can go out, and that no other one has or gets: none that is brought forward
+-- too, and none of this period or a later one.
 pub record HasOwnKey (C : Configuration) (period : ℕ) (before : Entries) (key : List ℕ) : Type 0 where
   pub named : IsKey key
+  pub visible : IsTrue (list_all is_key_octet key)
   pub single : IsNone (pending_at before key)
   pub earlier : ¬ (IsOfPeriodFrom C period key)
 

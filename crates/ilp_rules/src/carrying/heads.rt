@@ -1,6 +1,7 @@
 //! Whether what is brought forward from an earlier period may come next in a journal.
 ghost use Rattle.std.specs.Prelude.{◌≡◌, ◌==◌, ℕ, ◌<◌, ◌≤◌, ◌^◌, ◌++◌, ◌∷◌, ℤ, pos, ◌+ℤ◌, ◌≤ℤ◌, int_lt, Bool, false, List, length, position, All, ◌↔◌, codes, IsTrue, IsSome, IsSomeAnd, IfSome, MatchOption, IfErr, OnOk, OnErr};
 ghost use Rattle.std.specs.Fmt.{decimal};
+ghost use Rattle.std.specs.List.{list_all};
 ghost use Rattle.ilp_accounts.specs.Configuration.{peer_at};
 ghost use Rattle.ilp_order.specs.Places.{passes_at};
 ghost use Rattle.ilp_journal.specs.declared.entry.Entry.{Entry as PlainEntry};
@@ -10,7 +11,7 @@ ghost use Rattle.ilp_journal.specs.Balance.{balance};
 ghost use Rattle.ilp_journal.specs.Booked.{most_sum};
 ghost use Rattle.ilp_rules.specs.Broken.{BreaksRule};
 ghost use Rattle.ilp_rules.specs.Configured.{IsKnown};
-ghost use Rattle.ilp_rules.specs.Heads.{IsHead, IsOfPeriodFrom, StartsWith, StandsInHead, has_earlier_key, pending_at, period_mark};
+ghost use Rattle.ilp_rules.specs.Heads.{IsHead, IsOfPeriodFrom, StartsWith, StandsInHead, has_earlier_key, is_key_octet, pending_at, period_mark};
 
 use super::Carrying;
 use crate::asks::are_few_open;
@@ -63,8 +64,8 @@ impl<A: Allocator> Carrying<A> {
         Ok(())
     }
 
-    /// Whether a settlement of an earlier period may be brought forward: where few enough are open, and
-    /// no other has its key.
+    /// Whether a settlement of an earlier period may be brought forward: where few enough are open, under
+    /// a key that can go out and that no other one has.
     pub(super) fn judge_pending(&self, peer: u32, amount: u64, key: &Key) -> Result<(), BrokenRule>
         ensures ok { OnOk result (StandsInHead self.now.config self.now.period self.now.base
             self.now.entries (what.Pending peer amount key.now)) }
@@ -81,7 +82,8 @@ impl<A: Allocator> Carrying<A> {
             return Err(BrokenRule::StillOpen);
         }
         let key = key.as_slice();
-        if is_brought_under(&self.journal, key)
+        if !are_key_octets(key)
+            || is_brought_under(&self.journal, key)
             || is_of_period_from(&self.config, self.period, key)
         {
             return Err(BrokenRule::SettlementKey);
@@ -141,6 +143,18 @@ fn is_below(balance: i128, opened: i64, least: i64) -> bool
     ensures { result ≡ int_lt (balance +ℤ opened) least }
 {
     balance + i128::from(opened) < i128::from(least)
+}
+
+fn is_key_octet(octet: u8) -> bool
+    ensures { result ≡ is_key_octet octet }
+{
+    33 <= octet && octet <= 126
+}
+
+fn are_key_octets(octets: &[u8]) -> bool
+    ensures { result ≡ list_all is_key_octet octets.now }
+{
+    octets.iter().all(|octet| is_key_octet(*octet))
 }
 
 // Whether a settlement is brought forward under the key.

@@ -1,4 +1,4 @@
-use Rattle.ilp_book.proofs.RowProofs.{paid_row, late_row, released_row, expired_row, least_row, terms_row, total_row, full_row, older_row, credited_row, settled_row, parts_row, carried_row, alike_row}
+use Rattle.ilp_book.proofs.RowProofs.{paid_row, late_row, released_row, expired_row, least_row, terms_row, total_row, full_row, older_row, credited_row, settled_row, parts_row, carried_row}
 use Rattle.ilp_book.proofs.laws.rows.Goals as goal
 
 pub returns : goal.returns
@@ -16,5 +16,4 @@ returns c = record {
   settled = settled_row;
   parts = parts_row;
   carried = carried_row;
-  alike = alike_row;
 }

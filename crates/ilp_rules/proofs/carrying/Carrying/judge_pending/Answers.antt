@@ -1,11 +1,12 @@
 use Rattle.std.proofs.Common.{◌≡◌, ◌<◌, ◌≤◌, true, false, List, ℕ, length, sym, ◌∙◌, subst, rules, arith}
-use Rattle.std.specs.Prelude.{IsSome}
+use Rattle.std.specs.Prelude.{IsSome, IsTrue}
+use Rattle.std.specs.List.{list_all}
 use Rattle.std.proofs.lemmas.Bool.{ltb-true, ltb-false, lt-ltb}
 use Rattle.ilp_journal.specs.declared.entry.What.TheVariants as what
 use Rattle.ilp_journal.specs.Journal.{open_asks}
 use Rattle.ilp_rules.specs.Book.{PlainBook}
 use Rattle.ilp_rules.specs.Configured.{IsKnown, peer_assets}
-use Rattle.ilp_rules.specs.Heads.{IsHead, IsOfPeriodFrom, StandsInHead, most_open_asks, pending_at}
+use Rattle.ilp_rules.specs.Heads.{IsHead, IsOfPeriodFrom, StandsInHead, is_key_octet, most_open_asks, pending_at}
 use Rattle.ilp_rules.specs.Judging.{behind_all}
 use Rattle.ilp_rules.specs.Parts.{book_of}
 use Rattle.ilp_rules.proofs.JudgingHeads.{waits}
@@ -42,6 +43,7 @@ returns-clause-ok g c =
     ltb-true _ _ (sym (c.are_few_open.ensures (peer_assets C) behind_all j c.self.invariant.tallied) ∙ is) in
     let begun : length j < behind_all = subst (λ (b : PlainBook). length b.entries < b.base) (sym c.self.view_is) c.judge_head.ensures.begun in
     let head = subst (λ (b : PlainBook). (0 < b.period) × IsHead b.entries) (sym c.self.view_is) c.in_ok-judge_head.ensures.ok in
+    let visible : IsTrue (list_all is_key_octet key) = subst (λ (k : List ℕ). IsTrue (list_all is_key_octet k)) same (sym c.are_key_octets.ensures ∙ c.if-are_key_octets.true) in
     let single : ¬ (IsSome (pending_at j key)) = λ some.
     let yes : c.is_brought_under.result ≡ true = c.is_brought_under.ensures.1 (subst (λ (k : List ℕ). IsSome (pending_at j k)) (sym same) some) in
     let clash : false ≡ true = sym c.if-is_brought_under.false ∙ yes in cc in
@@ -49,4 +51,4 @@ returns-clause-ok g c =
     let yes : c.is_of_period_from.result ≡ true = c.is_of_period_from.ensures.1 (subst (IsOfPeriodFrom C c.self.inside.period) (sym same) of) in
     let clash : false ≡ true = sym c.if-is_of_period_from.false ∙ yes in cc in
     subst (λ (b : PlainBook). StandsInHead b.config b.period b.base b.entries (what.Pending peer c.args.amount key)) c.self.view_is
-    (waits book c.self.invariant.lawful peer c.args.amount key known begun head few c.as_slice-key.ensures.length single earlier)
+    (waits book c.self.invariant.lawful peer c.args.amount key known begun head few c.as_slice-key.ensures.length visible single earlier)

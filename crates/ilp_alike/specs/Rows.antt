@@ -12,7 +12,7 @@ use Rattle.ilp_rules.specs.Book.{PlainBook, new_book}
 use Rattle.ilp_next_period.specs.NextPeriod.{next_book}
 use Rattle.ilp_book.specs.Run.{hold, answer, expire, ask, close, CallReply, of_hold, of_answer, of_expire, of_credit, of_ask, of_close, Step, replies_to, book_after}
 use Rattle.ilp_book.specs.Rows.{alice, bob, between, new_year, prepare, sends, cents, settles, at_}
-use Rattle.ilp_book.specs.Alike.{by_config, calls_before, unnumbered}
+use Rattle.ilp_alike.specs.Alike.{by_config, calls_before, unnumbered}
 
 -- alice and bob, by their names
 abbrev pub alice_named : PlainPeer
