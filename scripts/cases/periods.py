@@ -85,7 +85,7 @@ def changed_prices_of_a_journal(laboratory: Laboratory) -> None:
     expect("the text of the period that ended", kept.beside("0").read_text(), old)
     expect("the lines of the next one", [re.sub(r"^\d+ ", "T ", line) for line in kept.text().splitlines()],
            ["ilp-journal 2 1", "T 0 opened alice -30", "T 0 opened bob 1030",
-            f"T 0 known bob {kept.setup.key} 1000 2 1000", "end 3"])
+            f"T 0 known bob {kept.setup.key.encode().hex()} 1000 2 1000", "end 3"])
     kept.setup = dearer(kept.setup)
     program = kept.serve()
     expect("a credit that was made before", credit(program, 1000), created(quantity(1000, 2)))
