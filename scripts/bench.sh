@@ -12,6 +12,7 @@
 #     scripts/bench.sh journal
 #     scripts/bench.sh book
 #     scripts/bench.sh carried
+#     scripts/bench.sh periods
 #     scripts/bench.sh desk
 #     scripts/bench.sh answer
 #     scripts/bench.sh report
@@ -22,10 +23,11 @@
 # that CONNECTOR names), under load beside nginx and plain Rust, and `log` beside PostgreSQL and SQLite too.
 # They need wrk and nginx; bench/serve/serve.py and scripts/benching/log.py say what they print and take.
 #
-# A turn of `carried` is an entry that is saved or carried over.
+# A turn of `carried` is an entry that is saved or carried over. `periods` has no baseline: it prints how many
+# entries and keys the books have that are closed, and the nanoseconds that bringing them forward takes.
 #
-# With LARGE=1 in the environment `book` and `carried` have their rows of 16,000,000 entries alone, which
-# take 4 and 6 GB, and count no instructions; `log` has as many before its starts.
+# With LARGE=1 in the environment `book`, `carried` and `periods` have their rows of 16,000,000 entries alone,
+# which take 4 to 6 GB, and count no instructions; `log` has as many before its starts.
 #
 # It works on a copy of the repository in a temporary folder (TMPDIR says where). It needs rt, rustc
 # and python3, and valgrind for the instructions. The Rattle program is proved before it is built
@@ -71,6 +73,10 @@ if [ -f "$bench/$name.py" ]; then python3 "$bench/$name.py"; fi >"$work/input"
 echo "proves and builds the Rattle program (rt run) ..." >&2
 cd "$copy/crates/bench_$name"
 rt run <"$work/input" >"$work/first" 2>"$work/log" || { cat "$work/log" >&2; exit 1; }
+if [ "$name" = periods ]; then
+    cat "$work/first"
+    exit
+fi
 cpu=$(sed -n 's/^logic=.* cpu=\([^ ]*\).*/\1/p' "$work/log" | tail -n 1)
 rustc --edition 2024 -O -C "target-cpu=$cpu" "$top/bench/baselines/$name.rs" -o "$work/baseline"
 
