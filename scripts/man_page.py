@@ -19,13 +19,13 @@ def escaped(text: str) -> str:
 
 
 def commands(paragraph: str) -> list[tuple[str, str]]:
-    """The commands of the help, and what each does: two columns, of which the second may go on below."""
+    """The commands of the help, and what each does: two columns, of which the second may go on below, or begin there."""
     rows: list[tuple[str, str]] = []
     for line in paragraph.splitlines():
         name, _, does = line.strip().partition("  ")
         if line.startswith(" "):
             before, so_far = rows.pop()
-            rows.append((before, f"{so_far} {line.strip()}"))
+            rows.append((before, f"{so_far} {line.strip()}".lstrip()))
         else:
             rows.append((name, does.strip()))
     return rows

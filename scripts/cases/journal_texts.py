@@ -10,6 +10,9 @@ from cases.program import Setup
 from cases.stand_ins import ACCEPTS, FULFILLS, engine_of
 from connections import quantity
 
+# What is told behind the rule that an entry breaks.
+HELPS = ": where the configuration was changed, `connector new-period` brings the books forward to it"
+
 
 # ---- a text that was changed
 
@@ -38,7 +41,7 @@ def journal_changed_by_hand(laboratory: Laboratory) -> None:
              "expected nothing behind the last line, `end 3`"),
             ([first, entries[0], earlier, entries[2], last], "72 Unlawful 1", 3,
              "the entry 1 is not lawful: its moment lies before that of the entry before it,"
-             " or outside of the years 1970 to 9999")]
+             f" or outside of the years 1970 to 9999{HELPS}")]
     for lines, told, line, why in rows:
         kept.path.write_text("".join(lines))
         kept.expect_refused(told, rf"\".+/journal\" line {line}: {re.escape(why)}")
@@ -99,8 +102,9 @@ def journal_under_another_configuration(laboratory: Laboratory) -> None:
         program.configuration.write_text(changed)
         done = kept.check(program)
         expect(f"what check says with {after!r}", done.stdout, f"{told}\n")
+        helps = HELPS if "Unlawful" in told else ""
         expect_that(f"{done.stderr!r} does not say why with {after!r}",
-                    re.fullmatch(why and rf"(\".+\" line \d+|journal \".+\"): {why}\n", done.stderr) is not None)
+                    re.fullmatch(why and rf"(\".+\" line \d+|journal \".+\"): {why}{helps}\n", done.stderr) is not None)
 
 
 # ---- no path

@@ -52,6 +52,12 @@ OPEN_HOLDS = (rf"\d+ holds that went on to (?P<peer>{NAME}) were open, of \d+ in
 OF_ANOTHER_TEXT = (rf"journal {PATH}: its log goes on from another text, and the journal lacks what the log has: put "
                    r"both back as they stood together, or move the log away and lose what it has")
 
+# What is told of a period's file that has another text, and of a peer that a next period leaves out.
+ANOTHER_PERIOD = (rf"{PATH} has another text than the period that is to be kept there, and is never written again: "
+                  "move it away, if it is of another journal")
+KEYS_LEFT_OUT = (rf"{NAME} is left out with \d+ keys of its settlements: where a peer of this name is added again, what "
+                 "its engine tells again is credited again")
+
 # What is told at the start where no journal is kept.
 NO_JOURNAL = ("warn no journal is kept: balances and keys are forgotten at the end, so each start needs a "
               "`run` that no earlier one had")
@@ -107,6 +113,11 @@ FORMS = [re.compile(form) for form in (
     rf"error {re.escape(INCOMPLETE)}",
     rf"warn can't remove {PATH}: .+: the journal has all that it has, and the next start removes it",
     rf"warn {PATH} lies there, .+",
+    rf"info journal {PATH}: the period \d+ has ended, and its \d+ entries are kept as {PATH}",
+    rf"info journal {PATH}: the period \d+ begins with its \d+ entries",
+    rf"warn {KEYS_LEFT_OUT}",
+    rf"error {ANOTHER_PERIOD}",
+    rf"error can't write {PATH}: .+: make room for it, and give the command again: nothing is lost",
     r"error clock: \d+\.\d{3} seconds behind the last moment of the book, so that packets come too late",
 )]
 

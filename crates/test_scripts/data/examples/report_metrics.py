@@ -37,9 +37,11 @@ MOST_ASSETS = 64
 OF_PEERS = ("balance", "open")
 OF_ASSETS = ("held", "fees", "bought", "sold", "settled")
 OF_ALL = ("entries", "fulfilled")
+# The last line of the report of a period above 0. The first period has none.
+OF_LATER = "period"
 MAY_BE_NEGATIVE = ("balance", "settled")
 
-MOST_LINES = len(OF_PEERS) * MOST_PEERS + len(OF_ASSETS) * MOST_ASSETS + len(OF_ALL)
+MOST_LINES = len(OF_PEERS) * MOST_PEERS + len(OF_ASSETS) * MOST_ASSETS + len(OF_ALL) + 1
 MOST_OCTETS = MOST_LINES * (WIDTH + 1)
 
 PEER = re.compile(r"[a-z0-9_-]{1,16}")
@@ -69,6 +71,7 @@ METRICS = {
     ),
     "entries": ("ilp_entries", "How many entries the journal has."),
     "fulfilled": ("ilp_fulfilled", "How many holds are fulfilled."),
+    "period": ("ilp_period", "The number of the journal's period, from 0 on."),
 }
 UNAUTHORIZED = {
     "unauthorized": ("ilp_unauthorized", "How many requests got 401, by the lines of standard error.")
@@ -166,7 +169,8 @@ class Lines:
     def end(self) -> None:
         """No line is left."""
         if self._taken < len(self._lines):
-            raise NoReport(f"line {self._taken + 1}: nothing is to come after {OF_ALL[-1]}")
+            last = self._lines[self._taken - 1].label
+            raise NoReport(f"line {self._taken + 1}: nothing is to come after {last}")
 
 
 def take_named(
@@ -214,9 +218,20 @@ def read_report(octets: bytes) -> Report:
         for label in others:
             assets[name][label] = lines.take(label, name).number
     totals = {label: lines.take(label, "").number for label in OF_ALL}
+    totals[OF_LATER] = take_period(lines)
     lines.end()
     check_books(peers, assets)
     return Report(peers, assets, totals)
+
+
+def take_period(lines: Lines) -> int:
+    """The number of the period: that of the last line, or 0 where there is none."""
+    if not lines.comes(OF_LATER):
+        return 0
+    line = lines.take(OF_LATER, "")
+    if line.number == 0:
+        raise NoReport(f"line {line.place}: the first period has no line")
+    return line.number
 
 
 def check_books(peers: dict[str, dict[str, int]], assets: dict[str, dict[str, int]]) -> None:
@@ -274,7 +289,7 @@ def metrics_of(report: Report, unauthorized: int | None = None) -> str:
     for label in OF_ASSETS:
         of = [(of_asset(name), numbers[label]) for name, numbers in report.assets.items()]
         lines += family(label, of)
-    for label in OF_ALL:
+    for label in (*OF_ALL, OF_LATER):
         lines += family(label, [("", report.totals[label])])
     if unauthorized is not None:
         lines += family("unauthorized", [('{side="peers"}', unauthorized)])
@@ -332,9 +347,9 @@ def run(source: Path | None, output: Path | None, log: Path | None = None) -> No
 # ---- the test
 
 
-def sample(**changed: object) -> bytes:
+def sample(period: object = None, **changed: object) -> bytes:
     """The report after one hold of 100 by alice to bob that was fulfilled, or one with other numbers
-    under some labels."""
+    under some labels, and with a line of the period where that is given."""
     rows = [
         ("balance", "alice", -100),
         ("balance", "bob", 100),
@@ -348,6 +363,7 @@ def sample(**changed: object) -> bytes:
         ("entries", "", 2),
         ("fulfilled", "", 1),
     ]
+    rows += [] if period is None else [("period", "", period)]
     return "".join(
         f"{label:10}{name:20}{changed.get(label, number):>30}\n" for label, name, number in rows
     ).encode("ascii")
@@ -360,6 +376,17 @@ def refusal(octets: bytes) -> str:
     'none'
     >>> refusal(b"")
     'nothing came: see that the connector runs'
+    >>> refusal(sample(period=2**32 - 1))
+    'none'
+    >>> [refusal(sample(period=number)) for number in (0, -1, "01")]
+    ['line 12: the first period has no line', 'line 12: period is below 0', \
+'line 12: it ends with no whole number']
+    >>> refusal(sample(period=3) + sample(period=4)[-61:])
+    'line 13: nothing is to come after period'
+    >>> refusal(sample(period=3).replace(b"period    ", b"period   3"))
+    'line 12: it begins with no label of a report'
+    >>> refusal(sample()[:-61] + sample(period=3)[-61:])
+    'line 11: it is not fulfilled'
     >>> refusal(sample()[:-1])
     'it does not end with a whole line'
     >>> refusal(sample()[:-61])
@@ -400,7 +427,7 @@ def refusal(octets: bytes) -> str:
     >>> refusal(b"\\xff" + sample()[1:])
     'it has an octet that is no ASCII'
     >>> refusal(b" " * MOST_OCTETS + b"\\n")
-    'it has more than 50874 octets'
+    'it has more than 50935 octets'
     """
     try:
         read_report(octets)
@@ -421,18 +448,21 @@ SAMPLE_LINES = (
     'ilp_settled{asset="USD",scale="2"} 0',
     "ilp_entries 2",
     "ilp_fulfilled 1",
+    "ilp_period 0",
 )
 
 
 def differs_in() -> list[str]:
-    """What differs from what was meant: the examples above, the metrics of the sample, numbers that
-    no float holds, and that a refused report leaves a file and its folder as they were."""
+    """What differs from what was meant: the examples above, the metrics of the sample, its period,
+    numbers that no float holds, and that a refused report leaves a file and its folder as they were."""
     import doctest
 
     differs = ["an example"] if doctest.testmod().failed else []
     lines = metrics_of(read_report(sample())).splitlines()
     if tuple(line for line in lines if not line.startswith("#")) != SAMPLE_LINES:
         differs.append("the metrics of the sample")
+    if not metrics_of(read_report(sample(period=3))).endswith("\nilp_period 3\n"):
+        differs.append("the period")
     if 'ilp_unauthorized{side="peers"} 13\n' not in metrics_of(read_report(sample()), 13):
         differs.append("requests that got 401")
     most = 2**88 - 1
