@@ -153,6 +153,8 @@ def split_report(errors: str) -> tuple[list[str], str]:
     for place, text in enumerate(texts, start=1):
         if text.endswith(f" {FOLLOWS}"):
             end = place + LINES_OF_A_REPORT
+            if any(text.startswith("period ") for text in texts[end:end + 1]):
+                end += 1
             report = "".join(line + "\n" for line in texts[place:end])
             return texts[:place] + texts[end:], report
     return texts, ""

@@ -85,7 +85,7 @@ fn asked_of<'w>(command: &str, argument: &'w str) -> Option<Asked<'w>> {
 // What a command and the paths of a configuration and a journal ask for.
 fn asked_with_journal<'w>(command: &str, config: &'w str, journal: &'w str) -> Option<Asked<'w>> {
     match command {
-        "check" | "serve" | "new-period" if is_help(journal) => Some(Asked::Help),
+        "check" | "serve" | "new-period" | "follows" if is_help(journal) => Some(Asked::Help),
         "check" => Some(Asked::Check(config, Some(journal))),
         "serve" => Some(Asked::Serve(config, Some(journal))),
         "new-period" => Some(Asked::NewPeriod(config, journal, None)),

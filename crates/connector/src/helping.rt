@@ -32,6 +32,7 @@ connector --version               says the versions of the program and of the ki
 
 CONFIG is a file in TOML, or - for the built-in configuration. JOURNAL is the
 file that a run begins with, if it is there, and is saved to in the end.
+JOURNAL.P has the text of its period P, and NEW-CONFIG is that of the next one.
 
 The exit status is 0 where it is done, 1 where it is refused, which standard
 output ends with as `refused NUMBER NAME`, 2 where the arguments are not

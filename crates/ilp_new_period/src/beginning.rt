@@ -65,7 +65,7 @@ fn why(alloc: Global, book: &Book, next: &Config, fault: ForwardFault) -> Result
             )
         }
         ForwardFault::Full => format!(in alloc;
-            "`journal_entries` of the next configuration has no room for what is brought forward"
+            "`journal` of the next configuration has no room for what is brought forward"
         ),
         ForwardFault::Memory => Err(AllocError),
     }

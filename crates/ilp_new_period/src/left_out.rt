@@ -6,14 +6,20 @@ use ilp_notices::keys_left_out;
 use std::io::Eprint;
 use std::time::Clock;
 
-/// Tells of each peer that the next configuration lacks how many keys are forgotten with it.
+/// Tells of each peer that the next configuration lacks, and that has keys, how many are forgotten with it.
 pub(crate) fn tell_left_out<R: Clock + Eprint>(rt: &R, ended: &Book, next: &Config) {
     let config = ended.config();
     for peer in 0..config.peers() {
         let name = config.name(peer);
         if next.peer_by_name(name.as_bytes()).is_none() {
-            keys_left_out(rt, name, keys_of(ended, peer));
+            tell_keys(rt, name, keys_of(ended, peer));
         }
+    }
+}
+
+fn tell_keys<R: Clock + Eprint>(rt: &R, name: &str, keys: u32) {
+    if keys > 0 {
+        keys_left_out(rt, name, keys);
     }
 }
 
