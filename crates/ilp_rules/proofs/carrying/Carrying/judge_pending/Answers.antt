@@ -43,7 +43,8 @@ returns-clause-ok g c =
     ltb-true _ _ (sym (c.are_few_open.ensures (peer_assets C) behind_all j c.self.invariant.tallied) ∙ is) in
     let begun : length j < behind_all = subst (λ (b : PlainBook). length b.entries < b.base) (sym c.self.view_is) c.judge_head.ensures.begun in
     let head = subst (λ (b : PlainBook). (0 < b.period) × IsHead b.entries) (sym c.self.view_is) c.in_ok-judge_head.ensures.ok in
-    let visible : IsTrue (list_all is_key_octet key) = subst (λ (k : List ℕ). IsTrue (list_all is_key_octet k)) same (sym c.are_key_octets.ensures ∙ c.if-are_key_octets.true) in
+    let seen : c.are_key_octets.result ≡ true = search rules in
+    let visible : IsTrue (list_all is_key_octet key) = subst (λ (k : List ℕ). IsTrue (list_all is_key_octet k)) same (sym c.are_key_octets.ensures ∙ seen) in
     let single : ¬ (IsSome (pending_at j key)) = λ some.
     let yes : c.is_brought_under.result ≡ true = c.is_brought_under.ensures.1 (subst (λ (k : List ℕ). IsSome (pending_at j k)) (sym same) some) in
     let clash : false ≡ true = sym c.if-is_brought_under.false ∙ yes in cc in
