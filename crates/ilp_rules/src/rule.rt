@@ -47,9 +47,9 @@ pub enum BrokenRule {
     /// `settle_max`.
     #[error("by threshold, settle_to and settle_max this amount isn't asked for")]
     NotDue,
-    /// A settlement is brought forward under a key that no other one has or gets: none that is brought
-    /// forward too, and none of this period or a later one.
-    #[error("another settlement has its key, or one of this period or a later could have it")]
+    /// A settlement is brought forward under a key of visible ASCII that no other one has or gets: none
+    /// that is brought forward too, and none of this period or a later one.
+    #[error("its key is not of visible ASCII, or another settlement has it, or one of this period or a later could have it")]
     SettlementKey,
     /// A closing is that of an open settlement.
     #[error("the settlement that it names isn't open")]
