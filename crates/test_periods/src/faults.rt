@@ -17,7 +17,7 @@ const CONDITION: [u8; 32] = [
 ];
 
 // A peer: its name, its asset, and what its balance comes to at least.
-type Peer = (&'static str, &'static str, i64);
+pub(crate) type Peer = (&'static str, &'static str, i64);
 
 // What configurations differ in.
 #[derive(Clone, Copy)]
@@ -278,13 +278,13 @@ fn book_of(
     config: &Config,
     journal: &[&str],
 ) -> Result<Book, Fail> {
-    let text = text_of(rt.alloc(), journal)?;
+    let text = text_of(rt.alloc(), "1", journal)?;
     Ok(carried(rt, config, text.as_str()))
 }
 
-// The text of a journal of the first period, each of whose entries has these words.
-fn text_of(alloc: Global, journal: &[&str]) -> Result<String, AllocError> {
-    let mut text = String::from_str(alloc, "ilp-journal 1\n")?;
+// The text of a journal whose first line says this form, and each of whose entries has these words.
+pub(crate) fn text_of(alloc: Global, form: &str, journal: &[&str]) -> Result<String, AllocError> {
+    let mut text = format!(in alloc; "ilp-journal {form}\n")?;
     for told in journal {
         let line = format!(in alloc; "{START} 0 {told}\n")?;
         text.push_str(line.as_str())?;
@@ -309,7 +309,7 @@ fn fault_of(alloc: Global, book: &Book, next: &Config) -> Option<ForwardFault> {
     }
 }
 
-fn config_of(
+pub(crate) fn config_of(
     rt: &(impl Abort + AllocGlobal),
     run: &str,
     journal: u32,

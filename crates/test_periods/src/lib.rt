@@ -11,7 +11,7 @@
 //! came from, and answers the same but for numbers.
 //!
 //! `faults` has each refusal, by name, on a small book, and what mends it. `denied` has each growth
-//! denied in turn.
+//! denied in turn. `heads` has texts of later periods, and what of them is not lawful.
 #![tactic(auto)]
 
 #[cfg(test)]
@@ -22,5 +22,7 @@ mod configured;
 mod denied;
 #[cfg(test)]
 mod faults;
+#[cfg(test)]
+mod heads;
 #[cfg(test)]
 mod runs;
