@@ -1,0 +1,3 @@
+mod Renamed
+mod HeadPlaces
+mod AlikeJournals
