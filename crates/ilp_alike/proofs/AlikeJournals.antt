@@ -1,30 +1,28 @@
 -- Two journals that answer alike: one began with what the other brought forward, and behind that both have the same entries, but for
 -- the numbers in them.
-use Rattle.std.proofs.Common.{◌≡◌, ◌⊎◌, ℕ, zero, suc, ◌+◌, ◌<◌, ◌≤◌, ℤ, pos, ◌+ℤ◌, ◌-ℤ◌, Bool, true, false, cond, not, ◌||◌, ◌&&◌, List, [], ◌∷◌, ◌++◌, length, Option, Some, None, inl, inr, refl, sym, ap, ap₂, ◌∙◌, subst, arith, length-append, zero-add, IfSome, IsSome, IsNone, is_none, is_some, unwrap_or, option_map, option_and_then, slice_get, ◌==◌, nat_le}
+use Rattle.std.proofs.Common.{◌≡◌, ℕ, ◌+◌, ◌<◌, ◌≤◌, ℤ, pos, ◌+ℤ◌, ◌-ℤ◌, Bool, true, false, cond, not, ◌||◌, List, [], ◌∷◌, ◌++◌, length, Option, Some, None, inl, inr, refl, sym, ap, ap₂, ◌∙◌, subst, arith, length-append, IfSome, IsSome, IsNone, is_some, unwrap_or, option_map, ◌==◌, nat_le}
 use Rattle.std.specs.Prelude.{◌≤ℤ◌}
 use Rattle.std.specs.Int.{int_max}
 use Rattle.std.specs.Option.{option_or}
-use Rattle.std.proofs.lemmas.Bool.{cases_lt, cases_order, eq-eqb, ne_eqb, eqb-true, eqb-false, le-leb}
-use Rattle.std.proofs.lemmas.Int.{ints}
+use Rattle.std.proofs.lemmas.Bool.{cases_order, eq-eqb, ne_eqb, eqb-true, eqb-false, le-leb}
 use Rattle.std.proofs.lemmas.List.Sums.{fold-append}
-use Rattle.ilp_order.specs.Places.{first_from, Each}
-use Rattle.ilp_order.proofs.RefusalLemmas.{chosen, some_same, is_none_at}
+use Rattle.ilp_order.specs.Places.{Each}
+use Rattle.ilp_order.proofs.RefusalLemmas.{chosen, is_none_at}
 use Rattle.ilp_order.proofs.Sums.{Each-push}
 use Rattle.ilp_journal.specs.declared.entry.Entry.{Entry}
 use Rattle.ilp_journal.specs.declared.entry.What.{What}
 use Rattle.ilp_journal.specs.declared.entry.What.TheVariants as what
 use Rattle.ilp_journal.specs.declared.entry.Hold.{Hold}
 use Rattle.ilp_journal.specs.declared.entry.Ask.{Ask}
-use Rattle.ilp_journal.specs.declared.entry.Credited.{Credited}
-use Rattle.ilp_journal.specs.Journal.{Entries, last_moment, as_hold, as_ask, answered, closed, released, is_number, hold_at, ask_at, answer_of, closing_of, is_unanswered, is_unclosed, open_hold_at, open_ask_at, of_hold, of_ask, paid_to, open_asks, AnswersOnce, ClosesOnce}
+use Rattle.ilp_journal.specs.Journal.{Entries, last_moment, as_hold, as_ask, answered, closed, released, is_number, hold_at, ask_at, answer_of, closing_of, is_unanswered, is_unclosed, open_hold_at, open_ask_at, of_hold, paid_to, open_asks, AnswersOnce, ClosesOnce}
 use Rattle.ilp_journal.specs.Balance.{rise, fall, balance}
 use Rattle.ilp_journal.specs.Credits.{as_credit, kept_credit}
 use Rattle.ilp_journal.specs.TrialBalance.{amount_in, amount_out, total_in, total_out, of_named, of_named_ask, since}
-use Rattle.ilp_journal.proofs.Naming.{place, hold_at-push, ask_at-push, is_some-place-push, place_of_last}
+use Rattle.ilp_journal.proofs.Naming.{ask_at-push, is_some-place-push, place_of_last}
 use Rattle.ilp_journal.proofs.Growth.{balance-push, open_hold_at-push}
 use Rattle.ilp_journal.proofs.BooksGrowth.{total_in-push, total_out-push}
 use Rattle.ilp_journal.proofs.OpenGrowth.{open_asks-push}
-use Rattle.ilp_journal.proofs.Made.{first_some, first_some-append}
+use Rattle.ilp_journal.proofs.Made.{first_some-append}
 use Rattle.ilp_alike.proofs.Renamed.{credit_under, kept_credit_is}
 
 -- ---- numbers

@@ -1,10 +1,9 @@
 -- Where an open settlement stands in the head of the next period.
-use Rattle.std.proofs.Common.{◌≡◌, ℕ, zero, suc, ◌+◌, ◌-◌, ◌<◌, ◌≤◌, ℤ, pos, negsuc, Bool, true, false, cond, List, [], ◌∷◌, ◌++◌, length, map, Option, Some, None, inl, inr, refl, sym, ap, ap₂, ◌∙◌, subst, arith, add-zero, zero-add, append_assoc, IfSome, IsSome, is_some, unwrap_or, option_map, option_and_then, slice_get}
+use Rattle.std.proofs.Common.{◌≡◌, ℕ, zero, suc, ◌+◌, ◌-◌, ◌<◌, ◌≤◌, ℤ, pos, negsuc, Bool, true, false, cond, List, [], ◌∷◌, ◌++◌, length, Option, Some, None, inl, inr, refl, sym, ap, ap₂, ◌∙◌, subst, arith, add-zero, zero-add, append_assoc, IfSome, is_some, unwrap_or, option_map, option_and_then, slice_get}
 use Rattle.std.specs.List.{cons_option}
 use Rattle.std.proofs.lemmas.Bool.{cases_lt}
-use Rattle.std.proofs.lemmas.Option.{slice_get-map, slice_get_within, slice_get_past}
+use Rattle.std.proofs.lemmas.Option.{slice_get-map}
 use Rattle.ilp_order.proofs.RefusalLemmas.{chosen, some_same}
-use Rattle.ilp_order.proofs.Sums.{slice_get-append}
 use Rattle.ilp_journal.specs.declared.entry.Entry.{Entry}
 use Rattle.ilp_journal.specs.declared.entry.What.{What}
 use Rattle.ilp_journal.specs.declared.entry.What.TheVariants as what
@@ -77,7 +76,7 @@ before [] ys k x low at = absurd (omega (arith, low))
 before (z ∷ xs) ys zero x low at = at
 before (z ∷ xs) ys (suc k) x low at = before xs ys k x (omega (arith, low)) at
 
-every-at : {X : Type 0} (P : X → Type 0) (xs : List X) (k : ℕ) (x : X) → Every P xs → slice_get xs k ≡ Some x → P x
+pub every-at : {X : Type 0} (P : X → Type 0) (xs : List X) (k : ℕ) (x : X) → Every P xs → slice_get xs k ≡ Some x → P x
 every-at P [] k x every at = absurd cc
 every-at P (z ∷ xs) zero x every at = subst P (some_same z x at) every.0
 every-at P (z ∷ xs) (suc k) x every at = every-at P xs k x every.1 at

@@ -1,5 +1,5 @@
 -- A journal whose peers have other places: what it owes, keeps and has open is the same, by the peers' places there.
-use Rattle.std.proofs.Common.{◌≡◌, ℕ, ◌+◌, ℤ, pos, ◌-ℤ◌, Bool, true, false, cond, ◌&&◌, List, [], ◌∷◌, ◌++◌, map, Option, Some, None, refl, sym, ap, ap₂, ◌∙◌, subst, arith, IfSome, IsSome, IsNone, is_none, fold, sum_by, unwrap_or, option_map, option_and_then, slice_get, ◌==◌}
+use Rattle.std.proofs.Common.{◌≡◌, ℕ, ◌+◌, pos, ◌-ℤ◌, Bool, true, false, cond, ◌&&◌, List, [], ◌∷◌, ◌++◌, map, Option, Some, None, refl, sym, ap, ap₂, ◌∙◌, subst, arith, IfSome, IsSome, IsNone, is_none, sum_by, unwrap_or, option_map, option_and_then, slice_get, ◌==◌}
 use Rattle.std.specs.Str.{bytes_eq}
 use Rattle.std.proofs.lemmas.Bool.{eqb-true}
 use Rattle.std.proofs.lemmas.List.{map-append}
@@ -15,9 +15,11 @@ use Rattle.ilp_journal.specs.declared.entry.Credited.{Credited}
 use Rattle.ilp_order.specs.Places.{sum_from, first_from, EachAfter, Each}
 use Rattle.ilp_journal.specs.Journal.{Entries, last_moment, as_hold, as_ask, answered, closed, is_number, hold_at, ask_at, answer_of, closing_of, is_unanswered, is_unclosed, open_hold_at, open_ask_at, of_ask, paid_to, open_asks, AnswersOnce, ClosesOnce}
 use Rattle.ilp_journal.specs.Balance.{above, below, rise, fall, balance}
-use Rattle.ilp_journal.specs.Credits.{as_credit, credit_at, has_key, kept_at, kept_credit}
-use Rattle.ilp_journal.specs.BroughtForward.{credited_to, earlier_key, earlier_key_at}
-use Rattle.ilp_journal.proofs.Made.{sum_by-map, first_some, first_some-map, first_some-none, first_some-after, first_from_is}
+use Rattle.ilp_journal.specs.Credits.{as_credit, has_key, kept_credit}
+use Rattle.ilp_journal.specs.Made.{filter_map_from}
+use Rattle.ilp_journal.specs.BroughtForward.{credited_to, earlier_key, earlier_key_at, settlement_key, settlement_to, open_settlements}
+use Rattle.std.specs.List.{cons_option}
+use Rattle.ilp_journal.proofs.Made.{made-none, sum_by-map, first_some, first_some-map, first_some-none, first_some-after, first_from_is}
 use Rattle.ilp_alike.specs.Alike.{moved}
 
 -- ---- lists that are made of other lists
@@ -37,6 +39,10 @@ sum_from-map f g h n (x ∷ xs) same = ap₂ (λ a b. a + b) (same n x) (sum_fro
 pub first_from-map : {X Y : Type 0} (one : ℕ → Y → Bool) (other : ℕ → X → Bool) (h : X → Y) (n : ℕ) (xs : List X) → ((k : ℕ) (x : X) → one k (h x) ≡ other k x) → first_from one n (map h xs) ≡ first_from other n xs
 first_from-map one other h n [] same = refl
 first_from-map one other h n (x ∷ xs) same = ap₂ (λ b rest. cond b (Some n) rest) (same n x) (first_from-map one other h (n + 1) xs same)
+
+made-map : {X Y Z : Type 0} (f : ℕ → Y → Option Z) (g : ℕ → X → Option Z) (h : X → Y) (n : ℕ) (xs : List X) → ((k : ℕ) (x : X) → f k (h x) ≡ g k x) → filter_map_from f n (map h xs) ≡ filter_map_from g n xs
+made-map f g h n [] same = refl
+made-map f g h n (x ∷ xs) same = ap₂ cons_option (same n x) (made-map f g h (n + 1) xs same)
 
 each-map : {X Y : Type 0} (P : List X → X → Type 0) (Q : List Y → Y → Type 0) (h : X → Y) (before xs : List X) → ((b : List X) (x : X) → P b x → Q (map h b) (h x)) → EachAfter P before xs
     → EachAfter Q (map h before) (map h xs)
@@ -273,6 +279,23 @@ module _ (to : ℕ → ℕ) where
         paid None = refl
         paid (Some a) = ap (λ b. cond b 1 0) (same a.peer)
 
+    -- and the same are, under keys that are the same for each number
+    pub open_settlements-renamed : (key_there key_of : ℕ → List ℕ) → ((n : ℕ) → key_there n ≡ key_of n) → (j : Entries) → open_settlements key_there (renamed j) q ≡ open_settlements key_of j p
+    unfolding open_settlements
+    open_settlements-renamed key_there key_of keys j =
+        made-map (λ n (e : Entry). cond (is_unclosed (renamed j) n) (settlement_to key_there q n e.what) None) (λ n (e : Entry). cond (is_unclosed j n) (settlement_to key_of p n e.what) None) moved_entry 0 j
+        (λ n e. ap₂ (λ b x. cond b x None) (ap is_none (closing_of-renamed j n)) (settled n e.what))
+      where
+        paid : (o : Option Ask) (key word : List ℕ) → key ≡ word
+            → ◌≡◌ {A = Option (ℕ × List ℕ)} (option_and_then (λ (a : Ask). cond (a.peer == q) (Some (a.amount, key)) None) (option_map moved_ask o)) (option_and_then (λ (a : Ask). cond (a.peer == p) (Some (a.amount, word)) None) o)
+        paid None key word is = refl
+        paid (Some a) key word is = ap₂ (λ b (k : List ℕ). cond b (Some (a.amount, k)) None) (same a.peer) is
+
+        settled : (n : ℕ) (w : What) → settlement_to key_there q n (moved to w) ≡ settlement_to key_of p n w
+        settled n w =
+            ap (option_and_then (λ (a : Ask). cond (a.peer == q) (Some (a.amount, settlement_key key_there n (moved to w))) None)) (as_ask-moved w)
+            ∙ paid (as_ask w) (settlement_key key_there n (moved to w)) (settlement_key key_of n w) (ap₂ (λ (o : Option (List ℕ)) (k : List ℕ). unwrap_or o k) (earlier_key-moved w) (keys n))
+
     -- the credit under a key is the same
     pub kept_credit-renamed : (j : Entries) (key : List ℕ) → kept_credit (renamed j) q key ≡ option_map (credited_to q) (kept_credit j p key)
     kept_credit-renamed j key =
@@ -359,6 +382,21 @@ module _ (to : ℕ → ℕ) where
         zeros : (n : ℕ) (xs : Entries) → sum_from (λ k (e : Entry). 0) n xs ≡ 0
         zeros n [] = refl
         zeros n (x ∷ xs) = omega (arith, zeros (n + 1) xs)
+
+    pub open_settlements-nobody : (key_there : ℕ → List ℕ) (j : Entries) → open_settlements key_there (renamed j) q ≡ []
+    unfolding open_settlements
+    open_settlements-nobody key_there j =
+        made-map (λ n (e : Entry). cond (is_unclosed (renamed j) n) (settlement_to key_there q n e.what) None) (λ n (e : Entry). None) moved_entry 0 j
+        (λ n e. ap (λ x. cond (is_unclosed (renamed j) n) x None) (ap (option_and_then (λ (a : Ask). cond (a.peer == q) (Some (a.amount, settlement_key key_there n (moved to e.what))) None)) (as_ask-moved e.what) ∙ paid (as_ask e.what) (settlement_key key_there n (moved to e.what))) ∙ either (is_unclosed (renamed j) n))
+        ∙ made-none (λ n (e : Entry). None) 0 j (λ n e. refl)
+      where
+        paid : (o : Option Ask) (key : List ℕ) → ◌≡◌ {A = Option (ℕ × List ℕ)} (option_and_then (λ (a : Ask). cond (a.peer == q) (Some (a.amount, key)) None) (option_map moved_ask o)) None
+        paid None key = refl
+        paid (Some a) key = ap (λ b. cond b (Some (a.amount, key)) None) (never a.peer)
+
+        either : (b : Bool) → ◌≡◌ {A = Option (ℕ × List ℕ)} (cond b None None) None
+        either true = refl
+        either false = refl
 
     pub kept_credit-nobody : (j : Entries) (key : List ℕ) → kept_credit (renamed j) q key ≡ None
     kept_credit-nobody j key =

@@ -1,6 +1,6 @@
 -- A book that was brought forward answers as the one that it came from would by the same configuration, but for the numbers of
 -- entries and the room that there is.
-use Rattle.std.specs.Prelude.{◌≡◌, ◌⊎◌, ℕ, ◌+◌, ◌-◌, ◌≤◌, ℤ, ◌≤ℤ◌, List, length, map, All, Bool, true, false, ◌&&◌, nat_lt, Option, Some, None, is_some, option_map, unwrap_or, Ok, Err, IsSome, if◌then◌else◌, ⊤}
+use Rattle.std.specs.Prelude.{◌≡◌, ◌⊎◌, ℕ, ◌+◌, ◌-◌, ◌≤◌, ℤ, ◌≤ℤ◌, List, length, map, All, Bool, true, false, ◌&&◌, nat_lt, Option, is_some, option_map, unwrap_or, Ok, Err, IsSome, if◌then◌else◌, ⊤}
 use Rattle.std.specs.Str.{bytes_eq}
 use Rattle.ilp_order.specs.Places.{first_from}
 use Rattle.ilp_accounts.specs.Configuration.{Configuration}
@@ -16,7 +16,7 @@ use Rattle.ilp_book.specs.declared.calls.Outcome.TheVariants as outcome
 use Rattle.ilp_book.specs.declared.fault.HoldFault.TheVariants as hold_fault
 use Rattle.ilp_book.specs.declared.fault.CreditFault.TheVariants as credit_fault
 use Rattle.ilp_book.specs.declared.fault.AskFault.TheVariants as ask_fault
-use Rattle.ilp_book.specs.Run.{Call, hold, answer, expire, credit, ask, close, CallReply, of_hold, of_answer, of_expire, of_credit, of_ask, of_close, Step, AreAllowed, replies_to}
+use Rattle.ilp_book.specs.Run.{Call, answer, close, CallReply, of_hold, of_answer, of_expire, of_credit, of_ask, of_close, Step, AreAllowed, replies_to}
 
 -- ---- the book that ends, by the next configuration
 

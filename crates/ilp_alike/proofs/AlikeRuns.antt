@@ -1,0 +1,73 @@
+-- Two books that are alike answer each list of calls alike.
+use Rattle.std.proofs.Common.{◌≡◌, ◌⊎◌, ℕ, ◌+◌, ◌≤◌, ℤ, false, List, [], ◌∷◌, length, map, refl, ap₂, All, IsSome}
+use Rattle.std.specs.Prelude.{◌≤ℤ◌}
+use Rattle.std.proofs.lemmas.List.Elements.{All-head, All-tail}
+use Rattle.ilp_terms.specs.Expiry.{last_of_all}
+use Rattle.ilp_accounts.specs.Configuration.{Configuration}
+use Rattle.ilp_accounts.specs.Valid.{IsValid}
+use Rattle.ilp_journal.specs.declared.entry.What.TheVariants as what
+use Rattle.ilp_journal.specs.Journal.{Entries, ask_at}
+use Rattle.ilp_rules.specs.Book.{PlainBook, By, by, Growth, appended, moment_at}
+use Rattle.ilp_rules.specs.Configured.{peer_assets}
+use Rattle.ilp_rules.specs.Lawful.{IsLawful}
+use Rattle.ilp_rules.proofs.InTime.{in_time}
+use Rattle.ilp_next_period.specs.NextPeriod.{MayFollow, next_head, next_book}
+use Rattle.ilp_book.specs.Run.{Call, hold, answer, expire, credit, ask, close, CallReply, Step, IsAllowed, AreAllowed, made_by, step, replies_to}
+use Rattle.ilp_alike.specs.Alike.{place_there, by_config, number_before, call_with, step_with, unnumbered, is_full, NamesKnown, HasRoomForAll, AnswersAlike}
+use Rattle.ilp_alike.proofs.Renamed.{renamed}
+use Rattle.ilp_alike.proofs.AlikeJournals.{IsNumbering, AreAlike}
+use Rattle.ilp_alike.proofs.Begun.{numbering, begun_alike}
+use Rattle.ilp_alike.proofs.AlikeCalls.{Twins, answers_alike, sweeps_alike, closes_alike, credits_alike, asks_alike, holds_alike}
+
+module _ (C : Configuration) (valid : IsValid C) (begun : PlainBook) (first : ℕ) (number : ℕ → ℕ) (start : ℤ) (earlier_period period : ℕ) where
+  abbrev later : ℕ
+  later = length begun.entries
+
+  abbrev Named : ℕ → Type 0
+  Named k = IsSome (ask_at begun.entries k) ⊎ (length begun.entries ≤ k)
+
+  abbrev old_of : Entries → PlainBook
+  old_of before = record { config = C; period = earlier_period; base = first; entries = before }
+
+  abbrev new_of : Entries → PlainBook
+  new_of after = record { config = C; period = period; base = length begun.entries; entries = after }
+
+  module _ (is : IsNumbering first (length begun.entries) number Named) (in_years : start ≤ℤ last_of_all) where
+    -- one call
+    call_alike : (before after : Entries) (alike : AreAlike (length C.peers) (peer_assets C) first (length begun.entries) number Named start before after) (caller : By) (come : start ≤ℤ caller.now) (growth : Growth) (call : Call)
+        → IsAllowed C call → NamesKnown begun call → is_full (made_by (new_of after) caller growth call).reply ≡ false → is_full (made_by (old_of before) caller growth (call_with number call)).reply ≡ false
+        → Twins C valid first (length begun.entries) number Named start is in_years earlier_period period before after alike caller come (made_by (new_of after) caller growth call) (made_by (old_of before) caller growth (call_with number call))
+    call_alike before after alike caller come growth (hold sent) allowed named full also = holds_alike C valid first (length begun.entries) number Named start is in_years earlier_period period before after alike caller come sent growth allowed full also
+    call_alike before after alike caller come growth (answer n reply) allowed named full also = answers_alike C valid first (length begun.entries) number Named start is in_years earlier_period period before after alike caller come n reply named
+    call_alike before after alike caller come growth expire allowed named full also = sweeps_alike C valid first (length begun.entries) number Named start is in_years earlier_period period before after alike caller come
+    call_alike before after alike caller come growth (credit p) allowed named full also = credits_alike C valid first (length begun.entries) number Named start is in_years earlier_period period before after alike caller come p growth allowed.0 full also
+    call_alike before after alike caller come growth (ask q) allowed named full also = asks_alike C valid first (length begun.entries) number Named start is in_years earlier_period period before after alike caller come q growth allowed full also
+    call_alike before after alike caller come growth (close n verdict) allowed named full also = closes_alike C valid first (length begun.entries) number Named start is in_years earlier_period period before after alike caller come n verdict named
+
+    -- and each list of them
+    runs_alike : (steps : List Step) (before after : Entries) → AreAlike (length C.peers) (peer_assets C) first (length begun.entries) number Named start before after
+        → AreAllowed C steps → All (λ (s : Step). NamesKnown begun s.call) steps → All (λ (s : Step). start ≤ℤ s.caller.now) steps
+        → HasRoomForAll (new_of after) steps → HasRoomForAll (old_of before) (map (step_with number) steps)
+        → map unnumbered (replies_to (new_of after) steps) ≡ map unnumbered (replies_to (old_of before) (map (step_with number) steps))
+    runs_alike [] before after alike allowed named come full also = refl
+    runs_alike (s ∷ ss) before after alike allowed named come full also =
+        let new_step = step (new_of after) s in
+        let old_step = step (old_of before) (step_with number s) in
+        let Room : CallReply → Type 0 = λ r. is_full r ≡ false in
+        let twins = call_alike before after alike s.caller (All-head (λ (x : Step). start ≤ℤ x.caller.now) s ss come) s.growth s.call allowed.0 (All-head (λ (x : Step). NamesKnown begun x.call) s ss named)
+        (All-head Room new_step.reply (replies_to (new_of (appended after new_step.entry)) ss) full)
+        (All-head Room old_step.reply (replies_to (old_of (appended before old_step.entry)) (map (step_with number) ss)) also) in
+        ap₂ (λ (r : CallReply) (rest : List CallReply). r ∷ rest) twins.replies
+        (runs_alike ss (appended before old_step.entry) (appended after new_step.entry) twins.stay allowed.1
+        (All-tail (λ (x : Step). NamesKnown begun x.call) s ss named) (All-tail (λ (x : Step). start ≤ℤ x.caller.now) s ss come)
+        (All-tail Room new_step.reply (replies_to (new_of (appended after new_step.entry)) ss) full)
+        (All-tail Room old_step.reply (replies_to (old_of (appended before old_step.entry)) (map (step_with number) ss)) also))
+
+-- so a book that was brought forward answers as the one that it came from
+pub forward_answers_alike : (book : PlainBook) (next : Configuration) (now : ℤ) → IsValid book.config → IsValid next → IsLawful book → MayFollow book next → AnswersAlike book next now
+forward_answers_alike book next now valid later_valid lawful may steps calls room room_before =
+    runs_alike next later_valid (next_book book next now) (length book.entries) (number_before (by_config book next) (next_book book next now)) (moment_at book.entries now) book.period (book.period + 1)
+    (numbering book next now valid later_valid lawful may.run may.closed) (in_time book (by 0 now) (what.Confirmed 0) lawful).last
+    steps (renamed (place_there book.config next) book.entries) (next_head book next now)
+    (begun_alike book next now valid later_valid lawful may.run may.closed)
+    calls.allowed calls.named calls.later room room_before
