@@ -1,5 +1,5 @@
 //! Closing the books of a journal that no connector has, and beginning its next period.
-ghost use Rattle.std.specs.Prelude.{◌≡◌};
+ghost use Rattle.std.specs.Prelude.{◌≡◌, IfOk, IfSome};
 
 use crate::beginning::next_of;
 use crate::left_out::tell_left_out;
@@ -170,7 +170,9 @@ where
         has_text(&head, text)
     }
 
-    fn book_file(&self, config: &'r Config) -> BookFile<'r, R, F> {
+    fn book_file(&self, config: &'r Config) -> BookFile<'r, R, F>
+        ensures { result.config.now ≡ config.now }
+    {
         BookFile {
             rt: self.rt,
             config,
@@ -193,7 +195,7 @@ fn next_of_text(
     ended: &[u8],
     next: &Config,
 ) -> Result<Option<Book>, AllocError>
-    ensures { IfOk result (λ next. IfSome next (λ b. b.config ≡ next.now)) }
+    ensures { IfOk result (λ found. IfSome found (λ b. b.config ≡ next.now)) }
 {
     match Book::carry_over(alloc, config, ended, 0) {
         Ok(book) => next_of_book(alloc, &book, next),
@@ -202,7 +204,9 @@ fn next_of_text(
     }
 }
 
-fn next_of_book(alloc: Global, book: &Book, next: &Config) -> Result<Option<Book>, AllocError> {
+fn next_of_book(alloc: Global, book: &Book, next: &Config) -> Result<Option<Book>, AllocError>
+    ensures { IfOk result (λ found. IfSome found (λ b. b.config ≡ next.now)) }
+{
     match book.bring_forward(alloc, next, 0) {
         Ok(book) => Ok(Some(book)),
         Err(ForwardFault::Memory) => Err(AllocError),

@@ -258,7 +258,7 @@ fn ask_no_engine<E: EngineLink>(rt: &impl Abort, alloc: Global, link: &mut E) {
     for peer in [0, 3] {
         assert!(rt; !link.account(peer));
         assert_eq!(rt;
-            link.settle(peer, "r1-7", 250, 2),
+            link.settle(peer, b"r1-7", 250, 2),
             EngineReply::Unknown { status: None }
         );
         assert!(rt; answer_of(link, alloc, peer).is_none());

@@ -143,7 +143,7 @@ impl<R: Threads + Clock + Abort + Sync> Scene<'_, R> {
         let (heard, said) = join(
             rt,
             move || stand_in(rt, alloc, listener, does),
-            || link.settle(1, "r1-7", 250, 2),
+            || link.settle(1, b"r1-7", 250, 2),
         );
         let heard = heard?;
         assert!(rt; heard.as_slice() == request);
