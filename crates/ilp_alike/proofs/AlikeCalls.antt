@@ -20,9 +20,9 @@ use Rattle.ilp_journal.specs.declared.entry.Cause.TheVariants as cause
 use Rattle.ilp_journal.specs.declared.entry.Hold.{Hold}
 use Rattle.ilp_journal.specs.declared.entry.Ask.{Ask}
 use Rattle.ilp_journal.specs.declared.entry.Credited.{Credited}
-use Rattle.ilp_journal.specs.Journal.{Entries, answer_of, closing_of, open_hold_at, open_ask_at, open_asks, next_open_ask}
+use Rattle.ilp_journal.specs.Journal.{Entries, open_hold_at, open_ask_at, open_asks, next_open_ask}
 use Rattle.ilp_journal.specs.Balance.{balance}
-use Rattle.ilp_journal.specs.Credits.{credit_at, kept_at, kept_credit}
+use Rattle.ilp_journal.specs.Credits.{credit_at, kept_at}
 use Rattle.ilp_rules.specs.Book.{PlainBook, By, Growth, granted, denied, Made, replied_as, appended, entry_by, moment_at, has_room}
 use Rattle.ilp_rules.specs.Configured.{IsKnown, peer_assets, asset_of}
 use Rattle.ilp_rules.specs.Open.{earliest, IsEarliest}
@@ -42,9 +42,9 @@ use Rattle.ilp_book.specs.Run.{hold, CallReply, of_hold, of_answer, of_expire, o
 use Rattle.ilp_book.proofs.HoldSteps.{terms_allowed}
 use Rattle.ilp_book.proofs.Earliest.{earliest_is_first, earliest_is}
 use Rattle.ilp_book.proofs.AnswerSteps.{due_facts}
-use Rattle.ilp_alike.specs.Alike.{unnumbered, is_full}
-use Rattle.ilp_alike.proofs.AlikeJournals.{numbered, IsNumbering, AreAlike, Joins, alike_on}
-use Rattle.ilp_alike.proofs.FirstOpen.{first_amounts}
+use Rattle.ilp_alike.specs.Alike.{reply_with, is_full}
+use Rattle.ilp_alike.proofs.AlikeJournals.{numbered, IsNumbering, AreAlike, Joins, alike_on, last_number}
+use Rattle.ilp_alike.proofs.FirstOpen.{first_alike}
 
 module _ (C : Configuration) (valid : IsValid C) (first later : ℕ) (number : ℕ → ℕ) (IsNamed : ℕ → Type 0) (start : ℤ) (numbering : IsNumbering first later number IsNamed) (in_years : start ≤ℤ last_of_all) where
   abbrev pub Alike : Entries → Entries → Type 0
@@ -58,9 +58,9 @@ module _ (C : Configuration) (valid : IsValid C) (first later : ℕ) (number : �
     abbrev new : PlainBook
     new = record { config = C; period = period; base = later; entries = after }
 
-    -- both answer the same, without the numbers of entries, and are alike with what they book
+    -- both answer the same, by the numbers of both, and are alike with what they book
     pub record Twins (x y : Made CallReply) : Type 0 where
-      pub replies : unnumbered x.reply ≡ unnumbered y.reply
+      pub replies : reply_with number x.reply ≡ y.reply
       pub stay : Alike (appended before y.entry) (appended after x.entry)
 
     same_moment : moment_at after caller.now ≡ moment_at before caller.now
@@ -75,12 +75,6 @@ module _ (C : Configuration) (valid : IsValid C) (first later : ℕ) (number : �
     with_both w v same joins =
         alike_on (length C.peers) (peer_assets C) first later number IsNamed start numbering before after alike (entry_by new caller w) (entry_by old caller v) same_moment same joins
 
-    same_closer : (o p : Option ℕ) → is_some o ≡ is_some p → ◌≡◌ {A = Option ℕ} (option_map (λ n. 0) o) (option_map (λ n. 0) p)
-    same_closer None None same = refl
-    same_closer None (Some n) same = cc
-    same_closer (Some n) None same = cc
-    same_closer (Some n) (Some m) same = refl
-
     -- ---- ends of holds
 
     ending_is : (n : ℕ) (v : Result (List ℕ) Cause) → ending (number n) v ≡ numbered number (ending n v)
@@ -91,22 +85,25 @@ module _ (C : Configuration) (valid : IsValid C) (first later : ℕ) (number : �
     ending_joins n (Ok preimage) high some = record { ends = (high, some); closes = tt }
     ending_joins n (Err c) high some = record { ends = (high, some); closes = tt }
 
-    outcome_same : (v : Result (List ℕ) Cause) (k m : ℕ) → unnumbered (of_answer (Ok (outcome_of k v))) ≡ unnumbered (of_answer (Ok (outcome_of m v)))
-    outcome_same (Ok preimage) k m = refl
-    outcome_same (Err c) k m = refl
+    outcome_is : (v : Result (List ℕ) Cause) (k : ℕ) → reply_with number (of_answer (Ok (outcome_of k v))) ≡ of_answer (Ok (outcome_of (number k) v))
+    outcome_is (Ok preimage) k = refl
+    outcome_is (Err c) k = refl
+
+    same_end : number (length after) ≡ length before
+    same_end = last_number (length C.peers) (peer_assets C) first later number IsNamed start numbering before after alike
 
     pub answers_alike : (n : ℕ) (reply : PeerReply) → later ≤ n → Twins (replied_as of_answer (answer_step new caller n reply)) (replied_as of_answer (answer_step old caller (number n) reply))
     unfolding answer_step
     answers_alike n reply high = of (open_hold_at after n) (open_hold_at before (number n)) refl (alike.holds n high)
       where
         of : (o p : Option Hold) → open_hold_at after n ≡ o → o ≡ p → Twins (replied_as of_answer (answer_booked new caller n reply o)) (replied_as of_answer (answer_booked old caller (number n) reply p))
-        of None None is same = record { replies = ap (λ c. of_answer (Err (record { closer = c }))) (same_closer (answer_of after n) (answer_of before (number n)) (alike.answers n high)); stay = alike }
+        of None None is same = record { replies = ap (λ c. of_answer (Err (record { closer = c }))) (alike.answers n high); stay = alike }
         of None (Some g) is same = absurd cc
         of (Some h) None is same = absurd cc
         of (Some h) (Some g) is same =
             let one : judged_reply h (moment_at after caller.now) reply ≡ judged_reply g (moment_at before caller.now) reply = ap₂ (λ x m. judged_reply x m reply) (some_same h g same) same_moment in
             record {
-              replies = ap (λ v. unnumbered (of_answer (Ok (outcome_of (length after) v)))) one ∙ outcome_same (judged_reply g (moment_at before caller.now) reply) (length after) (length before);
+              replies = outcome_is (judged_reply h (moment_at after caller.now) reply) (length after) ∙ ap₂ (λ v k. of_answer (Ok (outcome_of k v))) one same_end;
               stay = with_both (ending n (judged_reply h (moment_at after caller.now) reply)) (ending (number n) (judged_reply g (moment_at before caller.now) reply))
                   (ap (ending (number n)) (sym one) ∙ ending_is n (judged_reply h (moment_at after caller.now) reply)) (ending_joins n (judged_reply h (moment_at after caller.now) reply) high (ap is_some is));
             }
@@ -212,32 +209,43 @@ module _ (C : Configuration) (valid : IsValid C) (first later : ℕ) (number : �
     closes_alike n verdict named = of (open_ask_at after n) (open_ask_at before (number n)) refl (alike.asks n named)
       where
         of : (o p : Option Ask) → open_ask_at after n ≡ o → o ≡ p → Twins (replied_as of_close (close_booked new caller n verdict o)) (replied_as of_close (close_booked old caller (number n) verdict p))
-        of None None is same = record { replies = ap (λ c. of_close (Err (record { closer = c }))) (same_closer (closing_of after n) (closing_of before (number n)) (alike.closings n named)); stay = alike }
+        of None None is same = record { replies = ap (λ c. of_close (Err (record { closer = c }))) (alike.closings n named); stay = alike }
         of None (Some b) is same = absurd cc
         of (Some a) None is same = absurd cc
         of (Some a) (Some b) is same = record {
-          replies = refl;
+          replies = ap (λ k. of_close (Ok k)) same_end;
           stay = with_both (closing_of_verdict n verdict) (closing_of_verdict (number n) verdict) (verdict_is n verdict) (verdict_joins n verdict named (ap is_some is));
         }
 
     -- ---- credits
 
-    kept_is : (j : Entries) (peer : ℕ) (key : List ℕ) → option_map (λ (x : ℕ × Credited). x.1) (kept j peer key) ≡ kept_credit j peer key
-    kept_is j peer key = of (kept_at j peer key)
-      where
-        at : (n : ℕ) (o : Option Credited) → option_map (λ (x : ℕ × Credited). x.1) (option_map {U = ℕ × Credited} (λ (c : Credited). (n, c)) o) ≡ o
-        at n None = refl
-        at n (Some c) = refl
+    -- a credit by its number before
+    abbrev credit_before : ℕ × Credited → ℕ × Credited
+    credit_before x = (number x.0, x.1)
 
-        of : (o : Option ℕ) → option_map (λ (x : ℕ × Credited). x.1) (option_and_then {U = ℕ × Credited} (λ n. option_map {U = ℕ × Credited} (λ (c : Credited). (n, c)) (credit_at j n)) o) ≡ option_and_then (credit_at j) o
-        of None = refl
-        of (Some n) = at n (credit_at j n)
-
-    same_kept : (q : Quantity) (k n : ℕ) (c : Credited) → unnumbered (of_credit (credit_kept q (k, c))) ≡ unnumbered (of_credit (credit_kept q (n, c)))
-    same_kept q k n c = of ((c.named == q.amount) && (c.scale == q.scale))
+    kept_alike : (q : ℕ) (key : List ℕ) → IsKnown C q → option_map credit_before (kept after q key) ≡ kept before q key
+    kept_alike q key known = of (kept_at after q key) (kept_at before q key) (alike.kept_numbers q key known) (alike.credits q key known)
       where
-        of : (b : Bool) → unnumbered (of_credit (cond b (Ok (record { number = k; amount = c.credited; fresh = false })) (Err (credit_fault.KeyTaken k))))
-            ≡ unnumbered (of_credit (cond b (Ok (record { number = n; amount = c.credited; fresh = false })) (Err (credit_fault.KeyTaken n))))
+        at : (k n : ℕ) (o p : Option Credited) → number k ≡ n → o ≡ p
+            → option_map credit_before (option_map {U = ℕ × Credited} (λ (c : Credited). (k, c)) o) ≡ option_map {U = ℕ × Credited} (λ (c : Credited). (n, c)) p
+        at k n None None one two = refl
+        at k n None (Some d) one two = absurd cc
+        at k n (Some c) None one two = absurd cc
+        at k n (Some c) (Some d) one two = let pair : ◌≡◌ {A = ℕ × Credited} (number k, c) (n, d) = ap₂ (λ (i : ℕ) (x : Credited). (i, x)) one (some_same c d two) in ap Some pair
+
+        of : (o p : Option ℕ) → option_map number o ≡ p → option_and_then (credit_at after) o ≡ option_and_then (credit_at before) p
+            → option_map credit_before (option_and_then {U = ℕ × Credited} (λ n. option_map {U = ℕ × Credited} (λ (c : Credited). (n, c)) (credit_at after n)) o)
+            ≡ option_and_then {U = ℕ × Credited} (λ n. option_map {U = ℕ × Credited} (λ (c : Credited). (n, c)) (credit_at before n)) p
+        of None None one two = refl
+        of None (Some n) one two = absurd cc
+        of (Some k) None one two = absurd cc
+        of (Some k) (Some n) one two = at k n (credit_at after k) (credit_at before n) (some_same (number k) n one) two
+
+    kept_told : (q : Quantity) (k : ℕ) (c : Credited) → reply_with number (of_credit (credit_kept q (k, c))) ≡ of_credit (credit_kept q (number k, c))
+    kept_told q k c = of ((c.named == q.amount) && (c.scale == q.scale))
+      where
+        of : (b : Bool) → reply_with number (of_credit (cond b (Ok (record { number = k; amount = c.credited; fresh = false })) (Err (credit_fault.KeyTaken k))))
+            ≡ of_credit (cond b (Ok (record { number = number k; amount = c.credited; fresh = false })) (Err (credit_fault.KeyTaken (number k))))
         of true = refl
         of false = refl
 
@@ -249,14 +257,14 @@ module _ (C : Configuration) (valid : IsValid C) (first later : ℕ) (number : �
     credits_booked growth c false s full also = absurd cc
     credits_booked growth c true false full also = absurd cc
     credits_booked denied c true true full also = record { replies = refl; stay = alike }
-    credits_booked granted c true true full also = record { replies = refl; stay = with_both (what.Credited c) (what.Credited c) refl (record { ends = tt; closes = tt }) }
+    credits_booked granted c true true full also = record { replies = ap (λ k. of_credit (Ok (record { number = k; amount = c.credited; fresh = true }))) same_end; stay = with_both (what.Credited c) (what.Credited c) refl (record { ends = tt; closes = tt }) }
 
     pub credits_alike : (p : Payment) (growth : Growth) → IsKnown C p.peer → is_full (of_credit (credit_step new caller p growth).reply) ≡ false → is_full (of_credit (credit_step old caller p growth).reply) ≡ false
         → Twins (replied_as of_credit (credit_step new caller p growth)) (replied_as of_credit (credit_step old caller p growth))
     unfolding credit_step credit_checked
-    credits_alike p growth known = of (nat_lt most (amount_of C p)) (kept after p.peer p.key) (kept before p.peer p.key) (kept_is after p.peer p.key ∙ alike.credits p.peer p.key known ∙ sym (kept_is before p.peer p.key))
+    credits_alike p growth known = of (nat_lt most (amount_of C p)) (kept after p.peer p.key) (kept before p.peer p.key) (kept_alike p.peer p.key known)
       where
-        of : (b : Bool) (o q : Option (ℕ × Credited)) → option_map (λ (x : ℕ × Credited). x.1) o ≡ option_map (λ (x : ℕ × Credited). x.1) q
+        of : (b : Bool) (o q : Option (ℕ × Credited)) → option_map credit_before o ≡ q
             → is_full (of_credit (credit_booked new caller growth (refuse_if b (Err credit_fault.TooLarge) >>= λ _. credit_fresh new p o)).reply) ≡ false
             → is_full (of_credit (credit_booked old caller growth (refuse_if b (Err credit_fault.TooLarge) >>= λ _. credit_fresh old p q)).reply) ≡ false
             → Twins (replied_as of_credit (credit_booked new caller growth (refuse_if b (Err credit_fault.TooLarge) >>= λ _. credit_fresh new p o)))
@@ -266,39 +274,36 @@ module _ (C : Configuration) (valid : IsValid C) (first later : ℕ) (number : �
         of false None (Some y) same full also = absurd cc
         of false (Some x) None same full also = absurd cc
         of false (Some x) (Some y) same full also = record {
-          replies = same_kept p.quantity x.0 y.0 x.1 ∙ ap (λ (c : Credited). unnumbered (of_credit (credit_kept p.quantity (y.0, c)))) (some_same x.1 y.1 same);
+          replies = kept_told p.quantity x.0 x.1 ∙ ap (λ (z : ℕ × Credited). of_credit (credit_kept p.quantity z)) (some_same (credit_before x) y same);
           stay = alike;
         }
 
     -- ---- asks
 
-    -- a refusal without the number that it tells
-    abbrev plain_fault : AskFault → AskFault
-    plain_fault (ask_fault.StillOpen n amount) = ask_fault.StillOpen 0 amount
-    plain_fault (ask_fault.NotDue owed) = ask_fault.NotDue owed
-    plain_fault ask_fault.Full = ask_fault.Full
-    plain_fault ask_fault.Memory = ask_fault.Memory
+    -- a refusal by the number before of what it names
+    abbrev fault_before : AskFault → AskFault
+    fault_before (ask_fault.StillOpen n amount) = ask_fault.StillOpen (number n) amount
+    fault_before (ask_fault.NotDue owed) = ask_fault.NotDue owed
+    fault_before ask_fault.Full = ask_fault.Full
+    fault_before ask_fault.Memory = ask_fault.Memory
 
-    plain_is : (f : AskFault) → unnumbered (of_ask (Err f)) ≡ of_ask (Err (plain_fault f))
-    plain_is (ask_fault.StillOpen n amount) = refl
-    plain_is (ask_fault.NotDue owed) = refl
-    plain_is ask_fault.Full = refl
-    plain_is ask_fault.Memory = refl
+    fault_told : (f : AskFault) → reply_with number (of_ask (Err f)) ≡ of_ask (Err (fault_before f))
+    fault_told (ask_fault.StillOpen n amount) = refl
+    fault_told (ask_fault.NotDue owed) = refl
+    fault_told ask_fault.Full = refl
+    fault_told ask_fault.Memory = refl
 
-    still_alike : (q : ℕ) → IsKnown C q → option_map plain_fault (still_open after q) ≡ option_map plain_fault (still_open before q)
+    still_alike : (q : ℕ) → IsKnown C q → option_map fault_before (still_open after q) ≡ still_open before q
     still_alike q known =
-        ap (λ n. option_map plain_fault (cond (nat_lt n most_open_asks) None (option_map (λ (x : ℕ × Ask). ask_fault.StillOpen x.0 x.1.amount) (next_open_ask after q None)))) (alike.open_counts q known)
-        ∙ of (nat_lt (open_asks before q) most_open_asks) (next_open_ask after q None) (next_open_ask before q None)
-        (first_amounts (length C.peers) (peer_assets C) first later number IsNamed start numbering before after alike q known)
+        of (nat_lt (open_asks after q) most_open_asks) (next_open_ask after q None)
+        ∙ ap₂ (λ n o. cond (nat_lt n most_open_asks) None (option_map (λ (x : ℕ × Ask). ask_fault.StillOpen x.0 x.1.amount) o)) (alike.open_counts q known)
+        (first_alike (length C.peers) (peer_assets C) first later number IsNamed start numbering before after alike q known)
       where
-        of : (b : Bool) (o p : Option (ℕ × Ask)) → option_map (λ (x : ℕ × Ask). x.1.amount) o ≡ option_map (λ (x : ℕ × Ask). x.1.amount) p
-            → option_map plain_fault (cond b None (option_map (λ (x : ℕ × Ask). ask_fault.StillOpen x.0 x.1.amount) o))
-            ≡ option_map plain_fault (cond b None (option_map (λ (x : ℕ × Ask). ask_fault.StillOpen x.0 x.1.amount) p))
-        of true o p same = refl
-        of false None None same = refl
-        of false None (Some y) same = absurd cc
-        of false (Some x) None same = absurd cc
-        of false (Some x) (Some y) same = ap (λ m. Some (ask_fault.StillOpen 0 m)) (some_same x.1.amount y.1.amount same)
+        of : (b : Bool) (o : Option (ℕ × Ask)) → option_map fault_before (cond b None (option_map (λ (x : ℕ × Ask). ask_fault.StillOpen x.0 x.1.amount) o))
+            ≡ cond b None (option_map (λ (x : ℕ × Ask). ask_fault.StillOpen x.0 x.1.amount) (option_map {U = ℕ × Ask} (λ (x : ℕ × Ask). (number x.0, x.1)) o))
+        of true o = refl
+        of false None = refl
+        of false (Some x) = refl
 
     abbrev fitted_ask : Bool → Ask → Result Ask AskFault
     fitted_ask room a = refuse_if (not room) ask_fault.Full >>= λ _. Ok a
@@ -308,7 +313,7 @@ module _ (C : Configuration) (valid : IsValid C) (first later : ℕ) (number : �
     asks_booked growth a false s full also = absurd cc
     asks_booked growth a true false full also = absurd cc
     asks_booked denied a true true full also = record { replies = refl; stay = alike }
-    asks_booked granted a true true full also = record { replies = refl; stay = with_both (what.Asked a) (what.Asked a) refl (record { ends = tt; closes = tt }) }
+    asks_booked granted a true true full also = record { replies = ap (λ k. of_ask (Ok (record { number = k; amount = a.amount }))) same_end; stay = with_both (what.Asked a) (what.Asked a) refl (record { ends = tt; closes = tt }) }
 
     asks_due : (q : ℕ) (growth : Growth) (owed : ℤ) (due_now : Option ℕ)
         → is_full (of_ask (ask_booked new caller growth (found_or due_now (ask_fault.NotDue owed) >>= λ amount. ask_fitted new (record { peer = q; amount = amount }))).reply) ≡ false
@@ -324,7 +329,7 @@ module _ (C : Configuration) (valid : IsValid C) (first later : ℕ) (number : �
     asks_alike q growth known =
         of (still_open after q) (still_open before q) (still_alike q known) (balance after q) (balance before q) (alike.balances q known)
       where
-        of : (o p : Option AskFault) → option_map plain_fault o ≡ option_map plain_fault p → (owed owed_before : ℤ) → owed ≡ owed_before
+        of : (o p : Option AskFault) → option_map fault_before o ≡ p → (owed owed_before : ℤ) → owed ≡ owed_before
             → is_full (of_ask (ask_booked new caller growth (refuse_some o >>= λ _. found_or (due_amount owed (peer_at C q).levels) (ask_fault.NotDue owed) >>= λ amount. ask_fitted new (record { peer = q; amount = amount }))).reply) ≡ false
             → is_full (of_ask (ask_booked old caller growth (refuse_some p >>= λ _. found_or (due_amount owed_before (peer_at C q).levels) (ask_fault.NotDue owed_before) >>= λ amount. ask_fitted old (record { peer = q; amount = amount }))).reply) ≡ false
             → Twins (replied_as of_ask (ask_booked new caller growth (refuse_some o >>= λ _. found_or (due_amount owed (peer_at C q).levels) (ask_fault.NotDue owed) >>= λ amount. ask_fitted new (record { peer = q; amount = amount }))))
@@ -338,7 +343,7 @@ module _ (C : Configuration) (valid : IsValid C) (first later : ℕ) (number : �
         of None (Some g) same owed owed_before equal full also = absurd cc
         of (Some f) None same owed owed_before equal full also = absurd cc
         of (Some f) (Some g) same owed owed_before equal full also = record {
-          replies = plain_is f ∙ ap (λ x. of_ask (Err x)) (some_same (plain_fault f) (plain_fault g) same) ∙ sym (plain_is g);
+          replies = fault_told f ∙ ap (λ x. of_ask (Err x)) (some_same (fault_before f) g same);
           stay = alike;
         }
 
@@ -359,7 +364,7 @@ module _ (C : Configuration) (valid : IsValid C) (first later : ℕ) (number : �
         of : (b : Bool) (g : Growth) → Twins (replied_as of_hold (hold_booked new caller g (refuse_if b (hold_fault.BelowLeast owed) >>= λ _. Ok h))) (replied_as of_hold (hold_booked old caller g (refuse_if b (hold_fault.BelowLeast owed) >>= λ _. Ok h)))
         of true g = record { replies = refl; stay = alike }
         of false denied = record { replies = refl; stay = alike }
-        of false granted = record { replies = refl; stay = with_both (what.Hold h) (what.Hold h) refl (record { ends = tt; closes = tt }) }
+        of false granted = record { replies = ap (λ k. of_hold (Ok (record { number = k; to = h.to; out = h.out; deadline = h.deadline }))) same_end; stay = with_both (what.Hold h) (what.Hold h) refl (record { ends = tt; closes = tt }) }
 
     holds_fitted : (growth : Growth) (h : Hold) → IsKnown C h.from → is_full (of_hold (hold_booked new caller growth (hold_fitted new h)).reply) ≡ false → is_full (of_hold (hold_booked old caller growth (hold_fitted old h)).reply) ≡ false
         → Twins (replied_as of_hold (hold_booked new caller growth (hold_fitted new h))) (replied_as of_hold (hold_booked old caller growth (hold_fitted old h)))

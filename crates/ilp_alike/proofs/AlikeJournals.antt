@@ -1,6 +1,8 @@
 -- Two journals that answer alike: one began with what the other brought forward, and behind that both have the same entries, but for
 -- the numbers in them.
-use Rattle.std.proofs.Common.{◌≡◌, ℕ, ◌+◌, ◌<◌, ◌≤◌, ℤ, pos, ◌+ℤ◌, ◌-ℤ◌, Bool, true, false, cond, not, ◌||◌, List, [], ◌∷◌, ◌++◌, length, Option, Some, None, inl, inr, refl, sym, ap, ap₂, ◌∙◌, subst, arith, length-append, IfSome, IsSome, IsNone, is_some, unwrap_or, option_map, ◌==◌, nat_le}
+use Rattle.ilp_journal.specs.declared.entry.Credited.{Credited}
+use Rattle.std.specs.Str.{bytes_eq}
+use Rattle.std.proofs.Common.{◌≡◌, ℕ, ◌+◌, ◌<◌, ◌≤◌, ℤ, pos, ◌+ℤ◌, ◌-ℤ◌, Bool, true, false, cond, not, ◌||◌, List, [], ◌∷◌, ◌++◌, length, Option, Some, None, inl, inr, refl, sym, ap, ap₂, ◌∙◌, subst, arith, length-append, IfSome, IsSome, IsNone, is_some, unwrap_or, option_map, ◌==◌, nat_le, zero-add, ◌&&◌}
 use Rattle.std.specs.Prelude.{◌≤ℤ◌}
 use Rattle.std.specs.Int.{int_max}
 use Rattle.std.specs.Option.{option_or}
@@ -8,7 +10,7 @@ use Rattle.std.proofs.lemmas.Bool.{cases_order, eq-eqb, ne_eqb, eqb-true, eqb-fa
 use Rattle.std.proofs.lemmas.List.Sums.{fold-append}
 use Rattle.ilp_order.specs.Places.{Each}
 use Rattle.ilp_order.proofs.RefusalLemmas.{chosen, is_none_at}
-use Rattle.ilp_order.proofs.Sums.{Each-push}
+use Rattle.ilp_order.proofs.Sums.{Each-push, first_from-append}
 use Rattle.ilp_journal.specs.declared.entry.Entry.{Entry}
 use Rattle.ilp_journal.specs.declared.entry.What.{What}
 use Rattle.ilp_journal.specs.declared.entry.What.TheVariants as what
@@ -16,9 +18,9 @@ use Rattle.ilp_journal.specs.declared.entry.Hold.{Hold}
 use Rattle.ilp_journal.specs.declared.entry.Ask.{Ask}
 use Rattle.ilp_journal.specs.Journal.{Entries, last_moment, as_hold, as_ask, answered, closed, released, is_number, hold_at, ask_at, answer_of, closing_of, is_unanswered, is_unclosed, open_hold_at, open_ask_at, of_hold, paid_to, open_asks, AnswersOnce, ClosesOnce}
 use Rattle.ilp_journal.specs.Balance.{rise, fall, balance}
-use Rattle.ilp_journal.specs.Credits.{as_credit, kept_credit}
+use Rattle.ilp_journal.specs.Credits.{as_credit, kept_credit, has_key, kept_at}
 use Rattle.ilp_journal.specs.TrialBalance.{amount_in, amount_out, total_in, total_out, of_named, of_named_ask, since}
-use Rattle.ilp_journal.proofs.Naming.{ask_at-push, is_some-place-push, place_of_last}
+use Rattle.ilp_journal.proofs.Naming.{ask_at-push, is_some-place-push, place_of_last, answer_of-push, closing_of-push}
 use Rattle.ilp_journal.proofs.Growth.{balance-push, open_hold_at-push}
 use Rattle.ilp_journal.proofs.BooksGrowth.{total_in-push, total_out-push}
 use Rattle.ilp_journal.proofs.OpenGrowth.{open_asks-push}
@@ -201,13 +203,14 @@ module _ (count : ℕ) (assets : List ℕ) (first later : ℕ) (number : ℕ →
     pub holds : (k : ℕ) → later ≤ k → open_hold_at after k ≡ open_hold_at before (number k)
     pub no_holds_after : (k : ℕ) → k < later → open_hold_at after k ≡ None
     pub no_holds_before : (k : ℕ) → k < first → open_hold_at before k ≡ None
-    pub answers : (k : ℕ) → later ≤ k → is_some (answer_of after k) ≡ is_some (answer_of before (number k))
+    pub answers : (k : ℕ) → later ≤ k → option_map number (answer_of after k) ≡ answer_of before (number k)
     pub asks : (k : ℕ) → IsNamed k → open_ask_at after k ≡ open_ask_at before (number k)
-    pub closings : (k : ℕ) → IsNamed k → is_some (closing_of after k) ≡ is_some (closing_of before (number k))
+    pub closings : (k : ℕ) → IsNamed k → option_map number (closing_of after k) ≡ closing_of before (number k)
     pub found_before : (m : ℕ) (a : Ask) → open_ask_at before m ≡ Some a → a.peer < count → (k : ℕ) × IsNamed k × (number k ≡ m)
     pub found_after : (k : ℕ) (a : Ask) → open_ask_at after k ≡ Some a → IsNamed k
     pub open_counts : (q : ℕ) → q < count → open_asks after q ≡ open_asks before q
     pub credits : (q : ℕ) (key : List ℕ) → q < count → kept_credit after q key ≡ kept_credit before q key
+    pub kept_numbers : (q : ℕ) (key : List ℕ) → q < count → option_map number (kept_at after q key) ≡ kept_at before q key
     pub moments : (m : ℤ) → start ≤ℤ m → int_max m (last_moment after) ≡ int_max m (last_moment before)
 
   -- an entry ends what is open
@@ -396,17 +399,28 @@ module _ (count : ℕ) (assets : List ℕ) (first later : ℕ) (number : ℕ →
           open_hold_at-push before d k alike.answers_before answers_d
           ∙ never (k == length before) (as_hold d.what) (is_number k (answered d.what)) (open_hold_at before k) (ne_eqb k (length before) (λ at. omega (arith, at, low, first_reached))) (alike.no_holds_before k low)
 
-      answers_on : (k : ℕ) → later ≤ k → is_some (answer_of (after ++ e ∷ []) k) ≡ is_some (answer_of (before ++ d ∷ []) (number k))
-      answers_on k high =
-          is_some-place-push answered k after e
-          ∙ ap₂ ◌||◌ (alike.answers k high) (sym (ap (is_number (number k)) answered_is ∙ same_named k (answered e.what) (is.named k high) named_answered))
-          ∙ sym (is_some-place-push answered (number k) before d)
+      -- what names a number, by the numbers of both
+      named_on : (o p : Option ℕ) (s t : Bool) → option_map number o ≡ p → s ≡ t → option_map number (option_or o (cond s (Some (length after)) None)) ≡ option_or p (cond t (Some (length before)) None)
+      named_on o p s t one two = of o s ∙ ap₂ (λ x b. option_or x (cond b (Some (length before)) None)) one two
+        where
+          of : (o : Option ℕ) (b : Bool) → option_map number (option_or o (cond b (Some (length after)) None)) ≡ option_or (option_map number o) (cond b (Some (length before)) None)
+          of (Some k) b = refl
+          of None true = ap Some last_number
+          of None false = refl
 
-      closings_on : (k : ℕ) → IsNamed k → is_some (closing_of (after ++ e ∷ []) k) ≡ is_some (closing_of (before ++ d ∷ []) (number k))
+      answers_on : (k : ℕ) → later ≤ k → option_map number (answer_of (after ++ e ∷ []) k) ≡ answer_of (before ++ d ∷ []) (number k)
+      answers_on k high =
+          ap (option_map number) (answer_of-push after e k)
+          ∙ named_on (answer_of after k) (answer_of before (number k)) (is_number k (answered e.what)) (is_number (number k) (answered d.what)) (alike.answers k high)
+          (sym (ap (is_number (number k)) answered_is ∙ same_named k (answered e.what) (is.named k high) named_answered))
+          ∙ sym (answer_of-push before d (number k))
+
+      closings_on : (k : ℕ) → IsNamed k → option_map number (closing_of (after ++ e ∷ []) k) ≡ closing_of (before ++ d ∷ []) (number k)
       closings_on k named =
-          is_some-place-push closed k after e
-          ∙ ap₂ ◌||◌ (alike.closings k named) (sym (ap (is_number (number k)) closed_is ∙ same_named k (closed e.what) named named_closed))
-          ∙ sym (is_some-place-push closed (number k) before d)
+          ap (option_map number) (closing_of-push after e k)
+          ∙ named_on (closing_of after k) (closing_of before (number k)) (is_number k (closed e.what)) (is_number (number k) (closed d.what)) (alike.closings k named)
+          (sym (ap (is_number (number k)) closed_is ∙ same_named k (closed e.what) named named_closed))
+          ∙ sym (closing_of-push before d (number k))
 
       not_ended : {X : Type 0} (c : Bool) (o : Option X) (x : X) → cond c None o ≡ Some x → o ≡ Some x
       not_ended true o x h = absurd cc
@@ -450,6 +464,18 @@ module _ (count : ℕ) (assets : List ℕ) (first later : ℕ) (number : ℕ →
           ∙ ap₂ (λ o c. option_or o (option_or (credit_under q key c) None)) (alike.credits q key known) (sym (ap as_credit same ∙ as_credit-numbered number e.what))
           ∙ sym (credit_push before d q key)
 
+      kept_push : (j : Entries) (f : Entry) (q : ℕ) (key : List ℕ) → kept_at (j ++ f ∷ []) q key ≡ option_or (kept_at j q key) (cond (has_key q key f.what) (Some (length j)) None)
+      kept_push j f q key =
+          first_from-append (λ _ (x : Entry). has_key q key x.what) 0 j (f ∷ [])
+          ∙ ap (λ n. option_or (kept_at j q key) (cond (has_key q key f.what) (Some n) None)) (zero-add (length j))
+
+      kept_numbers_on : (q : ℕ) (key : List ℕ) → q < count → option_map number (kept_at (after ++ e ∷ []) q key) ≡ kept_at (before ++ d ∷ []) q key
+      kept_numbers_on q key known =
+          ap (option_map number) (kept_push after e q key)
+          ∙ named_on (kept_at after q key) (kept_at before q key) (has_key q key e.what) (has_key q key d.what) (alike.kept_numbers q key known)
+          (ap (λ o. unwrap_or (option_map (λ (c : Credited). (c.peer == q) && bytes_eq c.key key) o) false) (sym (ap as_credit same ∙ as_credit-numbered number e.what)))
+          ∙ sym (kept_push before d q key)
+
       last_is : (j : Entries) (f : Entry) → last_moment (j ++ f ∷ []) ≡ f.moment
       last_is j f = fold-append (λ _ (x : Entry). x.moment) (pos 0) j (f ∷ [])
 
@@ -475,5 +501,6 @@ module _ (count : ℕ) (assets : List ℕ) (first later : ℕ) (number : ℕ →
         found_after = found_after_on;
         open_counts = open_counts_on;
         credits = credits_on;
+        kept_numbers = kept_numbers_on;
         moments = λ m from. ap (int_max m) (last_is after e ∙ moment ∙ sym (last_is before d));
       }

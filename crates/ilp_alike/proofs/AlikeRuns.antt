@@ -13,7 +13,7 @@ use Rattle.ilp_rules.specs.Lawful.{IsLawful}
 use Rattle.ilp_rules.proofs.InTime.{in_time}
 use Rattle.ilp_next_period.specs.NextPeriod.{MayFollow, next_head, next_book}
 use Rattle.ilp_book.specs.Run.{Call, hold, answer, expire, credit, ask, close, CallReply, Step, IsAllowed, AreAllowed, made_by, step, replies_to}
-use Rattle.ilp_alike.specs.Alike.{place_there, by_config, number_before, call_with, step_with, unnumbered, is_full, NamesKnown, HasRoomForAll, AnswersAlike}
+use Rattle.ilp_alike.specs.Alike.{place_there, by_config, number_before, call_with, step_with, reply_with, is_full, NamesKnown, HasRoomForAll, AnswersAlike}
 use Rattle.ilp_alike.proofs.Renamed.{renamed}
 use Rattle.ilp_alike.proofs.AlikeJournals.{IsNumbering, AreAlike}
 use Rattle.ilp_alike.proofs.Begun.{numbering, begun_alike}
@@ -48,7 +48,7 @@ module _ (C : Configuration) (valid : IsValid C) (begun : PlainBook) (first : �
     runs_alike : (steps : List Step) (before after : Entries) → AreAlike (length C.peers) (peer_assets C) first (length begun.entries) number Named start before after
         → AreAllowed C steps → All (λ (s : Step). NamesKnown begun s.call) steps → All (λ (s : Step). start ≤ℤ s.caller.now) steps
         → HasRoomForAll (new_of after) steps → HasRoomForAll (old_of before) (map (step_with number) steps)
-        → map unnumbered (replies_to (new_of after) steps) ≡ map unnumbered (replies_to (old_of before) (map (step_with number) steps))
+        → map (reply_with number) (replies_to (new_of after) steps) ≡ replies_to (old_of before) (map (step_with number) steps)
     runs_alike [] before after alike allowed named come full also = refl
     runs_alike (s ∷ ss) before after alike allowed named come full also =
         let new_step = step (new_of after) s in

@@ -1,9 +1,12 @@
 -- The book that ends, by the next configuration, and the one that it brings forward are alike.
-use Rattle.std.proofs.Common.{◌≡◌, ◌⊎◌, ℕ, zero, suc, ◌+◌, ◌-◌, ◌<◌, ◌≤◌, ℤ, pos, Bool, true, false, cond, ◌&&◌, List, [], ◌∷◌, ◌++◌, length, map, Option, Some, None, inl, inr, refl, sym, ap, ap₂, ◌∙◌, subst, arith, zero-add, add-zero, IsSome, is_none, is_some, fold, unwrap_or, option_map, option_and_then, slice_get}
+use Rattle.ilp_rules.proofs.Standing.{first_found}
+use Rattle.std.specs.Option.{option_or}
+use Rattle.ilp_journal.specs.declared.entry.Credited.{Credited}
+use Rattle.std.proofs.Common.{◌≡◌, ◌⊎◌, ℕ, zero, suc, ◌+◌, ◌-◌, ◌<◌, ◌≤◌, ℤ, pos, Bool, true, false, cond, ◌&&◌, List, [], ◌∷◌, ◌++◌, length, map, Option, Some, None, inl, inr, refl, sym, ap, ap₂, ◌∙◌, subst, arith, zero-add, add-zero, IsSome, is_none, is_some, fold, unwrap_or, option_map, option_and_then, slice_get, IsNone, ◌==◌}
 use Rattle.std.specs.Prelude.{◌≤ℤ◌, nat_lt}
 use Rattle.std.specs.Int.{int_min, int_max}
 use Rattle.std.specs.Str.{bytes_eq}
-use Rattle.std.proofs.lemmas.Bool.{cases_lt, and_parts, lt-ltb, ltb-true}
+use Rattle.std.proofs.lemmas.Bool.{cases_lt, and_parts, lt-ltb, ltb-true, eqb-true}
 use Rattle.std.proofs.lemmas.Int.{ints, clamps}
 use Rattle.std.proofs.lemmas.List.{length-map}
 use Rattle.std.proofs.lemmas.Option.{slice_get_within, slice_get_past}
@@ -14,10 +17,11 @@ use Rattle.ilp_accounts.specs.Configuration.{Configuration}
 use Rattle.ilp_accounts.specs.Valid.{IsValid}
 use Rattle.ilp_journal.specs.declared.entry.Entry.{Entry}
 use Rattle.ilp_journal.specs.declared.entry.What.{What}
+use Rattle.ilp_journal.specs.declared.entry.What.TheVariants as what
 use Rattle.ilp_journal.specs.declared.entry.Ask.{Ask}
 use Rattle.ilp_journal.specs.Journal.{Entries, last_moment, as_hold, as_ask, answered, closed, is_number, hold_at, ask_at, answer_of, closing_of, is_unclosed, open_hold_at, open_ask_at, open_asks, AnswersOnce, ClosesOnce}
 use Rattle.ilp_journal.specs.Balance.{balance}
-use Rattle.ilp_journal.specs.Credits.{kept_credit}
+use Rattle.ilp_journal.specs.Credits.{kept_credit, as_credit, credit_at, has_key, kept_at}
 use Rattle.ilp_journal.specs.BroughtForward.{PeriodEnd, earlier_place, head_entry, earlier_balance, earlier_key, balances_brought_forward, credits_brought_forward, settlements_brought_forward, brought_forward, open_settlements}
 use Rattle.ilp_journal.proofs.Naming.{answer_of_past, closing_of_past}
 use Rattle.ilp_journal.proofs.Made.{Every, first_from-every_none}
@@ -34,7 +38,7 @@ use Rattle.ilp_rules.specs.SettlementKeys.{settlement_key_at}
 use Rattle.ilp_rules.proofs.Rules.{answers_once, closes_once}
 use Rattle.ilp_rules.proofs.OwnKeys.{own_keys}
 use Rattle.ilp_next_period.specs.NextPeriod.{period_end, next_head, next_book}
-use Rattle.ilp_alike.specs.Alike.{moved, place_there, by_config, open_under, number_before}
+use Rattle.ilp_alike.specs.Alike.{moved, place_there, by_config, open_under, number_before, brought_from}
 use Rattle.ilp_alike.proofs.Renamed.{renamed, moved_ask, balance-renamed, balance-nobody, kept_credit-renamed, kept_credit-nobody, open_asks-renamed, open_asks-nobody, open_settlements-renamed, open_settlements-nobody, open_hold_at-renamed, open_ask_at-renamed, ask_at-renamed, earlier_key_at-renamed, answers_once-renamed, closes_once-renamed, last_moment-renamed}
 use Rattle.ilp_alike.proofs.HeadPlaces.{place_there_of, settlement_stands, IsBrought, settlement_from, settlements_in_order, every-at}
 use Rattle.ilp_alike.proofs.AlikeJournals.{IsNumbering, AreAlike}
@@ -216,17 +220,79 @@ module _ (book : PlainBook) (next : Configuration) (now : ℤ) (valid : IsValid 
           (ap is_some asks) parts.0 ((bytes_eq-Decides _ _).1 same_key) in
           first_only (has_its_key k) 0 before is.number x stands (subst (λ n. has_its_key k n x ≡ true) (sym (zero-add is.number)) passes) only ∙ ap Some (zero-add is.number)
 
-  number_in_head : (k : ℕ) (b : Ask) → k < length head → (is : IsBrought end book.entries k b) → number k ≡ is.number
-  number_in_head k b low is =
-      ap (λ t. cond t (unwrap_or (open_under (by_config book next) (settlement_key_at next (book.period + 1) head k)) 0) (length before + (k - length head))) (lt-ltb k (length head) low)
-      ∙ ap (λ o. unwrap_or o 0) (found_under k b is)
+  -- what stands before further calls comes from what it was brought forward from
+  number_low : (k : ℕ) → k < length head → number k ≡ unwrap_or (brought_from (by_config book next) (next_book book next now) k) 0
+  number_low k low = ap (λ t. cond t (unwrap_or (brought_from (by_config book next) (next_book book next now) k) 0) (length before + (k - length head))) (lt-ltb k (length head) low)
+
+  no_credit : (w : What) (a : Ask) → as_ask w ≡ Some a → as_credit w ≡ None
+  no_credit (what.Hold h) a is = refl
+  no_credit (what.Fulfilled hold preimage) a is = refl
+  no_credit (what.Released hold cause) a is = refl
+  no_credit (what.Credited c) a is = absurd cc
+  no_credit (what.Asked b) a is = refl
+  no_credit (what.Confirmed ask) a is = refl
+  no_credit (what.Undone ask) a is = refl
+  no_credit (what.Opened peer b) a is = refl
+  no_credit (what.Known c) a is = absurd cc
+  no_credit (what.Pending peer amount key) a is = refl
+
+  number_in_head : (k : ℕ) (b : Ask) → k < length head → ask_at head k ≡ Some b → (is : IsBrought end book.entries k b) → number k ≡ is.number
+  number_in_head k b low asked is =
+      number_low k low
+      ∙ ap₂ (λ (c : Option Credited) (o : Option ℕ). unwrap_or (option_or (option_and_then (λ (x : Credited). kept_at before x.peer x.key) c) o) 0) (at (slice_get head k) asked) (found_under k b is)
+    where
+      at : (o : Option Entry) → option_and_then (λ (e : Entry). as_ask e.what) o ≡ Some b → option_and_then (λ (e : Entry). as_credit e.what) o ≡ None
+      at None asks = refl
+      at (Some e) asks = no_credit e.what b asks
 
   number_behind : (k : ℕ) → length head ≤ k → number k ≡ length before + (k - length head)
   number_behind k high = of (nat_lt k (length head)) refl
     where
-      of : (t : Bool) → nat_lt k (length head) ≡ t → cond t (unwrap_or (open_under (by_config book next) (settlement_key_at next (book.period + 1) head k)) 0) (length before + (k - length head)) ≡ length before + (k - length head)
+      of : (t : Bool) → nat_lt k (length head) ≡ t → cond t (unwrap_or (brought_from (by_config book next) (next_book book next now) k) 0) (length before + (k - length head)) ≡ length before + (k - length head)
       of true is = absurd (omega (arith, ltb-true k (length head) is, high))
       of false is = refl
+
+  -- ---- credits
+
+  found_credit : (j : Entries) (q : ℕ) (key : List ℕ) (n : ℕ) → kept_at j q key ≡ Some n → (c : Credited) × (credit_at j n ≡ Some c) × (c.peer ≡ q) × (c.key ≡ key) × (n < length j)
+  found_credit j q key n is =
+      let f = first_found (λ _ (e : Entry). has_key q key e.what) 0 n j is in
+      let place : f.0 ≡ n = omega (arith, f.2) in
+      let stands : slice_get j n ≡ Some f.1 = subst (λ k. slice_get j k ≡ Some f.1) place f.3 in
+      of f.1.what (as_credit f.1.what) refl f.4 (ap (option_and_then (λ (e : Entry). as_credit e.what)) stands) (slice_get_within j n f.1 stands)
+    where
+      of : (w : What) (o : Option Credited) → as_credit w ≡ o → unwrap_or (option_map (λ (c : Credited). (c.peer == q) && bytes_eq c.key key) o) false ≡ true → credit_at j n ≡ as_credit w → n < length j
+          → (c : Credited) × (credit_at j n ≡ Some c) × (c.peer ≡ q) × (c.key ≡ key) × (n < length j)
+      of w None keeps passes at within_it = absurd cc
+      of w (Some c) keeps passes at within_it =
+          let parts = and_parts (c.peer == q) (bytes_eq c.key key) passes in
+          (c, at ∙ keeps, eqb-true c.peer q parts.0, (bytes_eq-Decides c.key key).0 parts.1, within_it)
+
+  kept_numbers_alike : (q : ℕ) (key : List ℕ) → IsKnown next q → option_map number (kept_at head q key) ≡ kept_at before q key
+  kept_numbers_alike q key known = of (kept_at head q key) (kept_at before q key) refl refl
+    where
+      same : option_and_then (credit_at head) (kept_at head q key) ≡ option_and_then (credit_at before) (kept_at before q key)
+      same = credit_alike q known key
+
+      of : (o p : Option ℕ) → kept_at head q key ≡ o → kept_at before q key ≡ p → option_map number o ≡ p
+      of None None is also = refl
+      of None (Some n) is also =
+          let c = found_credit before q key n also in
+          let none : credit_at before n ≡ None = sym (ap (option_and_then (credit_at before)) also) ∙ sym same ∙ ap (option_and_then (credit_at head)) is in
+          let some : credit_at before n ≡ Some c.0 = c.1 in
+          absurd cc
+      of (Some k) None is also =
+          let c = found_credit head q key k is in
+          let none : credit_at head k ≡ None = sym (ap (option_and_then (credit_at head)) is) ∙ same ∙ ap (option_and_then (credit_at before)) also in
+          let some : credit_at head k ≡ Some c.0 = c.1 in
+          absurd cc
+      of (Some k) (Some n) is also =
+          let c = found_credit head q key k is in
+          let there : kept_at before c.0.peer c.0.key ≡ Some n = ap₂ (kept_at before) c.2 c.3 ∙ also in
+          ap Some
+          (number_low k c.4
+          ∙ ap (λ (o : Option Credited). unwrap_or (option_or (option_and_then (λ (x : Credited). kept_at before x.peer x.key) o) (open_under (by_config book next) (settlement_key_at next (book.period + 1) head k))) 0) c.1
+          ∙ ap (λ (o : Option ℕ). unwrap_or (option_or o (open_under (by_config book next) (settlement_key_at next (book.period + 1) head k))) 0) there)
 
   -- ---- settlements
 
@@ -254,7 +320,7 @@ module _ (book : PlainBook) (next : Configuration) (now : ℤ) (valid : IsValid 
       of (Some b) at some =
           let low = within head k (ap is_some at) in
           let brought = settlement_from end book.entries k b at in
-          let is = number_in_head k b low brought in
+          let is = number_in_head k b low at brought in
           let there = (chosen (is_unclosed book.entries brought.number) (ask_at book.entries brought.number) brought.ask brought.is_open).1 in
           record {
             ask = b;
@@ -284,16 +350,20 @@ module _ (book : PlainBook) (next : Configuration) (now : ℤ) (valid : IsValid 
   asks_alike k (inl some) = let come = has_come k some in open_ask_head k ∙ come.there ∙ sym (came_open k come)
   asks_alike k (inr high) = past_none head k high ∙ sym (past_none before (number k) (behind_before k high))
 
-  closings_alike : (k : ℕ) → IsNamed k → is_some (closing_of head k) ≡ is_some (closing_of before (number k))
+  no_number : (o : Option ℕ) → IsNone o → o ≡ None
+  no_number None none = refl
+  no_number (Some n) none = cc
+
+  closings_alike : (k : ℕ) → IsNamed k → option_map number (closing_of head k) ≡ closing_of before (number k)
   closings_alike k (inl some) =
       let come = has_come k some in
-      ap is_some (head_not_closed k)
+      ap (option_map number) (head_not_closed k)
       ∙ sym (unclosed (closing_of before (number k)) (chosen (is_unclosed before (number k)) (ask_at before (number k)) come.ask (came_open k come)).0)
     where
-      unclosed : (o : Option ℕ) → is_none o ≡ true → is_some o ≡ false
+      unclosed : (o : Option ℕ) → is_none o ≡ true → o ≡ None
       unclosed None is = refl
       unclosed (Some n) is = cc
-  closings_alike k (inr high) = ap is_some (head_not_closed k) ∙ sym (closing_of_past before (number k) closes_before (behind_before k high))
+  closings_alike k (inr high) = ap (option_map number) (head_not_closed k) ∙ sym (no_number (closing_of before (number k)) (closing_of_past before (number k) closes_before (behind_before k high)))
 
   found : (m : ℕ) (a : Ask) → open_ask_at before m ≡ Some a → a.peer < length next.peers → (k : ℕ) × IsNamed k × (number k ≡ m)
   found m a there known = of (open_ask_at book.entries m) refl (sym (open_ask_at-renamed to book.entries m) ∙ there)
@@ -307,7 +377,7 @@ module _ (book : PlainBook) (next : Configuration) (now : ℤ) (valid : IsValid 
           let b : Ask = record { peer = a.peer; amount = c.amount } in
           let stands : ask_at head k ≡ Some b = ap (option_and_then (λ (e : Entry). as_ask e.what)) (settlement_stands end book.entries m c a.peer is listed) in
           let brought : IsBrought end book.entries k b = record { number = m; ask = c; is_open = is; peer = listed; amount = refl; place = refl } in
-          (k, inl (ap is_some stands), number_in_head k b (within head k (ap is_some stands)) brought)
+          (k, inl (ap is_some stands), number_in_head k b (within head k (ap is_some stands)) stands brought)
 
   found_head : (k : ℕ) (a : Ask) → open_ask_at head k ≡ Some a → IsNamed k
   found_head k a there = inl (ap is_some (sym (open_ask_head k) ∙ there))
@@ -374,12 +444,13 @@ module _ (book : PlainBook) (next : Configuration) (now : ℤ) (valid : IsValid 
     holds = λ k high. head_closed_holds k ∙ sym (before_closed_holds (number k));
     no_holds_after = λ k low. head_closed_holds k;
     no_holds_before = λ k low. before_closed_holds k;
-    answers = λ k high. ap is_some (head_unanswered k) ∙ sym (answer_of_past before (number k) answers_before (behind_before k high));
+    answers = λ k high. ap (option_map number) (head_unanswered k) ∙ sym (no_number (answer_of before (number k)) (answer_of_past before (number k) answers_before (behind_before k high)));
     asks = asks_alike;
     closings = closings_alike;
     found_before = found;
     found_after = found_head;
     open_counts = open_count_alike;
     credits = λ q key known. credit_alike q known key;
+    kept_numbers = kept_numbers_alike;
     moments = moments_alike;
   }

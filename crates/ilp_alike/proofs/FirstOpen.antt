@@ -1,4 +1,4 @@
--- Of journals that are alike the first settlements that are open to a peer have one amount.
+-- Of journals that are alike the same settlement is the first that is open to a peer.
 use Rattle.std.proofs.Common.{◌≡◌, ◌⊎◌, ℕ, zero, suc, ◌+◌, ◌<◌, ◌≤◌, ℤ, Bool, true, false, cond, ◌&&◌, List, [], ◌∷◌, Option, Some, None, inl, inr, refl, sym, ap, ap₂, ◌∙◌, subst, arith, zero-add, add-zero, unwrap_or, option_map, option_and_then, slice_get, ◌==◌}
 use Rattle.std.proofs.lemmas.Bool.{cases_order, and_parts, eqb-true, eq-eqb}
 use Rattle.ilp_order.specs.Places.{first_from}
@@ -71,28 +71,25 @@ module _ (q : ℕ) where
   missing_next : (j : Entries) (m : ℕ) (a : Ask) → next_open_number j q None ≡ None → open_ask_at j m ≡ Some a → a.peer ≡ q → ⊥
   missing_next j m a is open_now its = let p = passes_next j m a open_now its in first_missing (is_next j) 0 j is m p.0 p.1 p.2
 
-  -- the amount of the first that is open
-  abbrev pub first_amount : Entries → Option ℕ
-  first_amount j = option_map (λ (x : ℕ × Ask). x.1.amount) (next_open_ask j q None)
+  next_none : (j : Entries) → next_open_number j q None ≡ None → next_open_ask j q None ≡ None
+  next_none j is = ap (option_and_then {U = ℕ × Ask} (λ n. option_map (λ (a : Ask). (n, a)) (ask_at j n))) is
 
-  amount_none : (j : Entries) → next_open_number j q None ≡ None → first_amount j ≡ None
-  amount_none j is = ap (λ o. option_map (λ (x : ℕ × Ask). x.1.amount) (option_and_then {U = ℕ × Ask} (λ n. option_map (λ (a : Ask). (n, a)) (ask_at j n)) o)) is
-
-  amount_some : (j : Entries) (n : ℕ) (a : Ask) → next_open_number j q None ≡ Some n → open_ask_at j n ≡ Some a → first_amount j ≡ Some a.amount
-  amount_some j n a is open_now =
-      ap (λ o. option_map (λ (x : ℕ × Ask). x.1.amount) (option_and_then {U = ℕ × Ask} (λ n. option_map (λ (a : Ask). (n, a)) (ask_at j n)) o)) is
-      ∙ ap (λ o. option_map (λ (x : ℕ × Ask). x.1.amount) (option_map {U = ℕ × Ask} (λ (a : Ask). (n, a)) o)) (chosen (is_unclosed j n) (ask_at j n) a open_now).1
+  next_some : (j : Entries) (n : ℕ) (a : Ask) → next_open_number j q None ≡ Some n → open_ask_at j n ≡ Some a → next_open_ask j q None ≡ Some (n, a)
+  next_some j n a is open_now =
+      ap (option_and_then {U = ℕ × Ask} (λ n. option_map (λ (a : Ask). (n, a)) (ask_at j n))) is
+      ∙ ap (option_map {U = ℕ × Ask} (λ (a : Ask). (n, a))) (chosen (is_unclosed j n) (ask_at j n) a open_now).1
 
 module _ (count : ℕ) (assets : List ℕ) (first later : ℕ) (number : ℕ → ℕ) (IsNamed : ℕ → Type 0) (start : ℤ) (is : IsNumbering first later number IsNamed) (before after : Entries)
     (alike : AreAlike count assets first later number IsNamed start before after) (q : ℕ) (known : q < count) where
-  pub first_amounts : first_amount q after ≡ first_amount q before
-  first_amounts = of (next_open_number after q None) (next_open_number before q None) refl refl
-    where
-      less : (x y : Ask) → ◌≡◌ {A = Option Ask} (Some x) (Some y) → x.amount ≡ y.amount
-      less x y same = ap (λ (a : Ask). a.amount) (some_same x y same)
+  -- a settlement by its number before
+  abbrev pub ask_before : ℕ × Ask → ℕ × Ask
+  ask_before x = (number x.0, x.1)
 
+  pub first_alike : option_map ask_before (next_open_ask after q None) ≡ next_open_ask before q None
+  first_alike = of (next_open_number after q None) (next_open_number before q None) refl refl
+    where
       both : (k n : ℕ) (a b : Ask) → next_open_number after q None ≡ Some k → next_open_number before q None ≡ Some n → open_ask_at after k ≡ Some a → a.peer ≡ q
-          → open_ask_at before n ≡ Some b → b.peer ≡ q → a.amount ≡ b.amount
+          → open_ask_at before n ≡ Some b → b.peer ≡ q → ◌≡◌ {A = ℕ × Ask} (number k, a) (n, b)
       both k n a b is_k is_n open_k its_k open_n its_n =
           let named = alike.found_after k a open_k in
           let there : open_ask_at before (number k) ≡ Some a = sym (alike.asks k named) ∙ open_k in
@@ -100,15 +97,17 @@ module _ (count : ℕ) (assets : List ℕ) (first later : ℕ) (number : ℕ →
           let back : open_ask_at after found.0 ≡ Some b = alike.asks found.0 found.1 ∙ ap (open_ask_at before) found.2 ∙ open_n in
           let low : n ≤ number k = least_next q before n (number k) a is_n there its_k in
           let high : k ≤ found.0 = least_next q after k found.0 b is_k back its_n in
-          by (cases_order k found.0) named found.1 found.2 low high there open_n
+          let one : number k ≡ n = by found.0 (cases_order k found.0) named found.1 found.2 low high in
+          let other : a ≡ b = some_same a b (sym there ∙ ap (open_ask_at before) one ∙ open_n) in
+          ap₂ (λ (i : ℕ) (c : Ask). (i, c)) one other
         where
-          by : {m : ℕ} → (k ≡ m) ⊎ ((k < m) ⊎ (m < k)) → IsNamed k → IsNamed m → number m ≡ n → n ≤ number k → k ≤ m → open_ask_at before (number k) ≡ Some a → open_ask_at before n ≡ Some b → a.amount ≡ b.amount
-          by (inl same) one two is_m low high there open_n = less a b (sym there ∙ ap (λ i. open_ask_at before (number i)) same ∙ ap (open_ask_at before) is_m ∙ open_n)
-          by {m} (inr (inl before_it)) one two is_m low high there open_n = absurd (omega (arith, is.rising k m one two before_it, is_m, low))
-          by {m} (inr (inr behind_it)) one two is_m low high there open_n = absurd (omega (arith, behind_it, high))
+          by : (m : ℕ) → (k ≡ m) ⊎ ((k < m) ⊎ (m < k)) → IsNamed k → IsNamed m → number m ≡ n → n ≤ number k → k ≤ m → number k ≡ n
+          by m (inl same) one two is_m low high = ap number same ∙ is_m
+          by m (inr (inl before_it)) one two is_m low high = absurd (omega (arith, is.rising k m one two before_it, is_m, low))
+          by m (inr (inr behind_it)) one two is_m low high = absurd (omega (arith, behind_it, high))
 
-      of : (o p : Option ℕ) → next_open_number after q None ≡ o → next_open_number before q None ≡ p → first_amount q after ≡ first_amount q before
-      of None None is_k is_n = amount_none q after is_k ∙ sym (amount_none q before is_n)
+      of : (o p : Option ℕ) → next_open_number after q None ≡ o → next_open_number before q None ≡ p → option_map ask_before (next_open_ask after q None) ≡ next_open_ask before q None
+      of None None is_k is_n = ap (option_map ask_before) (next_none q after is_k) ∙ sym (next_none q before is_n)
       of None (Some n) is_k is_n =
           let b = found_next q before n is_n in
           let found = alike.found_before n b.0 b.1 (omega (arith, b.2, known)) in
@@ -119,4 +118,4 @@ module _ (count : ℕ) (assets : List ℕ) (first later : ℕ) (number : ℕ →
       of (Some k) (Some n) is_k is_n =
           let a = found_next q after k is_k in
           let b = found_next q before n is_n in
-          amount_some q after k a.0 is_k a.1 ∙ ap Some (both k n a.0 b.0 is_k is_n a.1 a.2 b.1 b.2) ∙ sym (amount_some q before n b.0 is_n b.1)
+          ap (option_map ask_before) (next_some q after k a.0 is_k a.1) ∙ ap Some (both k n a.0 b.0 is_k is_n a.1 a.2 b.1 b.2) ∙ sym (next_some q before n b.0 is_n b.1)

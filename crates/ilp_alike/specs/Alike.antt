@@ -1,12 +1,15 @@
 -- A book that was brought forward answers as the one that it came from would by the same configuration, but for the numbers of
 -- entries and the room that there is.
-use Rattle.std.specs.Prelude.{◌≡◌, ◌⊎◌, ℕ, ◌+◌, ◌-◌, ◌≤◌, ℤ, ◌≤ℤ◌, List, length, map, All, Bool, true, false, ◌&&◌, nat_lt, Option, is_some, option_map, unwrap_or, Ok, Err, IsSome, if◌then◌else◌, ⊤}
+use Rattle.std.specs.Prelude.{◌≡◌, ◌⊎◌, ℕ, ◌+◌, ◌-◌, ◌≤◌, ℤ, ◌≤ℤ◌, List, length, map, All, Bool, true, false, ◌&&◌, nat_lt, Option, is_some, option_map, unwrap_or, Ok, Err, IsSome, if◌then◌else◌, ⊤, option_and_then}
+use Rattle.std.specs.Option.{option_or}
 use Rattle.std.specs.Str.{bytes_eq}
 use Rattle.ilp_order.specs.Places.{first_from}
 use Rattle.ilp_accounts.specs.Configuration.{Configuration}
 use Rattle.ilp_journal.specs.declared.entry.Entry.{Entry}
 use Rattle.ilp_journal.specs.declared.entry.What.{What}
 use Rattle.ilp_journal.specs.declared.entry.What.TheVariants as what
+use Rattle.ilp_journal.specs.Credits.{credit_at, kept_at}
+use Rattle.ilp_journal.specs.declared.entry.Credited.{Credited}
 use Rattle.ilp_journal.specs.Journal.{as_ask, ask_at, is_unclosed}
 use Rattle.ilp_journal.specs.BroughtForward.{credited_to, next_place}
 use Rattle.ilp_rules.specs.Book.{PlainBook, moment_at}
@@ -54,12 +57,17 @@ abbrev pub open_under : PlainBook → List ℕ → Option ℕ
 open_under book key =
     first_from (λ n (e : Entry). (is_some (as_ask e.what) && is_unclosed book.entries n) && bytes_eq (settlement_key_at book.config book.period book.entries n) key) 0 book.entries
 
--- The number in one book of what has the number n in a later one: of a settlement by its key, and of what is booked by further
--- calls by its place behind all that stands there now.
+-- what the entry n of a later book was brought forward from: the credit that is kept under its key, or the open settlement
+abbrev pub brought_from : PlainBook → PlainBook → ℕ → Option ℕ
+brought_from book later n =
+    option_or (option_and_then (λ (c : Credited). kept_at book.entries c.peer c.key) (credit_at later.entries n))
+    (open_under book (settlement_key_at later.config later.period later.entries n))
+
+-- The number in one book of what has the number n in a later one: of a credit or a settlement by its key, and of what is booked by
+-- further calls by its place behind all that stands there now.
 abbrev pub number_before : PlainBook → PlainBook → ℕ → ℕ
 number_before book later n =
-    if nat_lt n (length later.entries) then unwrap_or (open_under book (settlement_key_at later.config later.period later.entries n)) 0
-    else length book.entries + (n - length later.entries)
+    if nat_lt n (length later.entries) then unwrap_or (brought_from book later n) 0 else length book.entries + (n - length later.entries)
 
 -- a call with other numbers
 abbrev pub call_with : (ℕ → ℕ) → Call → Call
@@ -70,20 +78,20 @@ call_with number call = call
 abbrev pub step_with : (ℕ → ℕ) → Step → Step
 step_with number s = record s { call = call_with number s.call }
 
--- a reply without the numbers of entries
-abbrev pub unnumbered : CallReply → CallReply
-unnumbered (of_hold (Ok held)) = of_hold (Ok (record held { number = 0 }))
-unnumbered (of_answer (Ok (outcome.Fulfilled n))) = of_answer (Ok (outcome.Fulfilled 0))
-unnumbered (of_answer (Ok (outcome.Released n cause))) = of_answer (Ok (outcome.Released 0 cause))
-unnumbered (of_answer (Err over)) = of_answer (Err (record { closer = option_map (λ n. 0) over.closer }))
-unnumbered (of_expire taken) = of_expire (option_map (λ n. 0) taken)
-unnumbered (of_credit (Ok kept)) = of_credit (Ok (record kept { number = 0 }))
-unnumbered (of_credit (Err (credit_fault.KeyTaken n))) = of_credit (Err (credit_fault.KeyTaken 0))
-unnumbered (of_ask (Ok asked)) = of_ask (Ok (record asked { number = 0 }))
-unnumbered (of_ask (Err (ask_fault.StillOpen n amount))) = of_ask (Err (ask_fault.StillOpen 0 amount))
-unnumbered (of_close (Ok n)) = of_close (Ok 0)
-unnumbered (of_close (Err over)) = of_close (Err (record { closer = option_map (λ n. 0) over.closer }))
-unnumbered reply = reply
+-- a reply with other numbers
+abbrev pub reply_with : (ℕ → ℕ) → CallReply → CallReply
+reply_with number (of_hold (Ok held)) = of_hold (Ok (record held { number = number held.number }))
+reply_with number (of_answer (Ok (outcome.Fulfilled n))) = of_answer (Ok (outcome.Fulfilled (number n)))
+reply_with number (of_answer (Ok (outcome.Released n cause))) = of_answer (Ok (outcome.Released (number n) cause))
+reply_with number (of_answer (Err over)) = of_answer (Err (record { closer = option_map number over.closer }))
+reply_with number (of_expire taken) = of_expire (option_map number taken)
+reply_with number (of_credit (Ok kept)) = of_credit (Ok (record kept { number = number kept.number }))
+reply_with number (of_credit (Err (credit_fault.KeyTaken n))) = of_credit (Err (credit_fault.KeyTaken (number n)))
+reply_with number (of_ask (Ok asked)) = of_ask (Ok (record asked { number = number asked.number }))
+reply_with number (of_ask (Err (ask_fault.StillOpen n amount))) = of_ask (Err (ask_fault.StillOpen (number n) amount))
+reply_with number (of_close (Ok n)) = of_close (Ok (number n))
+reply_with number (of_close (Err over)) = of_close (Err (record { closer = option_map number over.closer }))
+reply_with number reply = reply
 
 -- ---- the statement
 
@@ -110,12 +118,16 @@ pub record AreCalls (book : PlainBook) (next : Configuration) (now : ℤ) (steps
 abbrev pub HasRoomForAll : PlainBook → List Step → Type 0
 HasRoomForAll book steps = All (λ (r : CallReply). is_full r ≡ false) (replies_to book steps)
 
+-- the number in the book that ends of what has another in the one that was brought forward
+abbrev pub before_of : PlainBook → Configuration → ℤ → ℕ → ℕ
+before_of book next now = number_before (by_config book next) (next_book book next now)
+
 -- the same calls of the book that ends
 abbrev pub calls_before : PlainBook → Configuration → ℤ → List Step → List Step
-calls_before book next now steps = map (step_with (number_before (by_config book next) (next_book book next now))) steps
+calls_before book next now steps = map (step_with (before_of book next now)) steps
 
--- Whatever calls come, both books give the same answers.
+-- Whatever calls come, both books give the same answers: where the later one names an entry, the one before names the same.
 abbrev pub AnswersAlike : PlainBook → Configuration → ℤ → Type 0
 AnswersAlike book next now =
     (steps : List Step) → AreCalls book next now steps → HasRoomForAll (next_book book next now) steps → HasRoomForAll (by_config book next) (calls_before book next now steps)
-    → map unnumbered (replies_to (next_book book next now) steps) ≡ map unnumbered (replies_to (by_config book next) (calls_before book next now steps))
+    → map (reply_with (before_of book next now)) (replies_to (next_book book next now) steps) ≡ replies_to (by_config book next) (calls_before book next now steps)
