@@ -43,7 +43,8 @@ use Rattle.ilp_book.proofs.HoldSteps.{terms_allowed}
 use Rattle.ilp_book.proofs.Earliest.{earliest_is_first, earliest_is}
 use Rattle.ilp_book.proofs.AnswerSteps.{due_facts}
 use Rattle.ilp_alike.specs.Alike.{reply_with, is_full}
-use Rattle.ilp_alike.proofs.AlikeJournals.{numbered, IsNumbering, AreAlike, Joins, alike_on, last_number}
+use Rattle.ilp_alike.proofs.Numbered.{numbered, IsNumbering}
+use Rattle.ilp_alike.proofs.AlikeJournals.{AreAlike, Joins, alike_on, last_number}
 use Rattle.ilp_alike.proofs.FirstOpen.{first_alike}
 
 module _ (C : Configuration) (valid : IsValid C) (first later : ℕ) (number : ℕ → ℕ) (IsNamed : ℕ → Type 0) (start : ℤ) (numbering : IsNumbering first later number IsNamed) (in_years : start ≤ℤ last_of_all) where

@@ -15,7 +15,8 @@ use Rattle.ilp_next_period.specs.NextPeriod.{MayFollow, next_head, next_book}
 use Rattle.ilp_book.specs.Run.{Call, hold, answer, expire, credit, ask, close, CallReply, Step, IsAllowed, AreAllowed, made_by, step, replies_to}
 use Rattle.ilp_alike.specs.Alike.{place_there, by_config, number_before, call_with, step_with, reply_with, is_full, NamesKnown, HasRoomForAll, AnswersAlike}
 use Rattle.ilp_alike.proofs.Renamed.{renamed}
-use Rattle.ilp_alike.proofs.AlikeJournals.{IsNumbering, AreAlike}
+use Rattle.ilp_alike.proofs.Numbered.{IsNumbering}
+use Rattle.ilp_alike.proofs.AlikeJournals.{AreAlike}
 use Rattle.ilp_alike.proofs.Begun.{numbering, begun_alike}
 use Rattle.ilp_alike.proofs.AlikeCalls.{Twins, answers_alike, sweeps_alike, closes_alike, credits_alike, asks_alike, holds_alike}
 

@@ -41,7 +41,8 @@ use Rattle.ilp_next_period.specs.NextPeriod.{period_end, next_head, next_book}
 use Rattle.ilp_alike.specs.Alike.{moved, place_there, by_config, open_under, number_before, brought_from}
 use Rattle.ilp_alike.proofs.Renamed.{renamed, moved_ask, balance-renamed, balance-nobody, kept_credit-renamed, kept_credit-nobody, open_asks-renamed, open_asks-nobody, open_settlements-renamed, open_settlements-nobody, open_hold_at-renamed, open_ask_at-renamed, ask_at-renamed, earlier_key_at-renamed, answers_once-renamed, closes_once-renamed, last_moment-renamed}
 use Rattle.ilp_alike.proofs.HeadPlaces.{place_there_of, settlement_stands, IsBrought, settlement_from, settlements_in_order, every-at}
-use Rattle.ilp_alike.proofs.AlikeJournals.{IsNumbering, AreAlike}
+use Rattle.ilp_alike.proofs.Numbered.{IsNumbering}
+use Rattle.ilp_alike.proofs.AlikeJournals.{AreAlike}
 use Rattle.ilp_alike.proofs.NextPlaces.{comes_from, same_there, nobody_there, listed_there}
 
 -- the only place that passes is the first

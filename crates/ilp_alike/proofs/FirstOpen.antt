@@ -8,7 +8,8 @@ use Rattle.ilp_journal.specs.declared.entry.What.{What}
 use Rattle.ilp_journal.specs.declared.entry.Ask.{Ask}
 use Rattle.ilp_journal.specs.Journal.{Entries, as_ask, ask_at, is_unclosed, open_ask_at, is_ask_of, is_behind, next_open_number, next_open_ask}
 use Rattle.ilp_rules.proofs.Standing.{first_found}
-use Rattle.ilp_alike.proofs.AlikeJournals.{IsNumbering, AreAlike}
+use Rattle.ilp_alike.proofs.Numbered.{IsNumbering}
+use Rattle.ilp_alike.proofs.AlikeJournals.{AreAlike}
 
 -- the first place that passes lies behind no other
 first_least : {X : Type 0} (test : ℕ → X → Bool) (s n : ℕ) (xs : List X) → first_from test s xs ≡ Some n → (m : ℕ) (x : X) → slice_get xs m ≡ Some x → test (s + m) x ≡ true → n ≤ s + m

@@ -1,5 +1,6 @@
 mod Renamed
 mod HeadPlaces
+mod Numbered
 mod AlikeJournals
 mod NextPlaces
 mod Begun
