@@ -93,9 +93,9 @@ module _ (C : Configuration) (valid : IsValid C) (first later : ℕ) (number : �
     same_end : number (length after) ≡ length before
     same_end = last_number (length C.peers) (peer_assets C) first later number IsNamed start numbering before after alike
 
-    pub answers_alike : (n : ℕ) (reply : PeerReply) → later ≤ n → Twins (replied_as of_answer (answer_step new caller n reply)) (replied_as of_answer (answer_step old caller (number n) reply))
+    pub ends_alike : (n : ℕ) (reply : PeerReply) → later ≤ n → Twins (replied_as of_answer (answer_step new caller n reply)) (replied_as of_answer (answer_step old caller (number n) reply))
     unfolding answer_step
-    answers_alike n reply high = of (open_hold_at after n) (open_hold_at before (number n)) refl (alike.holds n high)
+    ends_alike n reply high = of (open_hold_at after n) (open_hold_at before (number n)) refl (alike.holds n high)
       where
         of : (o p : Option Hold) → open_hold_at after n ≡ o → o ≡ p → Twins (replied_as of_answer (answer_booked new caller n reply o)) (replied_as of_answer (answer_booked old caller (number n) reply p))
         of None None is same = record { replies = ap (λ c. of_answer (Err (record { closer = c }))) (alike.answers n high); stay = alike }

@@ -10,7 +10,7 @@ use Rattle.ilp_journal.specs.declared.entry.What.{What}
 use Rattle.ilp_journal.specs.declared.entry.What.TheVariants as what
 use Rattle.ilp_journal.specs.Credits.{credit_at, kept_at}
 use Rattle.ilp_journal.specs.declared.entry.Credited.{Credited}
-use Rattle.ilp_journal.specs.Journal.{as_ask, ask_at, is_unclosed}
+use Rattle.ilp_journal.specs.Journal.{Entries, as_ask, ask_at, is_unclosed}
 use Rattle.ilp_journal.specs.BroughtForward.{credited_to, next_place}
 use Rattle.ilp_rules.specs.Book.{PlainBook, moment_at}
 use Rattle.ilp_rules.specs.SettlementKeys.{settlement_key_at}
@@ -19,7 +19,7 @@ use Rattle.ilp_book.specs.declared.calls.Outcome.TheVariants as outcome
 use Rattle.ilp_book.specs.declared.fault.HoldFault.TheVariants as hold_fault
 use Rattle.ilp_book.specs.declared.fault.CreditFault.TheVariants as credit_fault
 use Rattle.ilp_book.specs.declared.fault.AskFault.TheVariants as ask_fault
-use Rattle.ilp_book.specs.Run.{Call, answer, close, CallReply, of_hold, of_answer, of_expire, of_credit, of_ask, of_close, Step, AreAllowed, replies_to}
+use Rattle.ilp_book.specs.Run.{Call, answer, close, CallReply, of_hold, of_answer, of_expire, of_credit, of_ask, of_close, Step, AreAllowed, replies_to, book_after}
 
 -- ---- the book that ends, by the next configuration
 
@@ -126,8 +126,19 @@ before_of book next now = number_before (by_config book next) (next_book book ne
 abbrev pub calls_before : PlainBook → Configuration → ℤ → List Step → List Step
 calls_before book next now steps = map (step_with (before_of book next now)) steps
 
+-- neither book refuses one for want of room
+abbrev pub BothHaveRoom : PlainBook → Configuration → ℤ → List Step → Type 0
+BothHaveRoom book next now steps = HasRoomForAll (next_book book next now) steps × HasRoomForAll (by_config book next) (calls_before book next now steps)
+
 -- Whatever calls come, both books give the same answers: where the later one names an entry, the one before names the same.
 abbrev pub AnswersAlike : PlainBook → Configuration → ℤ → Type 0
 AnswersAlike book next now =
-    (steps : List Step) → AreCalls book next now steps → HasRoomForAll (next_book book next now) steps → HasRoomForAll (by_config book next) (calls_before book next now steps)
+    (steps : List Step) → AreCalls book next now steps → BothHaveRoom book next now steps
     → map (reply_with (before_of book next now)) (replies_to (next_book book next now) steps) ≡ replies_to (by_config book next) (calls_before book next now steps)
+
+-- the entries of both books after the calls
+abbrev pub entries_later : PlainBook → Configuration → ℤ → List Step → Entries
+entries_later book next now steps = (book_after (next_book book next now) steps).entries
+
+abbrev pub entries_before : PlainBook → Configuration → ℤ → List Step → Entries
+entries_before book next now steps = (book_after (by_config book next) (calls_before book next now steps)).entries

@@ -5,6 +5,7 @@
 ghost use Rattle.std.specs.Prelude.{◌≡◌, ◌+◌, ℕ, ℤ, List};
 ghost use Rattle.ilp_accounts.specs.Configuration.{Configuration};
 ghost use Rattle.ilp_accounts.specs.Valid.{IsValid};
+ghost use Rattle.ilp_journal.specs.Journal.{open_asks};
 ghost use Rattle.ilp_journal.specs.Balance.{balance};
 ghost use Rattle.ilp_journal.specs.Credits.{kept_credit};
 ghost use Rattle.ilp_journal.specs.BroughtForward.{open_settlements};
@@ -13,7 +14,8 @@ ghost use Rattle.ilp_rules.specs.Configured.{IsKnown};
 ghost use Rattle.ilp_rules.specs.Heads.{settlement_key_of};
 ghost use Rattle.ilp_rules.specs.Lawful.{IsLawful};
 ghost use Rattle.ilp_next_period.specs.NextPeriod.{MayFollow, next_book};
-ghost use Rattle.ilp_alike.specs.Alike.{by_config, AnswersAlike};
+ghost use Rattle.ilp_book.specs.Run.{Step};
+ghost use Rattle.ilp_alike.specs.Alike.{by_config, AreCalls, BothHaveRoom, AnswersAlike, entries_later, entries_before};
 ghost use Rattle.ilp_alike.specs.Rows.{AlikeRow};
 
 /// Each peer of the next configuration has the same in the book that was brought forward and in the one
@@ -34,12 +36,35 @@ pub fn peers_begin_alike()
         ≡ open_settlements (settlement_key_of next book.period) (by_config book next).entries q }
 {}
 
-/// Whatever calls come once the books are closed, both books answer them alike, but for the numbers of
-/// entries, as long as both have room.
-pub fn answers_stay_alike()
+/// Whatever calls come once the books are closed, both books answer them alike, as long as both have
+/// room: where the later one names an entry, the one before names the same.
+pub fn answers_alike()
     ensures alike { (book : PlainBook) (next : Configuration) (now : ℤ)
         → IsValid book.config → IsValid next → IsLawful book → MayFollow book next
         → AnswersAlike book next now }
+{}
+
+/// After such calls both owe each peer the same, and keep the same credit under each of its keys, and as
+/// many settlements to it are open.
+pub fn peers_stay_alike()
+    ensures balances { (book : PlainBook) (next : Configuration) (now : ℤ)
+        → IsValid book.config → IsValid next → IsLawful book → MayFollow book next
+        → (steps : List Step) → AreCalls book next now steps → BothHaveRoom book next now steps
+        → (q : ℕ) → IsKnown next q
+        → balance (entries_later book next now steps) q
+        ≡ balance (entries_before book next now steps) q }
+    ensures keys { (book : PlainBook) (next : Configuration) (now : ℤ)
+        → IsValid book.config → IsValid next → IsLawful book → MayFollow book next
+        → (steps : List Step) → AreCalls book next now steps → BothHaveRoom book next now steps
+        → (q : ℕ) → IsKnown next q → (key : List ℕ)
+        → kept_credit (entries_later book next now steps) q key
+        ≡ kept_credit (entries_before book next now steps) q key }
+    ensures settlements { (book : PlainBook) (next : Configuration) (now : ℤ)
+        → IsValid book.config → IsValid next → IsLawful book → MayFollow book next
+        → (steps : List Step) → AreCalls book next now steps → BothHaveRoom book next now steps
+        → (q : ℕ) → IsKnown next q
+        → open_asks (entries_later book next now steps) q
+        ≡ open_asks (entries_before book next now steps) q }
 {}
 
 /// Worked calls, which both books answer alike.
