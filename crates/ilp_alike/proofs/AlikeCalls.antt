@@ -6,8 +6,8 @@ use Rattle.std.proofs.lemmas.Bool.{cases_lt}
 use Rattle.std.proofs.lemmas.Int.{ints, clamps}
 use Rattle.ilp_order.specs.Refusals.{◌>>=◌, refuse_if, refuse_some, found_or}
 use Rattle.ilp_order.proofs.RefusalLemmas.{some_same}
-use Rattle.ilp_assets.specs.Quote.{most}
 use Rattle.ilp_terms.specs.Expiry.{last_of_all}
+use Rattle.ilp_assets.specs.Quote.{most}
 use Rattle.ilp_settlement.specs.declared.quantity.Quantity.{Quantity}
 use Rattle.ilp_settlement.specs.declared.verdict.EngineVerdict.{EngineVerdict}
 use Rattle.ilp_settlement.specs.declared.verdict.EngineVerdict.TheVariants as engine
@@ -45,7 +45,7 @@ use Rattle.ilp_book.proofs.AnswerSteps.{due_facts}
 use Rattle.ilp_alike.specs.Alike.{reply_with, is_full}
 use Rattle.ilp_alike.proofs.Numbered.{numbered, IsNumbering}
 use Rattle.ilp_alike.proofs.AlikeJournals.{AreAlike, Joins, alike_on, last_number}
-use Rattle.ilp_alike.proofs.FirstOpen.{first_alike}
+use Rattle.ilp_alike.proofs.FirstOpen.{next_alike}
 
 module _ (C : Configuration) (valid : IsValid C) (first later : ℕ) (number : ℕ → ℕ) (IsNamed : ℕ → Type 0) (start : ℤ) (numbering : IsNumbering first later number IsNamed) (in_years : start ≤ℤ last_of_all) where
   abbrev pub Alike : Entries → Entries → Type 0
@@ -298,7 +298,7 @@ module _ (C : Configuration) (valid : IsValid C) (first later : ℕ) (number : �
     still_alike q known =
         of (nat_lt (open_asks after q) most_open_asks) (next_open_ask after q None)
         ∙ ap₂ (λ n o. cond (nat_lt n most_open_asks) None (option_map (λ (x : ℕ × Ask). ask_fault.StillOpen x.0 x.1.amount) o)) (alike.open_counts q known)
-        (first_alike (length C.peers) (peer_assets C) first later number IsNamed start numbering before after alike q known)
+        (next_alike (length C.peers) (peer_assets C) first later number IsNamed start numbering before after alike q known None tt)
       where
         of : (b : Bool) (o : Option (ℕ × Ask)) → option_map fault_before (cond b None (option_map (λ (x : ℕ × Ask). ask_fault.StillOpen x.0 x.1.amount) o))
             ≡ cond b None (option_map (λ (x : ℕ × Ask). ask_fault.StillOpen x.0 x.1.amount) (option_map {U = ℕ × Ask} (λ (x : ℕ × Ask). (number x.0, x.1)) o))

@@ -1,8 +1,7 @@
 -- Two journals that answer alike: one began with what the other brought forward, and behind that both have the same entries, but for
 -- the numbers in them.
-use Rattle.ilp_journal.specs.declared.entry.Credited.{Credited}
-use Rattle.std.specs.Str.{bytes_eq}
 use Rattle.std.proofs.Common.{◌≡◌, ℕ, ◌+◌, ◌<◌, ◌≤◌, ℤ, pos, ◌+ℤ◌, ◌-ℤ◌, Bool, true, false, cond, not, ◌||◌, List, [], ◌∷◌, ◌++◌, length, Option, Some, None, inl, inr, refl, sym, ap, ap₂, ◌∙◌, subst, arith, length-append, IfSome, IsSome, IsNone, is_some, unwrap_or, option_map, ◌==◌, nat_le, zero-add, ◌&&◌}
+use Rattle.std.specs.Str.{bytes_eq}
 use Rattle.std.specs.Prelude.{◌≤ℤ◌}
 use Rattle.std.specs.Int.{int_max}
 use Rattle.std.specs.Option.{option_or}
@@ -11,6 +10,7 @@ use Rattle.std.proofs.lemmas.List.Sums.{fold-append}
 use Rattle.ilp_order.specs.Places.{Each}
 use Rattle.ilp_order.proofs.RefusalLemmas.{chosen, is_none_at}
 use Rattle.ilp_order.proofs.Sums.{Each-push, first_from-append}
+use Rattle.ilp_journal.specs.declared.entry.Credited.{Credited}
 use Rattle.ilp_journal.specs.declared.entry.Entry.{Entry}
 use Rattle.ilp_journal.specs.declared.entry.What.{What}
 use Rattle.ilp_journal.specs.declared.entry.What.TheVariants as what
@@ -76,27 +76,32 @@ module _ (count : ℕ) (assets : List ℕ) (first later : ℕ) (number : ℕ →
   -- Of the peers below the count both owe the same, keep the same credits and have the same open; totals count from the places at
   -- which the further entries begin.
   pub record AreAlike (before after : Entries) : Type 0 where
+    -- both are journals, and as much stands behind the places
     pub answers_before : Each AnswersOnce before
     pub answers_after : Each AnswersOnce after
     pub closes_before : Each ClosesOnce before
     pub closes_after : Each ClosesOnce after
     pub lengths : length before + later ≡ length after + first
     pub begun : later ≤ length after
+    pub moments : (m : ℤ) → start ≤ℤ m → int_max m (last_moment after) ≡ int_max m (last_moment before)
+    -- sums
     pub balances : (q : ℕ) → q < count → balance after q ≡ balance before q
     pub totals_in : (x : ℕ) → total_in assets later after x ≡ total_in assets first before x
     pub totals_out : (x : ℕ) → total_out assets later after x ≡ total_out assets first before x
+    -- holds, which are open behind the places alone
     pub holds : (k : ℕ) → later ≤ k → open_hold_at after k ≡ open_hold_at before (number k)
     pub no_holds_after : (k : ℕ) → k < later → open_hold_at after k ≡ None
     pub no_holds_before : (k : ℕ) → k < first → open_hold_at before k ≡ None
     pub answers : (k : ℕ) → later ≤ k → option_map number (answer_of after k) ≡ answer_of before (number k)
+    -- settlements, of which the open ones are named
     pub asks : (k : ℕ) → IsNamed k → open_ask_at after k ≡ open_ask_at before (number k)
     pub closings : (k : ℕ) → IsNamed k → option_map number (closing_of after k) ≡ closing_of before (number k)
     pub found_before : (m : ℕ) (a : Ask) → open_ask_at before m ≡ Some a → a.peer < count → (k : ℕ) × IsNamed k × (number k ≡ m)
     pub found_after : (k : ℕ) (a : Ask) → open_ask_at after k ≡ Some a → IsNamed k
     pub open_counts : (q : ℕ) → q < count → open_asks after q ≡ open_asks before q
+    -- credits
     pub credits : (q : ℕ) (key : List ℕ) → q < count → kept_credit after q key ≡ kept_credit before q key
     pub kept_numbers : (q : ℕ) (key : List ℕ) → q < count → option_map number (kept_at after q key) ≡ kept_at before q key
-    pub moments : (m : ℤ) → start ≤ℤ m → int_max m (last_moment after) ≡ int_max m (last_moment before)
 
   -- an entry ends what is open
   pub record Joins (after : Entries) (w : What) : Type 0 where

@@ -1,26 +1,28 @@
 -- Two books that are alike answer each list of calls alike.
-use Rattle.ilp_journal.specs.Credits.{kept_credit}
-use Rattle.ilp_journal.specs.Balance.{balance}
-use Rattle.std.proofs.Common.{◌≡◌, ◌⊎◌, ℕ, ◌+◌, ◌≤◌, ℤ, false, List, [], ◌∷◌, length, map, refl, ap₂, All, IsSome}
+use Rattle.std.proofs.Common.{◌≡◌, ◌⊎◌, ℕ, ◌+◌, ◌≤◌, ℤ, false, List, [], ◌∷◌, length, map, refl, ap₂, All, IsSome, Option, option_map, IfSome}
 use Rattle.std.specs.Prelude.{◌≤ℤ◌}
 use Rattle.std.proofs.lemmas.List.Elements.{All-head, All-tail}
 use Rattle.ilp_terms.specs.Expiry.{last_of_all}
 use Rattle.ilp_accounts.specs.Configuration.{Configuration}
 use Rattle.ilp_accounts.specs.Valid.{IsValid}
+use Rattle.ilp_journal.specs.Credits.{kept_credit}
+use Rattle.ilp_journal.specs.Balance.{balance}
 use Rattle.ilp_journal.specs.declared.entry.What.TheVariants as what
-use Rattle.ilp_journal.specs.Journal.{Entries, ask_at, open_asks}
+use Rattle.ilp_journal.specs.Journal.{Entries, ask_at}
 use Rattle.ilp_rules.specs.Book.{PlainBook, By, by, Growth, appended, moment_at}
 use Rattle.ilp_rules.specs.Configured.{peer_assets, IsKnown}
 use Rattle.ilp_rules.specs.Lawful.{IsLawful}
 use Rattle.ilp_rules.proofs.InTime.{in_time}
 use Rattle.ilp_next_period.specs.NextPeriod.{MayFollow, next_head, next_book}
 use Rattle.ilp_book.specs.Run.{Call, hold, answer, expire, credit, ask, close, CallReply, Step, IsAllowed, AreAllowed, made_by, step, replies_to, book_after}
-use Rattle.ilp_alike.specs.Alike.{place_there, by_config, call_with, step_with, reply_with, is_full, NamesKnown, HasRoomForAll, before_of, calls_before, BothHaveRoom, entries_later, entries_before, AreCalls}
+use Rattle.ilp_book.specs.SettleStep.{open_settlement}
+use Rattle.ilp_alike.specs.Alike.{place_there, by_config, call_with, step_with, reply_with, is_full, NamesKnown, HasRoomForAll, before_of, calls_before, BothHaveRoom, entries_later, entries_before, AreCalls, asked_with, MayBeNamed}
 use Rattle.ilp_alike.proofs.Renamed.{renamed}
 use Rattle.ilp_alike.proofs.Numbered.{IsNumbering}
 use Rattle.ilp_alike.proofs.AlikeJournals.{AreAlike}
 use Rattle.ilp_alike.proofs.Begun.{numbering, begun_alike}
 use Rattle.ilp_alike.proofs.AlikeCalls.{Twins, ends_alike, sweeps_alike, closes_alike, credits_alike, asks_alike, holds_alike}
+use Rattle.ilp_alike.proofs.FirstOpen.{told_alike}
 
 module _ (C : Configuration) (valid : IsValid C) (begun : PlainBook) (first : ℕ) (number : ℕ → ℕ) (start : ℤ) (earlier_period period : ℕ) where
   abbrev later : ℕ
@@ -92,5 +94,8 @@ module _ (book : PlainBook) (next : Configuration) (now : ℤ) (valid : IsValid 
     pub credit_stays : (key : List ℕ) → kept_credit (entries_later book next now steps) q key ≡ kept_credit (entries_before book next now steps) q key
     credit_stays key = run.stay.credits q key known
 
-    pub open_count_stays : open_asks (entries_later book next now steps) q ≡ open_asks (entries_before book next now steps) q
-    open_count_stays = run.stay.open_counts q known
+    pub settlement_stays : (tried : Option ℕ) → IfSome tried (MayBeNamed (next_book book next now))
+        → option_map (asked_with (before_of book next now)) (open_settlement (entries_later book next now steps) q tried) ≡ open_settlement (entries_before book next now steps) q (option_map (before_of book next now) tried)
+    settlement_stays =
+        told_alike (length next.peers) (peer_assets next) (length book.entries) (length (next_head book next now)) (before_of book next now) (MayBeNamed (next_book book next now)) (moment_at book.entries now)
+        (numbering book next now valid later_valid lawful may.run may.closed) (entries_before book next now steps) (entries_later book next now steps) run.stay q known

@@ -1,11 +1,10 @@
 -- The book that ends, by the next configuration, and the one that it brings forward are alike.
-use Rattle.ilp_rules.proofs.Standing.{first_found}
-use Rattle.std.specs.Option.{option_or}
-use Rattle.ilp_journal.specs.declared.entry.Credited.{Credited}
 use Rattle.std.proofs.Common.{◌≡◌, ◌⊎◌, ℕ, zero, suc, ◌+◌, ◌-◌, ◌<◌, ◌≤◌, ℤ, pos, Bool, true, false, cond, ◌&&◌, List, [], ◌∷◌, ◌++◌, length, map, Option, Some, None, inl, inr, refl, sym, ap, ap₂, ◌∙◌, subst, arith, zero-add, add-zero, IsSome, is_none, is_some, fold, unwrap_or, option_map, option_and_then, slice_get, IsNone, ◌==◌}
+use Rattle.std.specs.Option.{option_or}
 use Rattle.std.specs.Prelude.{◌≤ℤ◌, nat_lt}
 use Rattle.std.specs.Int.{int_min, int_max}
 use Rattle.std.specs.Str.{bytes_eq}
+use Rattle.std.specs.Fmt.{decimal}
 use Rattle.std.proofs.lemmas.Bool.{cases_lt, and_parts, lt-ltb, ltb-true, eqb-true}
 use Rattle.std.proofs.lemmas.Int.{ints, clamps}
 use Rattle.std.proofs.lemmas.List.{length-map}
@@ -13,8 +12,10 @@ use Rattle.std.proofs.lemmas.Option.{slice_get_within, slice_get_past}
 use Rattle.std.proofs.lemmas.Slice.Eq.{bytes_eq-Decides}
 use Rattle.ilp_order.specs.Places.{first_from, Each}
 use Rattle.ilp_order.proofs.RefusalLemmas.{chosen, some_same}
+use Rattle.ilp_terms.specs.Expiry.{last_of_all}
 use Rattle.ilp_accounts.specs.Configuration.{Configuration}
 use Rattle.ilp_accounts.specs.Valid.{IsValid}
+use Rattle.ilp_journal.specs.declared.entry.Credited.{Credited}
 use Rattle.ilp_journal.specs.declared.entry.Entry.{Entry}
 use Rattle.ilp_journal.specs.declared.entry.What.{What}
 use Rattle.ilp_journal.specs.declared.entry.What.TheVariants as what
@@ -28,13 +29,12 @@ use Rattle.ilp_journal.proofs.Made.{Every, first_from-every_none}
 use Rattle.ilp_journal.proofs.Heads.{every_brought_forward, head_answers_once, head_closes_once, head_unclosed, balance_brought_forward, credit_kept, credit_of_new, settlements_kept, settlements_of_new}
 use Rattle.ilp_journal.proofs.Peers.{open_asks_are, open_asks_kept}
 use Rattle.ilp_tallies.proofs.Rebasing.{total_in-none, total_out-none}
-use Rattle.ilp_terms.specs.Expiry.{last_of_all}
 use Rattle.ilp_rules.specs.Book.{PlainBook, moment_at}
 use Rattle.ilp_rules.specs.Configured.{IsKnown, peer_assets}
 use Rattle.ilp_rules.specs.Heads.{period_mark, settlement_key_of}
-use Rattle.std.specs.Fmt.{decimal}
 use Rattle.ilp_rules.specs.Lawful.{IsLawful}
 use Rattle.ilp_rules.specs.SettlementKeys.{settlement_key_at}
+use Rattle.ilp_rules.proofs.Standing.{first_found}
 use Rattle.ilp_rules.proofs.Rules.{answers_once, closes_once}
 use Rattle.ilp_rules.proofs.OwnKeys.{own_keys}
 use Rattle.ilp_next_period.specs.NextPeriod.{period_end, next_head, next_book}

@@ -1,24 +1,24 @@
 -- A journal whose peers have other places: what it owes, keeps and has open is the same, by the peers' places there.
 use Rattle.std.proofs.Common.{◌≡◌, ℕ, ◌+◌, pos, ◌-ℤ◌, Bool, true, false, cond, ◌&&◌, List, [], ◌∷◌, ◌++◌, map, Option, Some, None, refl, sym, ap, ap₂, ◌∙◌, subst, arith, IfSome, IsSome, IsNone, is_none, sum_by, unwrap_or, option_map, option_and_then, slice_get, ◌==◌}
 use Rattle.std.specs.Str.{bytes_eq}
+use Rattle.std.specs.List.{cons_option}
 use Rattle.std.proofs.lemmas.Bool.{eqb-true}
 use Rattle.std.proofs.lemmas.List.{map-append}
 use Rattle.std.proofs.lemmas.List.Folds.{fold-map}
 use Rattle.std.proofs.lemmas.List.Sums.{sum_by-cons}
 use Rattle.std.proofs.lemmas.Option.{slice_get-map}
+use Rattle.ilp_order.specs.Places.{sum_from, first_from, EachAfter, Each}
 use Rattle.ilp_journal.specs.declared.entry.Entry.{Entry}
 use Rattle.ilp_journal.specs.declared.entry.What.{What}
 use Rattle.ilp_journal.specs.declared.entry.What.TheVariants as what
 use Rattle.ilp_journal.specs.declared.entry.Hold.{Hold}
 use Rattle.ilp_journal.specs.declared.entry.Ask.{Ask}
 use Rattle.ilp_journal.specs.declared.entry.Credited.{Credited}
-use Rattle.ilp_order.specs.Places.{sum_from, first_from, EachAfter, Each}
 use Rattle.ilp_journal.specs.Journal.{Entries, last_moment, as_hold, as_ask, answered, closed, is_number, hold_at, ask_at, answer_of, closing_of, is_unanswered, is_unclosed, open_hold_at, open_ask_at, of_ask, paid_to, open_asks, AnswersOnce, ClosesOnce}
 use Rattle.ilp_journal.specs.Balance.{above, below, rise, fall, balance}
 use Rattle.ilp_journal.specs.Credits.{as_credit, has_key, kept_credit}
 use Rattle.ilp_journal.specs.Made.{filter_map_from}
 use Rattle.ilp_journal.specs.BroughtForward.{credited_to, earlier_key, earlier_key_at, settlement_key, settlement_to, open_settlements}
-use Rattle.std.specs.List.{cons_option}
 use Rattle.ilp_journal.proofs.Made.{made-none, sum_by-map, first_some, first_some-map, first_some-none, first_some-after, first_from_is}
 use Rattle.ilp_alike.specs.Alike.{moved}
 

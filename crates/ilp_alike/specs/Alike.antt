@@ -1,5 +1,5 @@
--- A book that was brought forward answers as the one that it came from would by the same configuration, but for the numbers of
--- entries and the room that there is.
+-- A book that was brought forward answers as the one that it came from would by the same configuration, as long as both have room.
+-- Where it names an entry, that one names the same by its own number.
 use Rattle.std.specs.Prelude.{◌≡◌, ◌⊎◌, ℕ, ◌+◌, ◌-◌, ◌≤◌, ℤ, ◌≤ℤ◌, List, length, map, All, Bool, true, false, ◌&&◌, nat_lt, Option, is_some, option_map, unwrap_or, Ok, Err, IsSome, if◌then◌else◌, ⊤, option_and_then}
 use Rattle.std.specs.Option.{option_or}
 use Rattle.std.specs.Str.{bytes_eq}
@@ -20,6 +20,7 @@ use Rattle.ilp_book.specs.declared.fault.HoldFault.TheVariants as hold_fault
 use Rattle.ilp_book.specs.declared.fault.CreditFault.TheVariants as credit_fault
 use Rattle.ilp_book.specs.declared.fault.AskFault.TheVariants as ask_fault
 use Rattle.ilp_book.specs.Run.{Call, answer, close, CallReply, of_hold, of_answer, of_expire, of_credit, of_ask, of_close, Step, AreAllowed, replies_to, book_after}
+use Rattle.ilp_book.specs.declared.calls.Asked.{Asked}
 
 -- ---- the book that ends, by the next configuration
 
@@ -78,6 +79,10 @@ call_with number call = call
 abbrev pub step_with : (ℕ → ℕ) → Step → Step
 step_with number s = record s { call = call_with number s.call }
 
+-- an open settlement with another number
+abbrev pub asked_with : (ℕ → ℕ) → Asked → Asked
+asked_with number asked = record asked { number = number asked.number }
+
 -- a reply with other numbers
 abbrev pub reply_with : (ℕ → ℕ) → CallReply → CallReply
 reply_with number (of_hold (Ok held)) = of_hold (Ok (record held { number = number held.number }))
@@ -87,7 +92,7 @@ reply_with number (of_answer (Err over)) = of_answer (Err (record { closer = opt
 reply_with number (of_expire taken) = of_expire (option_map number taken)
 reply_with number (of_credit (Ok kept)) = of_credit (Ok (record kept { number = number kept.number }))
 reply_with number (of_credit (Err (credit_fault.KeyTaken n))) = of_credit (Err (credit_fault.KeyTaken (number n)))
-reply_with number (of_ask (Ok asked)) = of_ask (Ok (record asked { number = number asked.number }))
+reply_with number (of_ask (Ok asked)) = of_ask (Ok (asked_with number asked))
 reply_with number (of_ask (Err (ask_fault.StillOpen n amount))) = of_ask (Err (ask_fault.StillOpen (number n) amount))
 reply_with number (of_close (Ok n)) = of_close (Ok (number n))
 reply_with number (of_close (Err over)) = of_close (Err (record { closer = option_map number over.closer }))
@@ -102,10 +107,14 @@ is_full (of_credit (Err credit_fault.Full)) = true
 is_full (of_ask (Err ask_fault.Full)) = true
 is_full reply = false
 
+-- a number is that of a settlement that the book has, or comes behind all that it has
+abbrev pub MayBeNamed : PlainBook → ℕ → Type 0
+MayBeNamed book n = IsSome (ask_at book.entries n) ⊎ (length book.entries ≤ n)
+
 -- a call names a settlement that the book has, or what is booked by further calls
 abbrev pub NamesKnown : PlainBook → Call → Type 0
 NamesKnown book (answer n reply) = length book.entries ≤ n
-NamesKnown book (close n verdict) = IsSome (ask_at book.entries n) ⊎ (length book.entries ≤ n)
+NamesKnown book (close n verdict) = MayBeNamed book n
 NamesKnown book call = ⊤
 
 -- calls of the book that was brought forward, which come when the books of the one before are closed

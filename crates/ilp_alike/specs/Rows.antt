@@ -1,15 +1,15 @@
 -- A book is brought forward by a configuration in which its peers stand in another order and pay a fee, and both answer calls.
 use Rattle.std.specs.Prelude.{◌≡◌, ℕ, ◌+◌, pos, negsuc, false, List, [], ◌∷◌, Ok, Err, Some, None, codes, map}
+use Rattle.ilp_settlement.specs.declared.verdict.EngineVerdict.TheVariants.{Accepted, Refused}
 use Rattle.ilp_accounts.specs.Configuration.{Configuration, PlainPeer}
 use Rattle.ilp_journal.specs.declared.entry.Cause.TheVariants as cause
+use Rattle.ilp_rules.specs.Book.{PlainBook, new_book}
+use Rattle.ilp_next_period.specs.NextPeriod.{next_book}
 use Rattle.ilp_book.specs.declared.calls.PeerReply.TheVariants as peer_reply
 use Rattle.ilp_book.specs.declared.calls.Outcome.TheVariants as outcome
 use Rattle.ilp_book.specs.declared.fault.HoldFault.TheVariants as hold_fault
 use Rattle.ilp_book.specs.declared.fault.CreditFault.TheVariants as credit_fault
 use Rattle.ilp_book.specs.declared.fault.AskFault.TheVariants as ask_fault
-use Rattle.ilp_settlement.specs.declared.verdict.EngineVerdict.TheVariants.{Accepted, Refused}
-use Rattle.ilp_rules.specs.Book.{PlainBook, new_book}
-use Rattle.ilp_next_period.specs.NextPeriod.{next_book}
 use Rattle.ilp_book.specs.Run.{answer, expire, ask, close, CallReply, of_hold, of_answer, of_expire, of_credit, of_ask, of_close, Step, replies_to, book_after}
 use Rattle.ilp_book.specs.Rows.{alice, bob, between, new_year, prepare, sends, cents, settles, at_}
 use Rattle.ilp_alike.specs.Alike.{by_config, calls_before, before_of, reply_with}

@@ -2,10 +2,9 @@
 //! (`specs/Alike.antt`, `AnswersAlike`). These functions do nothing: their contracts are the laws.
 #![tactic(auto)]
 
-ghost use Rattle.std.specs.Prelude.{◌≡◌, ◌+◌, ℕ, ℤ, List};
+ghost use Rattle.std.specs.Prelude.{◌≡◌, ◌+◌, ℕ, ℤ, List, Option, IfSome, option_map};
 ghost use Rattle.ilp_accounts.specs.Configuration.{Configuration};
 ghost use Rattle.ilp_accounts.specs.Valid.{IsValid};
-ghost use Rattle.ilp_journal.specs.Journal.{open_asks};
 ghost use Rattle.ilp_journal.specs.Balance.{balance};
 ghost use Rattle.ilp_journal.specs.Credits.{kept_credit};
 ghost use Rattle.ilp_journal.specs.BroughtForward.{open_settlements};
@@ -14,8 +13,9 @@ ghost use Rattle.ilp_rules.specs.Configured.{IsKnown};
 ghost use Rattle.ilp_rules.specs.Heads.{settlement_key_of};
 ghost use Rattle.ilp_rules.specs.Lawful.{IsLawful};
 ghost use Rattle.ilp_next_period.specs.NextPeriod.{MayFollow, next_book};
+ghost use Rattle.ilp_book.specs.SettleStep.{open_settlement};
 ghost use Rattle.ilp_book.specs.Run.{Step};
-ghost use Rattle.ilp_alike.specs.Alike.{by_config, AreCalls, BothHaveRoom, AnswersAlike, entries_later, entries_before};
+ghost use Rattle.ilp_alike.specs.Alike.{by_config, AreCalls, BothHaveRoom, AnswersAlike, MayBeNamed, asked_with, before_of, entries_later, entries_before};
 ghost use Rattle.ilp_alike.specs.Rows.{AlikeRow};
 
 /// Each peer of the next configuration has the same in the book that was brought forward and in the one
@@ -44,8 +44,8 @@ pub fn answers_alike()
         → AnswersAlike book next now }
 {}
 
-/// After such calls both owe each peer the same, and keep the same credit under each of its keys, and as
-/// many settlements to it are open.
+/// After such calls both owe each peer the same, keep the same credit under each of its keys, and tell the
+/// same open settlement to it as the next one behind another.
 pub fn peers_stay_alike()
     ensures balances { (book : PlainBook) (next : Configuration) (now : ℤ)
         → IsValid book.config → IsValid next → IsLawful book → MayFollow book next
@@ -63,8 +63,11 @@ pub fn peers_stay_alike()
         → IsValid book.config → IsValid next → IsLawful book → MayFollow book next
         → (steps : List Step) → AreCalls book next now steps → BothHaveRoom book next now steps
         → (q : ℕ) → IsKnown next q
-        → open_asks (entries_later book next now steps) q
-        ≡ open_asks (entries_before book next now steps) q }
+        → (tried : Option ℕ) → IfSome tried (MayBeNamed (next_book book next now))
+        → option_map (asked_with (before_of book next now))
+        (open_settlement (entries_later book next now steps) q tried)
+        ≡ open_settlement (entries_before book next now steps) q
+        (option_map (before_of book next now) tried) }
 {}
 
 /// Worked calls, which both books answer alike.
