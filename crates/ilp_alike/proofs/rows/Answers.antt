@@ -13,7 +13,7 @@ use Rattle.ilp_alike.proofs.rows.Goals as goal
 
 alike_row : (c : List ℕ) → AlikeRow c
 unfolding digits quote balance total_in total_out open_asks brought_forward hold_terms hold_fitted hold_checked hold_step judged_reply answer_step expire_step credit_checked credit_step ask_checked ask_step close_step
-alike_row c = record { later = refl; before = refl }
+alike_row c = record { later = refl; before = refl; numbers = refl }
 
 pub returns : goal.returns
 returns c = record { alike = alike_row }

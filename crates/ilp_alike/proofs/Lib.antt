@@ -1,0 +1,9 @@
+mod Renamed
+mod HeadPlaces
+mod Numbered
+mod AlikeJournals
+mod NextPlaces
+mod Begun
+mod FirstOpen
+mod AlikeCalls
+mod AlikeRuns
