@@ -1,7 +1,8 @@
 //! What is printed of a period that begins.
 
-use ilp_book::Book;
+use ilp_book::{Asked, Book};
 use ilp_starting::RunFault;
+use ilp_tallies::MOST_OPEN;
 use std::io;
 use std::io::Print;
 
@@ -29,16 +30,25 @@ fn print_peer<R: Print>(rt: &R, book: &Book, peer: u32) -> io::Result<()> {
     println!(rt; "")
 }
 
-// The settlements to a peer that are open, in order. A look behind the last one finds the first again.
+// The settlements to a peer that are open, in order.
 fn print_pending<R: Print>(rt: &R, book: &Book, peer: u32) -> io::Result<()> {
     let mut last = None;
-    while let Some(asked) = book.open_settlement(peer, last) {
-        if last.is_some_and(|last| asked.number <= last) {
+    for _ in 0..MOST_OPEN {
+        let Some(asked) = next_pending(book, peer, last) else {
             break;
-        }
+        };
         let amount = asked.amount;
         print!(rt; " pending {amount}")?;
         last = Some(asked.number);
     }
     Ok(())
+}
+
+// The open settlement behind the last one, if there is one. Behind the last of all a look finds the first again.
+fn next_pending(book: &Book, peer: u32, last: Option<u32>) -> Option<Asked> {
+    let asked = book.open_settlement(peer, last)?;
+    match last {
+        Some(last) if asked.number <= last => None,
+        _ => Some(asked),
+    }
 }
