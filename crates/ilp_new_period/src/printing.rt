@@ -1,4 +1,5 @@
 //! What is printed of a period that begins.
+ghost use Rattle.ilp_rules.specs.Configured.{IsKnown};
 
 use ilp_book::{Asked, Book};
 use ilp_starting::RunFault;
@@ -23,7 +24,9 @@ fn print_lines<R: Print>(rt: &R, book: &Book) -> io::Result<()> {
     println!(rt; "period {period}")
 }
 
-fn print_peer<R: Print>(rt: &R, book: &Book, peer: u32) -> io::Result<()> {
+fn print_peer<R: Print>(rt: &R, book: &Book, peer: u32) -> io::Result<()>
+    requires { IsKnown book.now.config peer }
+{
     let (name, balance) = (book.config().name(peer), book.balance(peer));
     print!(rt; "peer {name} balance {balance}")?;
     print_pending(rt, book, peer)?;
