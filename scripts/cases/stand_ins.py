@@ -221,8 +221,16 @@ class FullHouse:
             link.close()
 
 
+# The ports that were given: the system may find one free twice.
+GIVEN: set[int] = set()
+
+
 def free_port() -> int:
-    """A port at which nobody listens."""
-    with socket.socket() as probe:
-        probe.bind((HERE, 0))
-        return probe.getsockname()[1]
+    """A port at which nobody listens, another one each time."""
+    while True:
+        with socket.socket() as probe:
+            probe.bind((HERE, 0))
+            port: int = probe.getsockname()[1]
+        if port not in GIVEN:
+            GIVEN.add(port)
+            return port
