@@ -162,7 +162,7 @@ fn line_fault<A: Allocator>(
 ) -> Result<Option<LineFault>, AllocError>
     ensures { IfOk result (λ fault. is_some fault ≡ is_bad (peer_names config.now.peers) line.now) }
 {
-    let (command, packet) = match parse(config, line)? {
+    let (command, packet) = match parse(config, line) {
         Form::Bad => return Ok(Some(why_bad(config, line))),
         Form::Hold { packet, .. } => (Command::Hold, packet),
         Form::Answer {
