@@ -1,6 +1,6 @@
 -- The lines of a script book what their calls book, and each call is one that the book allows.
 use Rattle.std.proofs.Common.{◌≡◌, ℕ, ◌<◌, ℤ, Bool, true, false, cond, List, [], ◌∷◌, ◌++◌, length, Option, Some, None, refl, sym, ap, ◌∙◌, subst, arith}
-use Rattle.std.specs.Prelude.{Result, Ok, Err, IfSome, ⊤, All, ◌==◌, codes}
+use Rattle.std.specs.Prelude.{Result, Ok, Err, IfSome, ⊤, ◌==◌, codes}
 use Rattle.std.specs.List.{list_all}
 use Rattle.std.specs.Str.{bytes_eq}
 use Rattle.std.proofs.lemmas.Bool.Decides.{nat_tests}

@@ -2,6 +2,7 @@
 use Rattle.std.specs.Prelude.{◌≡◌, ℕ, List, [], ◌∷◌, Option, Some, None, option_map, ◌<◌, ⊤}
 use Rattle.std.specs.Borrow.{Bor}
 use Rattle.std.specs.List.{slice_split}
+use Rattle.ilp_journal.specs.Keys.{IsKey}
 use Rattle.ilp_offline.specs.declared.form.Form.{Form as Read}
 use Rattle.ilp_offline.specs.declared.form.Form.TheVariants as read
 use Rattle.ilp_offline.specs.declared.form.Fields.{Fields}
@@ -15,17 +16,17 @@ abbrev pub form_seen : Read → Form
 form_seen (read.Hold now peer packet) = hold now peer packet.now
 form_seen (read.Answer now number packet) = answer now number (hex_seen packet)
 form_seen (read.Expire now) = expire now
-form_seen (read.Credit now peer key json) = credit now peer key json.now
+form_seen (read.Credit now peer key json) = credit now peer key.now json.now
 form_seen (read.Ask now peer) = ask now peer
 form_seen (read.Close now number verdict) = close now number verdict
 form_seen read.Report = report
 form_seen read.Silent = silent
 form_seen read.Bad = bad
 
--- a peer that a line names is one of so many
+-- a peer that a line names is one of so many, and a key is one
 abbrev pub IsOfPeers : ℕ → Read → Type 0
 IsOfPeers peers (read.Hold now peer packet) = peer < peers
-IsOfPeers peers (read.Credit now peer key json) = peer < peers
+IsOfPeers peers (read.Credit now peer key json) = (peer < peers) × IsKey key.now
 IsOfPeers peers (read.Ask now peer) = peer < peers
 IsOfPeers peers _ = ⊤
 

@@ -1,10 +1,9 @@
 //! What a line of a script asks for.
-ghost use Rattle.std.specs.Prelude.{◌≡◌, ◌<◌, ◌≤◌, ◌^◌, ◌∷◌, length, IfOk, OnErr, IfSome, option_map};
+ghost use Rattle.std.specs.Prelude.{◌≡◌, ◌<◌, ◌≤◌, ◌^◌, ◌∷◌, length, IfSome, option_map};
 ghost use Rattle.std.specs.Char.{is_ascii_digit};
 ghost use Rattle.std.specs.List.{list_all, slice_split};
 ghost use Rattle.ilp_accounts.specs.Configuration.{peer_names, place_named};
 ghost use Rattle.ilp_offline.specs.Script as script;
-ghost use Rattle.ilp_journal.specs.Keys.{IsKey};
 ghost use Rattle.ilp_offline.specs.Script.{moment_digits, form_of, form_of_fields, fields_of, is_space, number_in};
 ghost use Rattle.ilp_offline.specs.Seen.{form_seen, IsOfPeers, fields_after, field_list};
 
@@ -13,7 +12,6 @@ use ilp_accounts::Config;
 use ilp_described::is_printable;
 use ilp_journal::Key;
 use ilp_settlement::EngineVerdict;
-use std::alloc::AllocError;
 use std::str;
 
 /// The most digits of a moment.
@@ -24,7 +22,7 @@ pub(crate) const ENTRY_DIGITS: usize = 9;
 
 /// What a line asks for. Packets are hexadecimal text, which is decoded later, and quantities are
 /// JSON, which is read later.
-#[derive(Drop)]
+#[derive(Clone, Copy)]
 pub(crate) enum Form<'a> {
     Hold {
         now: i64,
@@ -42,7 +40,7 @@ pub(crate) enum Form<'a> {
     Credit {
         now: i64,
         peer: u32,
-        key: Key,
+        key: &'a [u8],
         json: &'a [u8],
     },
     Ask {
@@ -82,49 +80,46 @@ impl<'a> Fields<'a> {
     }
 }
 
-/// What a line asks for. A key of a settlement lies on the heap of the configuration: `AllocError`
-/// tells that memory is short.
-pub(crate) fn parse<'a>(config: &Config, line: &'a [u8]) -> Result<Form<'a>, AllocError>
-    ensures form { IfOk result (λ form. form_seen form
-        ≡ form_of (peer_names config.now.peers) line.now) }
-    ensures known { IfOk result (λ form. IsOfPeers (length config.now.peers) form) }
+/// What a line asks for.
+pub(crate) fn parse<'a>(config: &Config, line: &'a [u8]) -> Form<'a>
+    ensures form { form_seen result ≡ form_of (peer_names config.now.peers) line.now }
+    ensures known { IsOfPeers (length config.now.peers) result }
 {
     match line {
-        [] | [b'#', ..] => Ok(Form::Silent),
+        [] | [b'#', ..] => Form::Silent,
         _ => {
-            if !is_printable(line) {
-                return Ok(Form::Bad);
+            if is_printable(line) {
+                form_of_fields(config, line)
+            } else {
+                Form::Bad
             }
-            form_of_fields(config, line)
         }
     }
 }
 
 // What the fields of a line ask for.
-fn form_of_fields<'a>(config: &Config, line: &'a [u8]) -> Result<Form<'a>, AllocError>
-    ensures form { IfOk result (λ form. form_seen form
-        ≡ form_of_fields (peer_names config.now.peers) (fields_of line.now)) }
-    ensures known { IfOk result (λ form. IsOfPeers (length config.now.peers) form) }
+fn form_of_fields<'a>(config: &Config, line: &'a [u8]) -> Form<'a>
+    ensures form { form_seen result
+        ≡ form_of_fields (peer_names config.now.peers) (fields_of line.now) }
+    ensures known { IsOfPeers (length config.now.peers) result }
 {
     match split_fields(line) {
-        Fields::One(word) if word == b"report".as_slice() => Ok(Form::Report),
-        Fields::Two(word, now) if word == b"expire".as_slice() => Ok(expire_form(now)),
-        Fields::Three(word, now, peer) if word == b"ask".as_slice() => {
-            Ok(ask_form(config, now, peer))
-        }
+        Fields::One(word) if word == b"report".as_slice() => Form::Report,
+        Fields::Two(word, now) if word == b"expire".as_slice() => expire_form(now),
+        Fields::Three(word, now, peer) if word == b"ask".as_slice() => ask_form(config, now, peer),
         Fields::Four(word, now, peer, packet) if word == b"hold".as_slice() => {
-            Ok(hold_form(config, now, peer, packet))
+            hold_form(config, now, peer, packet)
         }
         Fields::Four(word, now, number, packet) if word == b"answer".as_slice() => {
-            Ok(answer_form(now, number, packet))
+            answer_form(now, number, packet)
         }
         Fields::Four(word, now, number, verdict) if word == b"close".as_slice() => {
-            Ok(close_form(now, number, verdict))
+            close_form(now, number, verdict)
         }
         Fields::Five(word, now, peer, key, json) if word == b"credit".as_slice() => {
             credit_form(config, now, peer, key, json)
         }
-        _ => Ok(Form::Bad),
+        _ => Form::Bad,
     }
 }
 
@@ -199,38 +194,28 @@ fn credit_form<'a>(
     config: &Config,
     now: &[u8],
     peer: &[u8],
-    key: &[u8],
+    key: &'a [u8],
     json: &'a [u8],
-) -> Result<Form<'a>, AllocError>
-    ensures form { IfOk result (λ form. form_seen form ≡ script.credit_form
-        (script.moment_in now.now) (place_named (peer_names config.now.peers) peer.now)
-        (script.key_in key.now) json.now) }
-    ensures known { IfOk result (λ form. IsOfPeers (length config.now.peers) form) }
-    ensures denied { OnErr result (IsKey key.now) }
+) -> Form<'a>
+    ensures form { form_seen result ≡ script.credit_form (script.moment_in now.now)
+        (place_named (peer_names config.now.peers) peer.now) (script.key_in key.now) json.now }
+    ensures known { IsOfPeers (length config.now.peers) result }
 {
     let Some(now) = number_in(now, MOMENT_DIGITS) else {
-        return Ok(Form::Bad);
+        return Form::Bad;
     };
     let Some(peer) = peer_named(config, peer) else {
-        return Ok(Form::Bad);
+        return Form::Bad;
     };
-    match key_in(config, key)? {
-        Some(key) => Ok(Form::Credit {
-            now: now as i64,
-            peer,
-            key,
-            json,
-        }),
-        None => Ok(Form::Bad),
+    if !Key::is_key(key) {
+        return Form::Bad;
     }
-}
-
-// The key that a text is.
-fn key_in(config: &Config, text: &[u8]) -> Result<Option<Key>, AllocError>
-    ensures key { IfOk result (λ key. key ≡ script.key_in text.now) }
-    ensures denied { OnErr result (IsKey text.now) }
-{
-    Key::new(config.allocator(), text)
+    Form::Credit {
+        now: now as i64,
+        peer,
+        key,
+        json,
+    }
 }
 
 // A settlement to a peer.

@@ -1,7 +1,8 @@
 //! Running one line of a script.
-ghost use Rattle.std.specs.Prelude.{◌≡◌, IfOk, OnErr, Err};
+ghost use Rattle.std.specs.Prelude.{◌≡◌, IfOk, OnErr, Ok, Err};
 ghost use Rattle.hex.specs.Hex.{decode_of};
 ghost use Rattle.ilp_packet.specs.Reading.{reading};
+ghost use Rattle.ilp_journal.specs.Keys.{IsKey};
 ghost use Rattle.ilp_settlement.specs.Quantity.{quantity_in};
 ghost use Rattle.ilp_book.specs.declared.fault.HoldFault.TheVariants as hold_fault;
 ghost use Rattle.ilp_book.specs.declared.fault.CreditFault.TheVariants as credit_fault;
@@ -38,8 +39,7 @@ pub(crate) fn run_line<A: Allocator + Copy>(
     ensures step { IfOk result (λ reply. Does book.old book.new reply (line_step book.old line.now)) }
     ensures err { OnErr result (book.new ≡ book.old) }
 {
-    let form = parse(book.config(), line)?;
-    match form {
+    match parse(book.config(), line) {
         Form::Hold { now, peer, packet } => run_hold(alloc, book, now, peer, packet),
         Form::Answer {
             now,
@@ -161,18 +161,39 @@ fn run_credit<A: Allocator + Clone>(
     book: &mut Book<A>,
     now: i64,
     peer: u32,
-    key: Key,
+    key: &[u8],
     json: &[u8],
 ) -> Result<LineReply, AllocError>
     requires known { IsKnown book.old.config peer }
+    requires key { IsKey key.now }
     ensures step { IfOk result (λ reply. Does book.old book.new reply
-        (replays.credit_json book.old now peer key (quantity_in json.now))) }
+        (replays.credit_json book.old now peer key.now (quantity_in json.now))) }
     ensures err { OnErr result (book.new ≡ book.old) }
 {
     match Quantity::read(book.config().allocator(), json) {
-        Ok(quantity) => credit_reply(book.credit(ACTOR, peer, key, &quantity, now)),
+        Ok(quantity) => credit(book, now, peer, key, &quantity),
         Err(QuantityFault::Memory) => Err(AllocError),
         Err(fault) => Ok(LineReply::Refused(Refusal::from(fault))),
+    }
+}
+
+// A settlement from a peer, whose key is kept on the same heap.
+fn credit<A: Allocator + Clone>(
+    book: &mut Book<A>,
+    now: i64,
+    peer: u32,
+    key: &[u8],
+    quantity: &Quantity,
+) -> Result<LineReply, AllocError>
+    requires known { IsKnown book.old.config peer }
+    requires key { IsKey key.now }
+    ensures step { IfOk result (λ reply. Does book.old book.new reply
+        (replays.credit_json book.old now peer key.now (Ok quantity.now))) }
+    ensures err { OnErr result (book.new ≡ book.old) }
+{
+    match Key::new(book.config().allocator(), key)? {
+        Some(key) => credit_reply(book.credit(ACTOR, peer, key, quantity, now)),
+        None => unreachable!(),
     }
 }
 

@@ -12,7 +12,7 @@ use std::alloc::{AllocError, Allocator};
 use std::fmt;
 
 /// What a line of a script may ask for.
-#[derive(Clone, Copy, Debug, PartialEq, Eq)]
+#[derive(Clone, Copy)]
 pub enum Command {
     Hold,
     Answer,
@@ -26,19 +26,16 @@ pub enum Command {
 impl Command {
     // The command of a line's first field.
     fn named(word: &[u8]) -> Option<Command> {
-        let commands = [
-            (b"hold".as_slice(), Command::Hold),
-            (b"answer".as_slice(), Command::Answer),
-            (b"expire".as_slice(), Command::Expire),
-            (b"credit".as_slice(), Command::Credit),
-            (b"ask".as_slice(), Command::Ask),
-            (b"close".as_slice(), Command::Close),
-            (b"report".as_slice(), Command::Report),
-        ];
-        commands
-            .iter()
-            .find(|(name, _)| *name == word)
-            .map(|(_, command)| *command)
+        match word {
+            b"hold" => Some(Command::Hold),
+            b"answer" => Some(Command::Answer),
+            b"expire" => Some(Command::Expire),
+            b"credit" => Some(Command::Credit),
+            b"ask" => Some(Command::Ask),
+            b"close" => Some(Command::Close),
+            b"report" => Some(Command::Report),
+            _ => None,
+        }
     }
 }
 
@@ -58,7 +55,7 @@ impl fmt::Display for Command {
 }
 
 /// A field of a line, by its name in the line's form.
-#[derive(Clone, Copy, Debug, PartialEq, Eq)]
+#[derive(Clone, Copy)]
 pub enum Part {
     At,
     Peer,
@@ -83,7 +80,7 @@ impl fmt::Display for Part {
 }
 
 /// Why a line is bad.
-#[derive(Clone, Copy, Debug, PartialEq, Eq)]
+#[derive(Clone, Copy)]
 pub enum LineFault {
     /// It has an octet that is neither a space nor visible ASCII, as a tab or a CR is.
     Unprintable,
@@ -114,7 +111,7 @@ impl fmt::Display for LineFault {
 }
 
 /// A line of a script that is bad.
-#[derive(Clone, Copy, Debug, PartialEq, Eq)]
+#[derive(Clone, Copy)]
 pub struct BadLine {
     /// Its number, counted from 1.
     pub number: u64,
@@ -162,7 +159,7 @@ fn line_fault<A: Allocator>(
 ) -> Result<Option<LineFault>, AllocError>
     ensures { IfOk result (λ fault. is_some fault ≡ is_bad (peer_names config.now.peers) line.now) }
 {
-    let (command, packet) = match parse(config, line)? {
+    let (command, packet) = match parse(config, line) {
         Form::Bad => return Ok(Some(why_bad(config, line))),
         Form::Hold { packet, .. } => (Command::Hold, packet),
         Form::Answer {

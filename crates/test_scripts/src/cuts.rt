@@ -2,12 +2,12 @@
 
 use crate::configurations::configured;
 use crate::scripts::print_replayed;
-use crate::words::in_hexadecimal;
 use ilp_accounts::Config;
 use ilp_oer::{MAX_CONTENT, Octets, write_octets};
 use std::alloc::{AllocError, Global};
 use std::io;
 use std::rt::Runtime;
+use test_row_texts::in_hexadecimal;
 
 /// Prints what is said of a line with a Prepare of which digits or octets of its content are
 /// missing, or with an octet more.

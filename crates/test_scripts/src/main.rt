@@ -11,7 +11,6 @@ mod cuts;
 mod examples;
 mod memory;
 mod scripts;
-mod words;
 
 use cuts::print_cuts;
 use examples::print_examples;

@@ -1,11 +1,11 @@
 //! Small scripts, each replayed over a new book of its configuration.
 
 use crate::configurations::configured;
-use crate::words::in_hexadecimal;
 use ilp_accounts::Config;
-use ilp_offline::{ReplayFault, bad_lines, replay};
+use ilp_offline::{BadLine, ReplayFault, bad_lines, replay};
 use std::rt::Runtime;
 use std::{fs, io};
+use test_row_texts::in_hexadecimal;
 
 // Configurations, and the file of scripts beside each.
 const CONFIGURATIONS: [(&str, &str); 11] = [
@@ -58,15 +58,11 @@ fn print_told<R: Runtime + AllocGlobal>(rt: &R) -> io::Result<()> {
 
 fn print_bad_lines<R: Runtime + AllocGlobal>(rt: &R, config: &Config) -> io::Result<()> {
     let script = fs::read(rt, "scripts/bad_lines.txt")?;
-    print_faults_of(rt, config, &script)
+    print_each(rt, &bad_lines(rt.alloc(), config, &script)?)
 }
 
-fn print_faults_of<R: Runtime + AllocGlobal>(
-    rt: &R,
-    config: &Config,
-    script: &[u8],
-) -> io::Result<()> {
-    for line in &bad_lines(rt.alloc(), config, script)? {
+fn print_each(rt: &impl Runtime, lines: &[BadLine]) -> io::Result<()> {
+    for line in lines {
         println!(rt; "{line}")?;
     }
     Ok(())
@@ -82,15 +78,34 @@ fn print_over<R: Runtime + AllocGlobal>(rt: &R, config: &Config, path: &str) -> 
     Ok(())
 }
 
+// Prints what a script prints, whose name is its first line.
 fn print_script<R: Runtime + AllocGlobal>(rt: &R, config: &Config, script: &str) -> io::Result<()> {
-    let (name, lines) = script.split_once('\n').unwrap_or((script, ""));
+    match script.split_once('\n') {
+        Some((name, lines)) => print_named(rt, config, name, lines),
+        None => print_named(rt, config, script, ""),
+    }
+}
+
+fn print_named<R: Runtime + AllocGlobal>(
+    rt: &R,
+    config: &Config,
+    name: &str,
+    lines: &str,
+) -> io::Result<()> {
     match in_hexadecimal(rt.alloc(), lines) {
-        Ok(lines) => {
-            println!(rt; "== {name}")?;
-            print_replayed(rt, config, lines.as_str())
-        }
+        Ok(lines) => print_under(rt, config, name, lines.as_str()),
         Err(fault) => fault.print(rt, name),
     }
+}
+
+fn print_under<R: Runtime + AllocGlobal>(
+    rt: &R,
+    config: &Config,
+    name: &str,
+    lines: &str,
+) -> io::Result<()> {
+    println!(rt; "== {name}")?;
+    print_replayed(rt, config, lines)
 }
 
 /// Prints what a script prints over a new book.

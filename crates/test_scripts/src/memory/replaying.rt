@@ -1,22 +1,13 @@
 //! Replaying scripts.
 
-use super::{GROWTHS, PREPARE, PREPARE_BACK, differs, expect, lending};
+use super::{GROWTHS, Replayed, differs, expect};
 use ilp_accounts::Config;
 use ilp_io::{Pieces, Recording};
 use ilp_offline::{ReplayFault, replay};
-use std::alloc::{AllocError, Global};
+use std::alloc::Global;
 use std::io;
 use test_allocator::DenyingAllocator;
-
-// A Fulfill of 32 zero octets, without data.
-const FULFILL: &str = "0d21000000000000000000000000000000000000000000000000000000000000000000";
-
-// A Fulfill of 32 octets `01`, without data.
-const OTHER_FULFILL: &str =
-    "0d21010101010101010101010101010101010101010101010101010101010101010100";
-
-// A Reject of the code F99, without triggeredBy, message and data.
-const REJECT: &str = "0e06463939000000";
+use test_row_texts::{RowFault, in_hexadecimal, push_repeated};
 
 // The size of the pieces that a script is read in.
 const PIECE: usize = 50;
@@ -25,43 +16,39 @@ const PIECE: usize = 50;
 const MAX_SCRIPT: usize = 1_048_576;
 
 // A line of each form, and of each reply. The holds' deadline is 29 seconds after the first moment.
-fn each_form(alloc: Global) -> Result<String, AllocError> {
-    format!(in alloc;
-        "# each form\n\
-         \n\
-         hold 1735689600000 alice {PREPARE}\n\
-         answer 1735689600500 0 {FULFILL}\n\
-         hold 1735689600500 bob {PREPARE_BACK}\n\
-         answer 1735689600500 2 {REJECT}\n\
-         hold 1735689601000 alice {PREPARE}\n\
-         answer 1735689601000 4 none\n\
-         hold 1735689601000 alice {PREPARE}\n\
-         answer 1735689601000 6 {OTHER_FULFILL}\n\
-         answer 1735689601000 6 {FULFILL}\n\
-         answer 1735689601000 9 none\n\
-         hold 1735689601000 alice 0c\n\
-         hold 1735689601000 alice 0\n\
-         expire\n\
-         hold 1735689601000 alice {PREPARE}\n\
-         answer 1735689629000 8 {FULFILL}\n\
-         hold 1735689629000 alice {PREPARE}\n\
-         expire 1735689629000\n\
-         hold 1735689630000 alice {PREPARE}\n\
-         credit 1735689630000 bob k-1 {{\"amount\":\"1000\",\"scale\":2}}\n\
-         credit 1735689630000 bob k-1 {{\"scale\":2,\"amount\":1000}}\n\
-         credit 1735689630000 bob k-1 {{\"amount\":\"10\",\"scale\":0}}\n\
-         credit 1735689630000 bob k-2 5\n\
-         ask 1735689630000 bob\n\
-         ask 1735689630000 bob\n\
-         ask 1735689630000 alice\n\
-         close 1735689630000 11 no\n\
-         close 1735689630000 11 yes\n\
-         close 1735689630000 0 yes\n\
-         ask 1735689630000 bob\n\
-         close 1735689630000 13 yes\n\
-         report"
-    )
-}
+const EACH_FORM: &str = "# each form\n\
+    \n\
+    hold 1735689600000 alice {prepare 100 test.bob}\n\
+    answer 1735689600500 0 {fulfill zeros}\n\
+    hold 1735689600500 bob {prepare 100 test.alice}\n\
+    answer 1735689600500 2 {reject F99}\n\
+    hold 1735689601000 alice {prepare 100 test.bob}\n\
+    answer 1735689601000 4 none\n\
+    hold 1735689601000 alice {prepare 100 test.bob}\n\
+    answer 1735689601000 6 {fulfill ones}\n\
+    answer 1735689601000 6 {fulfill zeros}\n\
+    answer 1735689601000 9 none\n\
+    hold 1735689601000 alice 0c\n\
+    hold 1735689601000 alice 0\n\
+    expire\n\
+    hold 1735689601000 alice {prepare 100 test.bob}\n\
+    answer 1735689629000 8 {fulfill zeros}\n\
+    hold 1735689629000 alice {prepare 100 test.bob}\n\
+    expire 1735689629000\n\
+    hold 1735689630000 alice {prepare 100 test.bob}\n\
+    credit 1735689630000 bob k-1 {\"amount\":\"1000\",\"scale\":2}\n\
+    credit 1735689630000 bob k-1 {\"scale\":2,\"amount\":1000}\n\
+    credit 1735689630000 bob k-1 {\"amount\":\"10\",\"scale\":0}\n\
+    credit 1735689630000 bob k-2 5\n\
+    ask 1735689630000 bob\n\
+    ask 1735689630000 bob\n\
+    ask 1735689630000 alice\n\
+    close 1735689630000 11 no\n\
+    close 1735689630000 11 yes\n\
+    close 1735689630000 0 yes\n\
+    ask 1735689630000 bob\n\
+    close 1735689630000 13 yes\n\
+    report";
 
 // What these lines print.
 const EACH_TEXT: &str = "held 0 to bob out 100\n\
@@ -106,8 +93,53 @@ const EACH_TEXT: &str = "held 0 to bob out 100\n\
     entries                                                   15\n\
     fulfilled                                                  1\n";
 
-// The report of twenty holds of 100 by alice, all of them fulfilled.
-const FULL_REPORT: &str = "balance   alice                                        -2000\n\
+// Twenty holds of 100 by alice, and the Fulfills of all of them.
+const HOLDS: &str = "20 hold 1735689600000 alice {prepare 100 test.bob}\\n";
+
+const FULFILLS: &str = "20 answer 1735689600000 # {fulfill zeros}\\n";
+
+// What these lines and a report print.
+const FULL_TEXT: &str = "held 0 to bob out 100\n\
+    held 1 to bob out 100\n\
+    held 2 to bob out 100\n\
+    held 3 to bob out 100\n\
+    held 4 to bob out 100\n\
+    held 5 to bob out 100\n\
+    held 6 to bob out 100\n\
+    held 7 to bob out 100\n\
+    held 8 to bob out 100\n\
+    held 9 to bob out 100\n\
+    held 10 to bob out 100\n\
+    held 11 to bob out 100\n\
+    held 12 to bob out 100\n\
+    held 13 to bob out 100\n\
+    held 14 to bob out 100\n\
+    held 15 to bob out 100\n\
+    held 16 to bob out 100\n\
+    held 17 to bob out 100\n\
+    held 18 to bob out 100\n\
+    held 19 to bob out 100\n\
+    entry 20 fulfilled 0\n\
+    entry 21 fulfilled 1\n\
+    entry 22 fulfilled 2\n\
+    entry 23 fulfilled 3\n\
+    entry 24 fulfilled 4\n\
+    entry 25 fulfilled 5\n\
+    entry 26 fulfilled 6\n\
+    entry 27 fulfilled 7\n\
+    entry 28 fulfilled 8\n\
+    entry 29 fulfilled 9\n\
+    entry 30 fulfilled 10\n\
+    entry 31 fulfilled 11\n\
+    entry 32 fulfilled 12\n\
+    entry 33 fulfilled 13\n\
+    entry 34 fulfilled 14\n\
+    entry 35 fulfilled 15\n\
+    entry 36 fulfilled 16\n\
+    entry 37 fulfilled 17\n\
+    entry 38 fulfilled 18\n\
+    entry 39 fulfilled 19\n\
+    balance   alice                                        -2000\n\
     balance   bob                                           2000\n\
     open      alice                                            0\n\
     open      bob                                              0\n\
@@ -120,180 +152,146 @@ const FULL_REPORT: &str = "balance   alice                                      
     fulfilled                                                 20\n";
 
 /// Replays scripts with each growth denied in turn.
-pub(super) fn replay_each_script(alloc: Global) -> io::Result<()> {
-    lines_of_each_form(alloc)?;
-    a_journal_that_fills(alloc)?;
-    into_a_sink_that_is_denied_memory(alloc)?;
-    up_to_a_read_that_fails(alloc)?;
-    a_script_that_is_too_long(alloc)
+pub(super) fn replay_each_script(alloc: Global, config: &Config) -> io::Result<()> {
+    lines_of_each_form(alloc, config)?;
+    a_journal_that_fills(alloc, config)?;
+    a_script_that_is_too_long(alloc, config)
 }
 
-fn lines_of_each_form(alloc: Global) -> io::Result<()> {
-    let script = each_form(alloc)?;
-    replay_each(alloc, script.as_str(), EACH_TEXT)
-}
-
-fn a_journal_that_fills(alloc: Global) -> io::Result<()> {
-    let mut script = String::new(alloc);
-    let mut text = String::new(alloc);
-    for number in 0..20u32 {
-        writeln!(script, "hold 1735689600000 alice {PREPARE}")?;
-        writeln!(text, "held {number} to bob out 100")?;
+fn lines_of_each_form(alloc: Global, config: &Config) -> io::Result<()> {
+    match in_hexadecimal(alloc, EACH_FORM) {
+        Ok(script) => each_form(alloc, config, script.as_str()),
+        Err(_) => Err(differs()),
     }
-    for number in 0..20u32 {
-        let entry = number + 20;
-        writeln!(script, "answer 1735689600000 {number} {FULFILL}")?;
-        writeln!(text, "entry {entry} fulfilled {number}")?;
-    }
-    writeln!(script, "report")?;
-    text.push_str(FULL_REPORT)?;
-    replay_each(alloc, script.as_str(), text.as_str())
 }
 
-// A replay of which one growth is denied: how it ended, and what became of reader and writer.
-#[derive(Drop)]
+fn each_form(alloc: Global, config: &Config, script: &str) -> io::Result<()> {
+    writes_a_front(alloc, config, script, EACH_TEXT)?;
+    fills_a_sink(alloc, config, script)?;
+    stops_at_a_read(alloc, config, script)
+}
+
+fn a_journal_that_fills(alloc: Global, config: &Config) -> io::Result<()> {
+    match twenty_payments(alloc) {
+        Ok(script) => writes_a_front(alloc, config, script.as_str(), FULL_TEXT),
+        Err(_) => Err(differs()),
+    }
+}
+
+fn twenty_payments(alloc: Global) -> Result<String, RowFault> {
+    let mut lines = String::new(alloc);
+    push_repeated(alloc, &mut lines, HOLDS)?;
+    push_repeated(alloc, &mut lines, FULFILLS)?;
+    lines.push_str("report")?;
+    in_hexadecimal(alloc, lines.as_str())
+}
+
+fn a_script_that_is_too_long(alloc: Global, config: &Config) -> io::Result<()> {
+    let script = vec![in alloc; b'x'; MAX_SCRIPT + 1]?;
+    is_not_run(alloc, config, &script)
+}
+
+// A replay of which one growth is denied: whether that was made, and what became of the replay and its reader.
+#[derive(Clone, Copy)]
 struct Attempt {
-    // Whether the growth was made, and so denied.
     is_denied: bool,
-    outcome: Result<(), ReplayFault>,
-    written: Vec<u8>,
+    replayed: Replayed,
     failed_reads: u64,
-    failed_writes: u64,
 }
 
-// Replays what a reader has. The growth behind as many as are granted is denied.
-fn attempt_replay(alloc: Global, config: &Config, mut reader: Pieces<'_>, granted: u64) -> Attempt {
+// Replays what a reader has, which is to print a text. The growth behind as many as are granted is denied.
+fn attempt_replay(
+    alloc: Global,
+    config: &Config,
+    mut reader: Pieces<'_>,
+    text: &str,
+    granted: u64,
+) -> Attempt {
     let heap = DenyingAllocator::after(alloc, granted);
     let mut writer = Recording::new(alloc);
     let outcome = replay(&heap, config, &mut reader, &mut writer);
-    let Recording {
-        octets: written,
-        failures: failed_writes,
-    } = writer;
     Attempt {
         is_denied: heap.has_denied(),
-        outcome,
-        written,
+        replayed: Replayed::of(outcome, &writer, text),
         failed_reads: reader.failures,
-        failed_writes,
     }
 }
 
-// Replays with each growth denied in turn. What is written until then is a front of the text,
-// of whole lines, and no shorter than where an earlier growth was denied.
-fn replay_each(alloc: Global, script: &str, text: &str) -> io::Result<()> {
-    let config = lending(alloc)?;
-    replay_over_each(alloc, &config, script, text)
-}
-
-fn replay_over_each(alloc: Global, config: &Config, script: &str, text: &str) -> io::Result<()> {
+// What is written until a growth is denied is a front of the text, of whole lines, and no shorter than where
+// an earlier growth was denied.
+fn writes_a_front(alloc: Global, config: &Config, script: &str, text: &str) -> io::Result<()> {
     let mut before = 0;
     for granted in 0..GROWTHS {
         let reader = Pieces::new(script.as_bytes(), PIECE);
-        let attempt = attempt_replay(alloc, config, reader, granted);
+        let attempt = attempt_replay(alloc, config, reader, text, granted);
+        expect(attempt.failed_reads == 0)?;
         if !attempt.is_denied {
-            expect(granted > 1)?;
-            return whole(&attempt, text);
+            return expect(granted > 1 && attempt.replayed == Replayed::whole(text));
         }
-        expect(before <= attempt.written.len())?;
-        denied(&attempt, text)?;
-        before = attempt.written.len();
+        let written = lines_written(&attempt.replayed, text);
+        expect(before <= written && written < text.len())?;
+        expect(attempt.replayed == Replayed::stopped(ReplayFault::Memory, written))?;
+        before = written;
     }
     Err(differs())
 }
 
-// A replay of which no growth was denied writes the text.
-fn whole(attempt: &Attempt, text: &str) -> io::Result<()> {
-    expect(attempt.outcome == Ok(()))?;
-    expect(attempt.written.as_slice() == text.as_bytes())?;
-    expect((attempt.failed_reads, attempt.failed_writes) == (0, 0))
+// How many octets of a text were written, if they are whole lines.
+fn lines_written(replayed: &Replayed, text: &str) -> usize {
+    let written = replayed.written.unwrap_or(0);
+    match text.get(..written) {
+        Some(lines) if lines.is_empty() || lines.ends_with('\n') => written,
+        _ => 0,
+    }
 }
 
-// One of which a growth was denied writes a front of it.
-fn denied(attempt: &Attempt, text: &str) -> io::Result<()> {
-    let written = attempt.written.as_slice();
-    expect(attempt.outcome == Err(ReplayFault::Memory))?;
-    expect((attempt.failed_reads, attempt.failed_writes) == (0, 0))?;
-    expect(text.as_bytes().starts_with(written))?;
-    expect(written.len() < text.len())?;
-    expect(written.is_empty() || written.ends_with(b"\n"))
+// Replays lines of each form into a sink of the same memory. The growth behind as many as are granted is denied.
+fn attempt_sink(alloc: Global, config: &Config, script: &str, granted: u64) -> Attempt {
+    let heap = DenyingAllocator::after(alloc, granted);
+    let mut reader = Pieces::new(script.as_bytes(), PIECE);
+    let mut writer = Recording::new(&heap);
+    let outcome = replay(&heap, config, &mut reader, &mut writer);
+    Attempt {
+        is_denied: heap.has_denied(),
+        replayed: Replayed::of(outcome, &writer, EACH_TEXT),
+        failed_reads: reader.failures,
+    }
 }
 
-fn into_a_sink_that_is_denied_memory(alloc: Global) -> io::Result<()> {
-    let script = each_form(alloc)?;
-    let config = lending(alloc)?;
-    sink_over_each(alloc, &config, script.as_str())
-}
-
-fn sink_over_each(alloc: Global, config: &Config, script: &str) -> io::Result<()> {
+// Into such a sink the whole text is written, or a front of it where memory was denied to the replay or to a
+// write, as it is to some.
+fn fills_a_sink(alloc: Global, config: &Config, script: &str) -> io::Result<()> {
     let mut failed_writes = 0u64;
     for granted in 0..GROWTHS {
-        let sunk = attempt_sink(alloc, config, script, granted)?;
-        expect(sunk.is_stopped == sunk.is_denied)?;
-        if !sunk.is_denied {
+        let attempt = attempt_sink(alloc, config, script, granted);
+        expect(attempt.is_denied == attempt.replayed.outcome.is_err())?;
+        expect(is_filled(&attempt.replayed))?;
+        if !attempt.is_denied {
             return expect(failed_writes > 1);
         }
-        failed_writes = failed_writes.saturating_add(sunk.failed_writes);
+        failed_writes = failed_writes.saturating_add(attempt.replayed.failed_writes);
     }
     Err(differs())
 }
 
-// A replay into a sink of the same memory, of which one growth is denied: whether that was made, whether
-// the replay stopped, and how many writes failed.
-#[derive(Clone, Copy)]
-struct Sunk {
-    is_denied: bool,
-    is_stopped: bool,
-    failed_writes: u64,
-}
-
-// Replays into such a sink. The growth behind as many as are granted is denied.
-fn attempt_sink(alloc: Global, config: &Config, script: &str, granted: u64) -> io::Result<Sunk> {
-    let heap = DenyingAllocator::after(alloc, granted);
-    let failed = into_sink(&heap, config, script)?;
-    Ok(Sunk {
-        is_denied: heap.has_denied(),
-        is_stopped: failed.is_some(),
-        failed_writes: failed.unwrap_or(0),
-    })
-}
-
-// Replays into a sink of the same memory. It writes the whole text, or a front of it and tells how many
-// writes failed.
-fn into_sink(
-    heap: &DenyingAllocator<Global>,
-    config: &Config,
-    script: &str,
-) -> io::Result<Option<u64>> {
-    let mut reader = Pieces::new(script.as_bytes(), PIECE);
-    let mut writer = Recording::new(heap);
-    let outcome = replay(heap, config, &mut reader, &mut writer);
-    let written = writer.octets.as_slice();
-    let failures = writer.failures;
-    expect(EACH_TEXT.as_bytes().starts_with(written))?;
-    expect(outcome.is_ok() == (written.len() == EACH_TEXT.len()))?;
-    match outcome {
-        Ok(()) => Ok(None),
+// Whether a sink has as much of the text as the replay's outcome says.
+fn is_filled(replayed: &Replayed) -> bool {
+    let written = replayed.written.unwrap_or(0);
+    match replayed.outcome {
+        Ok(()) => *replayed == Replayed::whole(EACH_TEXT),
         Err(fault) => {
-            let is_write = fault == ReplayFault::WriteFault;
-            expect(is_write || fault == ReplayFault::Memory)?;
-            expect(failures == u64::from(is_write))?;
-            Ok(Some(failures))
+            let is_known = fault == ReplayFault::Memory || fault == ReplayFault::WriteFault;
+            is_known && written < EACH_TEXT.len() && *replayed == Replayed::stopped(fault, written)
         }
     }
 }
 
-fn up_to_a_read_that_fails(alloc: Global) -> io::Result<()> {
-    let script = each_form(alloc)?;
-    let config = lending(alloc)?;
-    fail_over_each(alloc, &config, script.as_str())
-}
-
-fn fail_over_each(alloc: Global, config: &Config, script: &str) -> io::Result<()> {
+// Nothing is written up to a read that fails.
+fn stops_at_a_read(alloc: Global, config: &Config, script: &str) -> io::Result<()> {
     for granted in 0..GROWTHS {
         let reader = Pieces::failing(script.as_bytes(), PIECE, script.len());
-        let attempt = attempt_replay(alloc, config, reader, granted);
-        unwritten(&attempt, ReplayFault::ReadFault)?;
+        let attempt = attempt_replay(alloc, config, reader, "", granted);
+        expect(is_unwritten(&attempt, ReplayFault::ReadFault))?;
         expect(attempt.failed_reads == u64::from(!attempt.is_denied))?;
         if !attempt.is_denied {
             return expect(granted > 1);
@@ -302,32 +300,22 @@ fn fail_over_each(alloc: Global, config: &Config, script: &str) -> io::Result<()
     Err(differs())
 }
 
-// Nothing is written by a replay that is denied memory, or else stopped by this.
-fn unwritten(attempt: &Attempt, fault: ReplayFault) -> io::Result<()> {
+// Whether nothing was written by a replay that was denied memory, or else stopped by this.
+fn is_unwritten(attempt: &Attempt, fault: ReplayFault) -> bool {
     let fault = if attempt.is_denied {
         ReplayFault::Memory
     } else {
         fault
     };
-    expect(attempt.outcome == Err(fault))?;
-    expect(attempt.written.is_empty())
+    attempt.replayed == Replayed::stopped(fault, 0)
 }
 
-fn a_script_that_is_too_long(alloc: Global) -> io::Result<()> {
-    let script = vec![in alloc; b'x'; MAX_SCRIPT + 1]?;
-    stop_each(alloc, &script)
-}
-
-fn stop_each(alloc: Global, script: &[u8]) -> io::Result<()> {
-    let config = lending(alloc)?;
-    stop_over_each(alloc, &config, script)
-}
-
-fn stop_over_each(alloc: Global, config: &Config, script: &[u8]) -> io::Result<()> {
+// Nothing is written of a script that is too long.
+fn is_not_run(alloc: Global, config: &Config, script: &[u8]) -> io::Result<()> {
     for granted in 0..GROWTHS {
         let reader = Pieces::new(script, 65_536);
-        let attempt = attempt_replay(alloc, config, reader, granted);
-        unwritten(&attempt, ReplayFault::ScriptTooLong)?;
+        let attempt = attempt_replay(alloc, config, reader, "", granted);
+        expect(is_unwritten(&attempt, ReplayFault::ScriptTooLong))?;
         if !attempt.is_denied {
             return expect(granted > 1);
         }

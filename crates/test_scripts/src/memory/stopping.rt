@@ -1,6 +1,6 @@
 //! Replays whose reading or writing is cut short, and the greatest length of a script.
 
-use super::{built_in, expect};
+use super::{Replayed, expect};
 use ilp_accounts::Config;
 use ilp_io::{Counting, Narrow, Pieces, Recording, Source, WhenFull};
 use ilp_offline::{ReplayFault, replay};
@@ -31,19 +31,49 @@ entries                                                    2
 fulfilled                                                  1
 ";
 
-// A replay that a reader or a writer may stop: how it ended, what was written, and how many writes failed.
-#[derive(Drop)]
-struct Replayed {
-    outcome: Result<(), ReplayFault>,
-    written: Vec<u8>,
-    failed_writes: u64,
+/// Replays a script up to a read or a write that fails, and scripts up to the greatest length.
+pub(super) fn stop_each_replay(alloc: Global, config: &Config) -> io::Result<()> {
+    stops_where_a_read_fails(alloc, config)?;
+    stops_where_a_write_fails(alloc, config, WhenFull::TakesNone)?;
+    stops_where_a_write_fails(alloc, config, WhenFull::Fails)?;
+    reads_once_for_each_octet_and_the_end(alloc, config)?;
+    reads_the_whole_at_once(alloc, config)?;
+    is_read(alloc, config, 1_048_576, Replayed::whole(""))?;
+    is_read(
+        alloc,
+        config,
+        1_048_577,
+        Replayed::stopped(ReplayFault::ScriptTooLong, 0),
+    )
 }
 
-// Replays what a reader has, into a writer with room for all.
-fn replay_from(alloc: Global, config: &Config, reader: &mut impl Source) -> Replayed {
+// Replays what a reader has, which is to print a text, into a writer with room for all.
+fn replay_from(alloc: Global, config: &Config, reader: &mut impl Source, text: &str) -> Replayed {
     let mut writer = Recording::new(alloc);
     let outcome = replay(alloc, config, reader, &mut writer);
-    Replayed::of(outcome, writer)
+    Replayed::of(outcome, &writer, text)
+}
+
+fn stops_where_a_read_fails(alloc: Global, config: &Config) -> io::Result<()> {
+    for place in 0..SCRIPT.len() {
+        let mut reader = Pieces::failing(SCRIPT.as_bytes(), 50, place);
+        let replayed = replay_from(alloc, config, &mut reader, TEXT);
+        expect(reader.failures == 1)?;
+        expect(replayed == Replayed::stopped(ReplayFault::ReadFault, 0))?;
+    }
+    Ok(())
+}
+
+fn stops_where_a_write_fails(
+    alloc: Global,
+    config: &Config,
+    when_full: WhenFull,
+) -> io::Result<()> {
+    for room in 0..TEXT.len() {
+        let replayed = replay_into(alloc, config, room, when_full);
+        expect(replayed == Replayed::stopped(ReplayFault::WriteFault, room))?;
+    }
+    Ok(())
 }
 
 // Replays the script into a writer with so much room.
@@ -51,99 +81,24 @@ fn replay_into(alloc: Global, config: &Config, room: usize, when_full: WhenFull)
     let mut reader = SCRIPT.as_bytes();
     let mut writer = Narrow::new(alloc, 7, room, when_full);
     let outcome = replay(alloc, config, &mut reader, &mut writer);
-    Replayed::of(outcome, writer.recording)
+    Replayed::of(outcome, &writer.recording, TEXT)
 }
 
-impl Replayed {
-    fn of(outcome: Result<(), ReplayFault>, recording: Recording) -> Replayed {
-        let Recording {
-            octets: written,
-            failures: failed_writes,
-        } = recording;
-        Replayed {
-            outcome,
-            written,
-            failed_writes,
-        }
-    }
-}
-
-/// Replays a script up to a read or a write that fails, and scripts up to the greatest length.
-pub(super) fn stop_each_replay(alloc: Global) -> io::Result<()> {
-    stops_where_a_read_fails(alloc)?;
-    stops_where_a_write_takes_nothing(alloc)?;
-    reads_once_for_each_octet_and_the_end(alloc)?;
-    takes_scripts_up_to_their_limit(alloc)
-}
-
-fn stops_where_a_read_fails(alloc: Global) -> io::Result<()> {
-    let config = built_in(alloc)?;
-    for place in 0..SCRIPT.len() {
-        stops_at(alloc, &config, place)?;
-    }
-    Ok(())
-}
-
-// A replay of which the read at a place fails.
-fn stops_at(alloc: Global, config: &Config, place: usize) -> io::Result<()> {
-    let mut reader = Pieces::failing(SCRIPT.as_bytes(), 50, place);
-    let replayed = replay_from(alloc, config, &mut reader);
-    expect(replayed.outcome == Err(ReplayFault::ReadFault))?;
-    expect(reader.failures == 1)?;
-    expect(replayed.written.is_empty())
-}
-
-fn stops_where_a_write_takes_nothing(alloc: Global) -> io::Result<()> {
-    let config = built_in(alloc)?;
-    for when_full in [WhenFull::TakesNone, WhenFull::Fails] {
-        for room in 0..TEXT.len() {
-            is_full(alloc, &config, room, when_full)?;
-        }
-    }
-    Ok(())
-}
-
-// A replay into a writer with too little room.
-fn is_full(alloc: Global, config: &Config, room: usize, when_full: WhenFull) -> io::Result<()> {
-    let replayed = replay_into(alloc, config, room, when_full);
-    expect(replayed.outcome == Err(ReplayFault::WriteFault))?;
-    expect(replayed.failed_writes == 1)?;
-    expect(replayed.written.len() == room)?;
-    expect(TEXT.as_bytes().starts_with(&replayed.written))
-}
-
-fn reads_once_for_each_octet_and_the_end(alloc: Global) -> io::Result<()> {
-    let config = built_in(alloc)?;
+fn reads_once_for_each_octet_and_the_end(alloc: Global, config: &Config) -> io::Result<()> {
     let mut reader = Pieces::new(SCRIPT.as_bytes(), 1);
-    is_whole(&replay_from(alloc, &config, &mut reader))?;
-    expect(reader.reads == SCRIPT.len() as u64 + 1)?;
+    let replayed = replay_from(alloc, config, &mut reader, TEXT);
+    expect(reader.reads == SCRIPT.len() as u64 + 1 && replayed == Replayed::whole(TEXT))
+}
+
+fn reads_the_whole_at_once(alloc: Global, config: &Config) -> io::Result<()> {
     let mut reader = Counting::new(SCRIPT.as_bytes());
-    is_whole(&replay_from(alloc, &config, &mut reader))?;
-    expect(reader.reads == 2)
+    let replayed = replay_from(alloc, config, &mut reader, TEXT);
+    expect(reader.reads == 2 && replayed == Replayed::whole(TEXT))
 }
 
-// A replay that nothing stopped.
-fn is_whole(replayed: &Replayed) -> io::Result<()> {
-    expect(replayed.outcome == Ok(()))?;
-    expect(replayed.written.as_slice() == TEXT.as_bytes())
-}
-
-fn takes_scripts_up_to_their_limit(alloc: Global) -> io::Result<()> {
-    let config = built_in(alloc)?;
-    is_read(alloc, &config, 1_048_576, Ok(()))?;
-    is_read(alloc, &config, 1_048_577, Err(ReplayFault::ScriptTooLong))
-}
-
-// A replay of a comment of so many octets.
-fn is_read(
-    alloc: Global,
-    config: &Config,
-    len: usize,
-    outcome: Result<(), ReplayFault>,
-) -> io::Result<()> {
+// A comment of so many octets.
+fn is_read(alloc: Global, config: &Config, len: usize, replayed: Replayed) -> io::Result<()> {
     let script = vec![in alloc; b'#'; len]?;
     let mut reader = Pieces::new(&script, 4096);
-    let replayed = replay_from(alloc, config, &mut reader);
-    expect(replayed.outcome == outcome)?;
-    expect(replayed.written.is_empty())
+    expect(replay_from(alloc, config, &mut reader, "") == replayed)
 }

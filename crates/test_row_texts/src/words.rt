@@ -2,12 +2,12 @@
 ghost use Rattle.std.specs.Prelude.{IfOk};
 ghost use Rattle.ilp_terms.specs.Expiry.{IsMoment};
 
+use crate::fault::RowFault;
 use ilp_oer::Octets;
 use ilp_packet::{
     Fulfill, Prepare, Reject, is_address, write_fulfill, write_prepare, write_reject,
 };
 use std::alloc::Global;
-use test_row_texts::RowFault;
 
 // The SHA-256 digest of 32 zero octets (by Python's hashlib).
 const CONDITION: [u8; 32] = [
@@ -29,7 +29,7 @@ const LAST_MOMENT: i64 = 253_402_300_799_999;
 /// data, whose condition is the digest of 32 zero octets. `{fulfill zeros}` and `{fulfill ones}`
 /// are Fulfills of 32 octets `00` and `01`, and `{reject CODE}` is a Reject of which all else is
 /// empty. A brace before other words stands for itself.
-pub(crate) fn in_hexadecimal(alloc: Global, text: &str) -> Result<String, RowFault> {
+pub fn in_hexadecimal(alloc: Global, text: &str) -> Result<String, RowFault> {
     let mut written = String::new(alloc);
     for (place, part) in text.split("{").enumerate() {
         if place == 0 {
