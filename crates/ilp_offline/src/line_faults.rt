@@ -12,7 +12,7 @@ use std::alloc::{AllocError, Allocator};
 use std::fmt;
 
 /// What a line of a script may ask for.
-#[derive(Clone, Copy)]
+#[derive(Clone, Copy, Debug)]
 pub enum Command {
     Hold,
     Answer,
@@ -55,7 +55,7 @@ impl fmt::Display for Command {
 }
 
 /// A field of a line, by its name in the line's form.
-#[derive(Clone, Copy)]
+#[derive(Clone, Copy, Debug)]
 pub enum Part {
     At,
     Peer,
@@ -80,7 +80,7 @@ impl fmt::Display for Part {
 }
 
 /// Why a line is bad.
-#[derive(Clone, Copy)]
+#[derive(Clone, Copy, Debug)]
 pub enum LineFault {
     /// It has an octet that is neither a space nor visible ASCII, as a tab or a CR is.
     Unprintable,
@@ -111,7 +111,7 @@ impl fmt::Display for LineFault {
 }
 
 /// A line of a script that is bad.
-#[derive(Clone, Copy)]
+#[derive(Clone, Copy, Debug)]
 pub struct BadLine {
     /// Its number, counted from 1.
     pub number: u64,
