@@ -1,6 +1,8 @@
 -- A Fulfill is told behind its entry.
 use Rattle.std.proofs.Common.{◌≡◌, ℕ, zero, suc, ℤ, Bool, true, false, List, [], ◌∷◌, ◌++◌, length, Option, Some, None, option_and_then, slice_get, inl, inr, refl, sym, ap, ◌∙◌, subst, arith}
-use Rattle.std.specs.Prelude.{Result, Ok, Err, if◌then◌else◌}
+use Rattle.std.specs.Prelude.{Result, Ok, Err, is_some, if◌then◌else◌}
+use mathlib.Core.List.{IsPrefix}
+use Rattle.ilp_order.proofs.Sums.{slice_get-append}
 use Rattle.ilp_terms.specs.Condition.{meets}
 use Rattle.ilp_packet.specs.declared.fault.PacketFault.{PacketFault}
 use Rattle.ilp_packet.specs.Packet.{PlainPacket, prepare, fulfill, reject}
@@ -11,6 +13,7 @@ use Rattle.ilp_journal.specs.declared.entry.Cause.{Cause}
 use Rattle.ilp_journal.specs.declared.entry.Cause.TheVariants as cause
 use Rattle.ilp_journal.specs.declared.entry.Hold.{Hold}
 use Rattle.ilp_journal.specs.Journal.{Entries, open_hold_at, fulfilled}
+use Rattle.ilp_book.specs.declared.calls.Held.{Held}
 use Rattle.ilp_book.specs.declared.calls.PeerReply.{PeerReply}
 use Rattle.ilp_book.specs.declared.calls.PeerReply.TheVariants as peer_reply
 use Rattle.ilp_book.specs.declared.calls.Outcome.{Outcome}
@@ -19,19 +22,26 @@ use Rattle.ilp_book.specs.declared.fault.NotOpen.{NotOpen}
 use Rattle.ilp_book.specs.Book.{PlainBook, By, by, Does, entry_by, appended, with_entry, moment_at}
 use Rattle.ilp_book.specs.AnswerStep.{judged_reply, ending, outcome_of, answer_booked, answer_step}
 use Rattle.ilp_desk.specs.declared.record.HoldEnd.TheVariants.{Fulfilled, Released}
+use Rattle.ilp_desk.specs.declared.record.Record.{Record}
+use Rattle.ilp_desk.specs.Desk.{PlainDesk}
 use Rattle.ilp_desk.specs.Portion.{Portion}
 use Rattle.ilp_link_traits.specs.Links.{Tells}
+use Rattle.ilp_keeping.specs.declared.keeper.NotKept.{NotKept}
 use Rattle.ilp_keeping.specs.Keeping.{ToKeeper, keeping, kept}
 use Rattle.ilp_workers.specs.declared.rejects.LocalReject.TheVariants as local
-use Rattle.ilp_workers.specs.declared.rejects.ToldReject.{ToldReject}
 use Rattle.ilp_workers.specs.declared.rejects.ToldReject.TheVariants.{Own}
 use Rattle.ilp_workers.specs.declared.reply.Receipt.{Receipt}
 use Rattle.ilp_workers.specs.declared.reply_effect.Told.{Told}
 use Rattle.ilp_workers.specs.declared.reply_effect.Told.TheVariants.{Fulfill, Reject}
-use Rattle.ilp_workers.specs.Worker.{PlainWorker, seat_of}
-use Rattle.ilp_workers.specs.Forwarding.{Order, order, IsAnsweredAt, KeepsFirst, Ends, entry_of, end_of, reject_told, effect, effect_of, effect_of_packet, IsSent, IsForwardedBy}
+use Rattle.ilp_workers.specs.Worker.{PlainWorker, Seat, seat_of}
+use Rattle.ilp_workers.specs.Forwarding.{Order, order, IsAnsweredAt, IsEnded, KeepsFirst, Ends, entry_of, end_of, reject_told, effect, effect_of, effect_of_packet, IsSent, IsForwardedBy}
 use Rattle.ilp_workers.specs.Arrivals.{Arrival, IsForPeers, Forwards}
+use Rattle.ilp_workers.specs.Pending.{PlainPending, told_order}
+use Rattle.ilp_workers.specs.Booked.{PlainBooked}
+use Rattle.ilp_workers.specs.Halves.{IsBooked, IsHandedOn}
+use Rattle.ilp_workers.specs.Runs.{Step, IsRun}
 use Rattle.ilp_workers.specs.Outcome.{IsToldBehind}
+use Rattle.ilp_workers.proofs.Later.{run_goes_on}
 
 -- the entry of this number fulfills the hold
 abbrev Fulfills : Entries → ℕ → ℕ → Type 0
@@ -102,19 +112,39 @@ by_outcome : (out : Outcome) (answer : Option ℕ) → (end_of out).1 ≡ Fulfil
 by_outcome (outcome.Fulfilled entry) answer ended is = record { entry = entry; answers = sym is; replied = refl }
 by_outcome (outcome.Released entry c) answer ended is = absurd cc
 
-by_reply : (o : Order) (before after : PlainWorker) (hold : ℕ) (answer : Option ℕ) (rejected : Option ToldReject) (sent : IsSent o before after hold answer rejected) → sent.told ≡ Fulfill → IsByFulfill sent.ended.reply answer
-by_reply o before after hold answer rejected sent told = of sent.ended.reply sent.ended.ends sent.ended.entry_is
+by_reply : (o : Order) (held : Held) (came : Option (List ℕ)) (told : Told) (reply : Result Outcome NotOpen) (records records' : List Record) (answer : Option ℕ)
+    → Ends o held (effect_of o.packet.condition came) reply records records' told → entry_of reply ≡ answer → told ≡ Fulfill → IsByFulfill reply answer
+by_reply o held came told reply records records' answer ends_so entry_is fulfilled_is = of reply ends_so entry_is
   where
-    never : sent.told ≡ Reject (Own local.TransferTimedOut) → ⊥
-    never e = let two : Fulfill ≡ Reject (Own local.TransferTimedOut) = sym told ∙ e in absurd cc
+    never : told ≡ Reject (Own local.TransferTimedOut) → ⊥
+    never e = let two : Fulfill ≡ Reject (Own local.TransferTimedOut) = sym fulfilled_is ∙ e in absurd cc
 
-    of : (reply : Result Outcome NotOpen) → Ends o sent.held (effect_of o.packet.condition sent.came) reply sent.between.records sent.left.records sent.told → entry_of reply ≡ answer → IsByFulfill reply answer
+    of : (reply : Result Outcome NotOpen) → Ends o held (effect_of o.packet.condition came) reply records records' told → entry_of reply ≡ answer → IsByFulfill reply answer
     of (Err fault) ends is = absurd (never ends.0)
     of (Ok out) ends is =
         elim ends [
-          | inl counted ↦ by_outcome out answer (counted.0 ∙ fulfill_ends o.packet.condition sent.came (sym told ∙ counted.1.0)) is
+          | inl counted ↦ by_outcome out answer (counted.0 ∙ fulfill_ends o.packet.condition came (sym fulfilled_is ∙ counted.1.0)) is
           | inr over ↦ absurd (never over.1.0)
         ]
+
+-- so the journal that was left has the entry
+record IsLeftBehind (hold : ℕ) (answer : Option ℕ) (left : Entries) : Type 0 where
+  entry : ℕ
+  answers : answer ≡ Some entry
+  fulfills : Fulfills left entry hold
+
+left_behind : (o : Order) (held : Held) (came : Option (List ℕ)) (told : Told) (before left : Seat) (answer : Option ℕ)
+    → IsEnded o held (effect_of o.packet.condition came) before left told answer → told ≡ Fulfill → IsLeftBehind held.number answer left.seen
+left_behind o held came told before left answer ended fulfilled_is =
+    let c = effect_of o.packet.condition came in
+    let by_entry = by_reply o held came told ended.reply before.records left.records answer ended.ends ended.entry_is fulfilled_is in
+    let at : IsAnsweredAt o ended.later held.number c.answer before.seen left.seen before.share left.share (Ok (outcome.Fulfilled by_entry.entry)) =
+    subst (λ r. IsAnsweredAt o ended.later held.number c.answer before.seen left.seen before.share left.share r) by_entry.replied ended.booked in
+    record {
+      entry = by_entry.entry;
+      answers = by_entry.answers;
+      fulfills = session_fulfills o ended.later held.number c.answer before.seen left.seen before.share left.share by_entry.entry at;
+    }
 
 -- ---- what was told
 
@@ -132,22 +162,53 @@ sent_behind : (o : Order) (before after : PlainWorker) (receipt : Receipt) (hold
     → IsSent o before after hold receipt.answer receipt.rejected → receipt.rejected ≡ None → after.kept ≡ Some told → IsToldBehind told receipt
 sent_behind o before after receipt hold told holds sent unrejected tells =
     let fulfilled_is = is_fulfill sent.told (sym unrejected ∙ sent.named) in
-    let by_entry = by_reply o before after hold receipt.answer receipt.rejected sent fulfilled_is in
+    let there = left_behind o sent.held sent.came sent.told sent.between sent.left receipt.answer sent.ended fulfilled_is in
     let first : KeepsFirst Fulfill sent.left (seat_of after) = subst (λ t. KeepsFirst t sent.left (seat_of after)) fulfilled_is sent.kept_first in
     let handed : Tells sent.left.kept (kept (keeping sent.left.seen first.0)) (Some told) = subst (λ t. Tells sent.left.kept (kept (keeping sent.left.seen first.0)) t) tells first.1.handed.tells in
     let last = told_last sent.left.kept told (kept (keeping sent.left.seen first.0)) handed in
-    let at : IsAnsweredAt o sent.ended.later sent.held.number (effect_of o.packet.condition sent.came).answer sent.between.seen sent.left.seen sent.between.share sent.left.share (Ok (outcome.Fulfilled by_entry.entry)) =
-    subst (λ r. IsAnsweredAt o sent.ended.later sent.held.number (effect_of o.packet.condition sent.came).answer sent.between.seen sent.left.seen sent.between.share sent.left.share r) by_entry.replied sent.ended.booked in
     record {
       earlier = last.0;
       journal = sent.left.seen;
       said = first.0;
       last = last.1;
       hold = sent.held.number;
-      entry = by_entry.entry;
+      entry = there.entry;
       holds = holds ∙ ap Some (sym sent.number);
-      answers = by_entry.answers;
-      fulfills = session_fulfills o sent.ended.later sent.held.number (effect_of o.packet.condition sent.came).answer sent.between.seen sent.left.seen sent.between.share sent.left.share by_entry.entry at;
+      answers = there.answers;
+      fulfills = there.fulfills;
+    }
+
+-- ---- what was booked, and kept later
+
+-- there is an entry of a number that fulfills a hold
+stands : (o : Option Entry) (hold : ℕ) → option_and_then (λ (e : Entry). fulfilled e.what) o ≡ Some hold → is_some o ≡ true
+stands None hold e = absurd cc
+stands (Some x) hold e = refl
+
+-- a journal that goes on has it too
+fulfills_still : (j more : Entries) (entry hold : ℕ) → IsPrefix j more → Fulfills j entry hold → Fulfills more entry hold
+fulfills_still j more entry hold begins there =
+    let same = slice_get-append j begins.0 entry (stands (slice_get j entry) hold there) in
+    subst (λ (l : Entries). Fulfills l entry hold) begins.1 (ap (λ (o : Option Entry). option_and_then (λ (e : Entry). fulfilled e.what) o) same ∙ there)
+
+pub booked_behind : (desk : PlainDesk) (p : PlainPending) (came : Option (List ℕ)) (b : PlainBooked) (before left later after : PlainWorker) (steps : List Step) (said : Result (Unit {0}) NotKept) (told : List ToKeeper)
+    → IsBooked desk p came before left b → IsRun desk steps left later → IsHandedOn said later after → b.receipt.rejected ≡ None → after.kept ≡ Some told → IsToldBehind told b.receipt
+booked_behind desk p came b before left later after steps said told books run hands unrejected tells =
+    let fulfilled_is = is_fulfill books.told (sym unrejected ∙ books.named) in
+    let there = left_behind (told_order desk p.prepare) p.prepare.held came books.told (seat_of before) (seat_of left) b.receipt.answer books.ended fulfilled_is in
+    let asked = kept (keeping later.seen said) in
+    let handed : Tells later.kept asked (Some told) = subst (λ t. Tells later.kept asked t) tells hands.kept.handed.tells in
+    let last = told_last later.kept told asked handed in
+    record {
+      earlier = last.0;
+      journal = later.seen;
+      said = said;
+      last = last.1;
+      hold = p.prepare.held.number;
+      entry = there.entry;
+      holds = books.hold;
+      answers = there.answers;
+      fulfills = fulfills_still left.seen later.seen there.entry p.prepare.held.number (run_goes_on desk steps left later run) there.fulfills;
     }
 
 pub told_behind : (a : Arrival) (before after : PlainWorker) (receipt : Receipt) (told : List ToKeeper) → IsForPeers a → Forwards a before after (Ok receipt) → receipt.rejected ≡ None → after.kept ≡ Some told → IsToldBehind told receipt

@@ -5,7 +5,13 @@ pub mod Rows
 pub mod Worker
 pub mod Receipts
 pub mod Forwarding
+pub mod Pending
+pub mod Booked
+pub mod EngineMessage
 pub mod Crediting
 pub mod Messaging
+pub mod MessageHalves
 pub mod Arrivals
+pub mod Halves
 pub mod Outcome
+pub mod Runs

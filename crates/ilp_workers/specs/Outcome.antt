@@ -23,6 +23,7 @@ use Rattle.ilp_workers.specs.declared.rejects.ToldReject.TheVariants.{Own}
 use Rattle.ilp_workers.specs.Rejects.{local_reject, told_code}
 use Rattle.ilp_workers.specs.Worker.{PlainWorker}
 use Rattle.ilp_workers.specs.Forwarding.{order, record_of_end}
+use Rattle.ilp_workers.specs.Pending.{PlainPending, told_order}
 use Rattle.ilp_workers.specs.Arrivals.{Arrival}
 
 -- The sender is answered a Fulfill whose preimage meets the Prepare's condition. Two entries are booked, and the worker keeps one
@@ -45,6 +46,28 @@ pub record IsFulfilled (a : Arrival) (before after : PlainWorker) (receipt : Rec
 pub record IsRejected (before after : PlainWorker) (receipt : Receipt) : Type 0 where
   pub answer : PlainReject
   pub reply : Spells after.reply (reject answer)
+  pub told : ToldReject
+  pub named : receipt.rejected ≡ Some told
+  pub code : answer.code ≡ told_code told
+  pub records : packets after.records ≡ packets before.records
+
+-- The sender of a packet that waited is to be answered by these octets, a Fulfill whose preimage meets its condition. One entry is
+-- booked, and the worker keeps one more record, of this packet's hold, as fulfilled.
+pub record IsFulfilledEnd (desk : PlainDesk) (p : PlainPending) (before after : PlainWorker) (receipt : Receipt) (octets : List ℕ) : Type 0 where
+  pub entry : ℕ
+  pub answer : PlainFulfill
+  pub reply : Spells octets (fulfill answer)
+  pub met : meets p.prepare.condition answer.preimage ≡ true
+  pub holds : receipt.hold ≡ Some p.prepare.held.number
+  pub answers : receipt.answer ≡ Some entry
+  pub unrejected : receipt.rejected ≡ None
+  pub raised : after.share ≡ portion before.share.actor (before.share.entries + 1)
+  pub records : after.records ≡ before.records ++ record_of_end (told_order desk p.prepare) p.prepare.held Fulfilled entry ∷ []
+
+-- It is to be answered by these octets, a Reject, which the receipt names, and the worker keeps as many packets as before.
+pub record IsRejectedEnd (before after : PlainWorker) (receipt : Receipt) (octets : List ℕ) : Type 0 where
+  pub answer : PlainReject
+  pub reply : Spells octets (reject answer)
   pub told : ToldReject
   pub named : receipt.rejected ≡ Some told
   pub code : answer.code ≡ told_code told

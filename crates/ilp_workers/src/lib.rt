@@ -33,6 +33,23 @@
 //! - `standing_refusals_are_told`: too great an amount, no route or one back to the sender is
 //!   refused as that, or as T00 as above, whatever time and book.
 //!
+//! The halves of a forward (`specs/Halves.antt`, `specs/Runs.antt`):
+//!
+//! - `Worker::begin` refuses at once as `forward` does, or books the hold and hands back what waits:
+//!   the peer, the Prepare that it is to be handed, until when its reply counts, and what the other
+//!   half needs. Room for the record of each that waits, and for its Reject, is made then.
+//! - `Worker::finish` ends one that waits, of this worker, in any order: what came, or that nothing
+//!   did, is booked, the keeper is handed the journal before a Fulfill, and the sender's answer is
+//!   handed back. `halves_make_a_forward`: begun, handed on and finished is forwarded.
+//! - `finish` is `book`, then `keep` before a Fulfill, then `Booked::tell`. `keep` once serves all that
+//!   is booked by then: `tell` wants that the keeper was handed as many entries as the session of a
+//!   Fulfill left. `booked_fulfills_are_told_behind_their_entries`: so, whatever the worker did in
+//!   between, over a keeper that tells, the journal that it is asked to keep has the entry.
+//! - `booked_fulfills_are_kept`, `finished_fulfills_are_kept`: the sender is owed a Fulfill just where
+//!   the worker keeps one packet more, which is this one. `runs_keep_what_is_told`: over any number of
+//!   packets in any order it keeps as many more as Fulfills are owed.
+//! - `pending` counts what waits; each call says how it changes. `into_end` wants that nothing waits.
+//!
 //! `forward` of a Prepare to `peer.settle` (`specs/Messaging.antt`):
 //!
 //! - Nothing is booked, records stay, no peer and no keeper is asked, and the clock is asked once.
@@ -43,6 +60,10 @@
 //!   of 32 zero octets with the engine's as data, or T01 where it gave none or more than 32,767
 //!   octets.
 //!
+//! In halves (`specs/MessageHalves.antt`): `begin` refuses at once, or hands back the message with
+//! room for its answer; `EngineMessage::answer` makes the answer of what came, without a worker and
+//! without memory. `halves_make_a_message`: together they are the above.
+//!
 //! Other calls:
 //!
 //! - `Worker::message` books nothing, and asks no engine here and no keeper. `TooLong` comes just
@@ -52,6 +73,8 @@
 //!   that the clock's moment and the longest hold make.
 //! - `message` is Ok where a Fulfill of 32 zero octets came, which is `reply` then, `NoAnswer`
 //!   where none did. `message_answer` is the data of such a Fulfill in `reply`, or nothing.
+//! - `Worker::begin_message` is the first half of that: the packet that the peer is to be handed.
+//!   `peer_answer_in` reads what comes back.
 //! - `Worker::credit` (`specs/Crediting.antt`) first refuses what is too much at the scale of the
 //!   peer's balance; then it may refuse as for want of memory. Both leave all as it was.
 //! - `credit` else has a book of the desk credit it under its key at a moment of the clock. Share
@@ -68,7 +91,11 @@
 //!   law says how long one can be.
 #![tactic(auto)]
 
+mod booked;
 mod crediting;
+mod engine_message;
+mod halves;
+mod in_flight;
 pub mod laws;
 mod messaging;
 mod parts;
@@ -77,10 +104,13 @@ mod reply;
 mod reply_effect;
 mod worker;
 
+pub use booked::{Answer, Booked, HandedJournal};
 pub use crediting::NotCredited;
+pub use engine_message::{EngineMessage, PeerMessage};
 pub use ilp_keeping::{Forgetful, Keeper, NotKept};
 pub use ilp_link_traits::{Clock, EngineLink, EngineReply, LinkFault, Uplink};
-pub use messaging::MessageFault;
+pub use in_flight::{Begun, HeldPrepare, Pending};
+pub use messaging::{MessageFault, peer_answer_in};
 pub use rejects::{LocalReject, ToldReject};
 pub use reply::{BadPacket, Receipt};
 pub use worker::{NoWorker, Worker};

@@ -1,17 +1,21 @@
 //! Messages between settlement engines (RFC 0038): Prepares of amount 0 to `peer.settle`.
-ghost use Rattle.std.specs.Prelude.{◌≡◌, ◌≤◌, [], length, Some, option_map, is_some, OnOk, MatchBool};
+ghost use Rattle.std.specs.Prelude.{◌≡◌, ◌+◌, ◌≤◌, [], length, Some, None, Ok, option_map, is_some, IfOk, IfErr, OnOk, OnErr, MatchBool};
 ghost use Rattle.ilp_terms.specs.Expiry.{IsMoment};
-ghost use Rattle.ilp_packet.specs.Packet.{most_payload, plain_prepare, prepare, fulfill, Spells};
+ghost use Rattle.ilp_packet.specs.Packet.{most_payload, plain_prepare, prepare, fulfill, IsPrepare, Spells};
 ghost use Rattle.ilp_book.specs.Configured.{IsKnown};
 ghost use Rattle.ilp_link_traits.specs.Links.{came_of};
 ghost use Rattle.ilp_workers.specs.Worker.{worker, reply_of};
 ghost use Rattle.ilp_workers.specs.Forwarding.{within_years};
-ghost use Rattle.ilp_workers.specs.Messaging.{IsForEngine, message_refusal, engine_answer, answered_with, zero_fulfill, longest_fulfill, IsEngineAnswer, IsMessaged, message_expiry, message_prepare, peer_answer_of, kind_of_reply, Messages};
+ghost use Rattle.ilp_workers.specs.Messaging.{IsForEngine, message_refusal, engine_answer, answered_with, zero_fulfill, longest_fulfill, message_expiry, message_prepare, peer_answer_of, kind_of_reply, Messages};
+ghost use Rattle.ilp_workers.specs.Pending.{octets_of};
+ghost use Rattle.ilp_workers.specs.MessageHalves.{IsWhyRefused, IsEngineHanded, Addresses};
+ghost use Rattle.ilp_workers.specs.Halves.{IsAskedBy, waiting_more};
 
+use crate::engine_message::{EngineMessage, PeerMessage};
+use crate::in_flight::Begun;
 use crate::parts::{Parts, note_reply};
 use crate::rejects::{LocalReject, ToldReject};
-use crate::reply::Buffer;
-use crate::reply_effect::Told;
+use crate::reply::{Buffer, Receipt};
 use ilp_accounts::Config;
 use ilp_desk::Naming;
 use ilp_keeping::Keeper;
@@ -20,6 +24,7 @@ use ilp_oer::Octets;
 use ilp_packet::{Fulfill, Packet, Prepare, write_fulfill, write_prepare};
 use ilp_terms::LAST_OF_ALL;
 use std::alloc::{AllocError, Allocator};
+use std::mem;
 use thiserror::Error;
 
 // The most octets of a message, which is the data of a packet.
@@ -94,20 +99,46 @@ fn within_years(now: i64) -> i64
     now.min(LAST_OF_ALL).max(0)
 }
 
+// The data of a Prepare for the engine here, with room for the longest Fulfill, or the first refusal at
+// this time.
+fn message_octets<A: Allocator>(
+    alloc: A,
+    config: &Config,
+    from: u32,
+    packet: &Prepare<'_>,
+    now: i64,
+) -> Result<Octets<A>, LocalReject>
+    requires known { IsKnown config.now from }
+    requires packet { IsPrepare (plain_prepare packet.now) }
+    ensures passes { OnOk result
+        (message_refusal config.now from now (plain_prepare packet.now) ≡ None) }
+    ensures octets { IfOk result (λ octets. octets.octets ≡ packet.now.payload.now) }
+    ensures room { IfOk result (λ octets. longest_fulfill ≤ length octets.octets + octets.spare) }
+    ensures err { IfErr result (λ why. IsWhyRefused
+        (message_refusal config.now from now (plain_prepare packet.now)) why) }
+{
+    if let Some(why) = message_refusal(config, from, packet, now) {
+        return Err(why);
+    }
+    let mut octets = Octets::new(alloc);
+    let Ok(()) = octets.reserve(LONGEST_FULFILL) else {
+        return Err(LocalReject::InternalError);
+    };
+    octets.append_reserved(packet.payload);
+    Ok(octets)
+}
+
 // Writes the Fulfill of what an engine answered, into room that is there for the longest.
-fn put_answer<A: Allocator>(
+pub(crate) fn put_answer<A: Allocator>(
     out: &mut Octets<A>,
-    came: Result<(), LinkFault>,
     answer: &[u8],
 ) -> Result<(), LocalReject>
     requires cleared { out.old.octets ≡ [] }
     requires room { longest_fulfill ≤ out.old.spare }
-    ensures answer { answered_with result answer.now ≡ engine_answer (came_of came answer.now) }
+    ensures answer { answered_with result answer.now ≡ engine_answer (Some answer.now) }
     ensures packet { OnOk result (Spells out.new.octets (fulfill (zero_fulfill answer.now))) }
+    ensures err { OnErr result (out.new ≡ out.old) }
 {
-    let Ok(()) = came else {
-        return Err(LocalReject::PeerUnreachable);
-    };
     if answer.len() > MAX_MESSAGE {
         return Err(LocalReject::PeerUnreachable);
     }
@@ -151,8 +182,9 @@ fn put_message<A: Allocator>(
     write_prepare(out, &packet)
 }
 
-// The data of the Fulfill of 32 zero octets, if the octets stand for one.
-pub(crate) fn peer_answer_in(octets: &[u8]) -> Option<&[u8]>
+/// What the peer's engine answered, by the octets that came back for its message: the data of the
+/// Fulfill of 32 zero octets, if they stand for one.
+pub fn peer_answer_in(octets: &[u8]) -> Option<&[u8]>
     ensures { option_map (λ answer. answer.now) result ≡ peer_answer_of (Some octets.now) }
 {
     match Packet::read(octets) {
@@ -169,71 +201,100 @@ impl<
     K: Keeper<J> + Drop,
     A: Allocator,
 > Parts<J, C, U, E, K, A> {
-    // Hands the data of a Prepare for the engine here to it, and has the sender answered with what
-    // that answers, or with the first refusal. Tells which Reject that was.
-    pub(crate) fn hand_over(
+    // Makes room for the longest Fulfill, and takes the data of a Prepare for the engine here, or has the
+    // sender answered with the first refusal.
+    pub(crate) fn begin_message(
         &mut self,
         config: &Config,
         from: u32,
         packet: &Prepare<'_>,
-    ) -> Option<ToldReject>
+    ) -> Begun<J, A>
+    where
+        A: Copy,
         requires known { IsKnown config.now from }
-        ensures { IsMessaged config.now from (plain_prepare packet.now)
+        requires packet { IsPrepare (plain_prepare packet.now) }
+        ensures begun { IsAskedBy config.now from (plain_prepare packet.now)
             (worker self.old.share self.old.records.items (C.told self.old.clock) (U.told self.old.uplink)
             (E.told self.old.engine) self.old.receipt (K.told self.old.keeper)
             (reply_of self.old.reply_in self.old.incoming.octets
-            self.old.outgoing.octets self.old.rejected.octets))
+            self.old.rejected.octets) self.old.pending)
             (worker self.new.share self.new.records.items (C.told self.new.clock) (U.told self.new.uplink)
             (E.told self.new.engine) self.new.receipt (K.told self.new.keeper)
             (reply_of self.new.reply_in self.new.incoming.octets
-            self.new.outgoing.octets self.new.rejected.octets)) result }
+            self.new.rejected.octets) self.new.pending) result }
+        ensures pending { self.new.pending ≡ self.old.pending + waiting_more (Ok result) }
+        ensures actor { self.new.share.actor ≡ self.old.share.actor }
     {
         let now = self.clock.now();
-        match self.message_engine(config, from, packet, now) {
-            Ok(()) => {
-                self.reply_in = Buffer::Outgoing;
-                None
-            }
+        let alloc = *self.records.allocator();
+        match message_octets(alloc, config, from, packet, now) {
+            Ok(octets) => Begun::Asks(EngineMessage::new(from, octets)),
             Err(why) => {
-                let reject = ToldReject::Own(why);
-                self.tell(config, Told::Reject(reject));
-                Some(reject)
+                self.reject(config, why);
+                Begun::Answered(Receipt::unbooked(Some(ToldReject::Own(why))))
             }
         }
     }
 
-    // Asks the engine here, unless the Prepare is refused at this time, and writes the Fulfill of
-    // its answer. Room for that is made before the engine is asked.
-    fn message_engine(
-        &mut self,
-        config: &Config,
-        from: u32,
-        packet: &Prepare<'_>,
-        now: i64,
-    ) -> Result<(), LocalReject>
-        requires known { IsKnown config.now from }
-        ensures share { self.new.share ≡ self.old.share }
-        ensures records { self.new.records ≡ self.old.records }
-        ensures links { (self.new.clock ≡ self.old.clock) × (self.new.uplink ≡ self.old.uplink) }
-        ensures kept { (self.new.receipt ≡ self.old.receipt) × (self.new.keeper ≡ self.old.keeper) }
-        ensures answered { IsEngineAnswer (message_refusal config.now from now (plain_prepare packet.now))
-            from (plain_prepare packet.now) (E.told self.old.engine) (E.told self.new.engine)
-            (answered_with result self.new.incoming.octets) }
-        ensures packet { OnOk result
-            (Spells self.new.outgoing.octets (fulfill (zero_fulfill self.new.incoming.octets))) }
+    // Hands a message of a peer's engine to the engine here, and waits for what that answers.
+    pub(crate) fn ask(&mut self, message: &EngineMessage<A>) -> Option<Octets<A>>
+    where
+        A: Copy,
+        ensures handed { IsEngineHanded message.now (octets_of result)
+            (worker self.old.share self.old.records.items (C.told self.old.clock) (U.told self.old.uplink)
+            (E.told self.old.engine) self.old.receipt (K.told self.old.keeper)
+            (reply_of self.old.reply_in self.old.incoming.octets
+            self.old.rejected.octets) self.old.pending)
+            (worker self.new.share self.new.records.items (C.told self.new.clock) (U.told self.new.uplink)
+            (E.told self.new.engine) self.new.receipt (K.told self.new.keeper)
+            (reply_of self.new.reply_in self.new.incoming.octets
+            self.new.rejected.octets) self.new.pending) }
+        ensures pending { self.new.pending ≡ self.old.pending }
+        ensures actor { self.new.share.actor ≡ self.old.share.actor }
     {
-        if let Some(why) = message_refusal(config, from, packet, now) {
-            return Err(why);
-        }
-        self.outgoing.clear();
-        let Ok(()) = self.outgoing.reserve(LONGEST_FULFILL) else {
-            return Err(LocalReject::InternalError);
-        };
-        self.incoming.clear();
+        let room = Octets::new(*self.records.allocator());
+        let mut reply = mem::replace(&mut self.incoming, room);
+        reply.clear();
         let came = self
             .engine
-            .message(from, packet.payload, &mut self.incoming);
-        put_answer(&mut self.outgoing, came, self.incoming.as_slice())
+            .message(message.from(), message.octets(), &mut reply);
+        match came {
+            Ok(()) => Some(reply),
+            Err(LinkFault) => {
+                self.incoming = reply;
+                None
+            }
+        }
+    }
+
+    // Writes the packet of a message to a peer, which expires after the longest hold.
+    pub(crate) fn begin_send(
+        &mut self,
+        config: &Config,
+        peer: u32,
+        octets: &[u8],
+    ) -> Result<PeerMessage<A>, MessageFault>
+    where
+        A: Copy,
+        ensures addresses { Addresses config.now peer octets.now
+            (worker self.old.share self.old.records.items (C.told self.old.clock) (U.told self.old.uplink)
+            (E.told self.old.engine) self.old.receipt (K.told self.old.keeper)
+            (reply_of self.old.reply_in self.old.incoming.octets
+            self.old.rejected.octets) self.old.pending)
+            (worker self.new.share self.new.records.items (C.told self.new.clock) (U.told self.new.uplink)
+            (E.told self.new.engine) self.new.receipt (K.told self.new.keeper)
+            (reply_of self.new.reply_in self.new.incoming.octets
+            self.new.rejected.octets) self.new.pending) result }
+    {
+        if octets.len() > MAX_MESSAGE {
+            return Err(MessageFault::TooLong);
+        }
+        let expires = message_expiry(config, self.clock.now());
+        let mut packet = Octets::new(*self.records.allocator());
+        let Ok(()) = put_message(&mut packet, octets, expires) else {
+            return Err(MessageFault::Memory);
+        };
+        Ok(PeerMessage::new(peer, packet, expires))
     }
 
     // Sends a message to the peer. What comes is the worker's reply where it is an answer, else
@@ -244,15 +305,17 @@ impl<
         peer: u32,
         octets: &[u8],
     ) -> Result<(), MessageFault>
-        ensures { Messages config.now peer octets.now
+        ensures messages { Messages config.now peer octets.now
             (worker self.old.share self.old.records.items (C.told self.old.clock) (U.told self.old.uplink)
             (E.told self.old.engine) self.old.receipt (K.told self.old.keeper)
             (reply_of self.old.reply_in self.old.incoming.octets
-            self.old.outgoing.octets self.old.rejected.octets))
+            self.old.rejected.octets) self.old.pending)
             (worker self.new.share self.new.records.items (C.told self.new.clock) (U.told self.new.uplink)
             (E.told self.new.engine) self.new.receipt (K.told self.new.keeper)
             (reply_of self.new.reply_in self.new.incoming.octets
-            self.new.outgoing.octets self.new.rejected.octets)) result }
+            self.new.rejected.octets) self.new.pending) result }
+        ensures pending { self.new.pending ≡ self.old.pending }
+        ensures actor { self.new.share.actor ≡ self.old.share.actor }
     {
         if octets.len() > MAX_MESSAGE {
             return Err(MessageFault::TooLong);

@@ -45,10 +45,8 @@ impl Receipt {
 // Where the octets stand by which the sender of the last packet is answered.
 #[derive(Clone, Copy)]
 pub(crate) enum Buffer {
-    // Where what a peer replied is put.
+    // Where what a peer replied is put, and what the sender of a packet that was forwarded is answered.
     Incoming,
-    // Where packets are written that go out, or that tell what an engine answered.
-    Outgoing,
-    // Where Rejects of the connector's own are written.
+    // Where Rejects are written of what is refused at once.
     Rejected,
 }

@@ -22,7 +22,7 @@ pub(crate) fn answer<
     U: Uplink + Drop,
     E: EngineLink + Drop,
     K: Keeper<J> + Drop,
-    A: Allocator,
+    A: Allocator + Copy,
 >(
     rt: &(impl Print + Wait),
     desk: &Desk<J>,
@@ -59,7 +59,7 @@ pub(crate) fn answer_each<
     U: Uplink + Drop,
     E: EngineLink + Drop,
     K: Keeper<J> + Drop,
-    A: Allocator,
+    A: Allocator + Copy,
 >(
     rt: &(impl Print + Wait),
     desk: &Desk<J>,

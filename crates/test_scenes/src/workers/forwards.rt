@@ -57,7 +57,7 @@ pub(crate) fn print_forward<J: Naming, C: Clock + Drop, U: Uplink + Drop>(
 }
 
 /// Prints what a worker answers alice for a packet, and what it books.
-pub(crate) fn print_answer<J: Naming, C: Clock + Drop, U: Uplink + Drop, A: Allocator>(
+pub(crate) fn print_answer<J: Naming, C: Clock + Drop, U: Uplink + Drop, A: Allocator + Copy>(
     rt: &(impl Print + Wait),
     desk: &Desk<J>,
     worker: &mut Worker<J, C, U, NoEngine, Forgetful, A>,

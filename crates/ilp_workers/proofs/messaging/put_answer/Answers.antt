@@ -7,5 +7,5 @@ pub unreachable-requires : goal.unreachable-requires
 unreachable-requires g c =
     let short = answer_is_short c.args.answer.now c.if-answer-gt-MAX_MESSAGE.false in
     let written = c.write_fulfill.ensures.enough (omega (arith, short)) in
-    let not_written = rw c.in_default-write_fulfill.is at written in
+    let not_written = rw c.in_default.is at written in
     cc

@@ -8,8 +8,8 @@ use Rattle.ilp_workers.proofs.EngineMessages.{answer_came, no_answer_came, passe
 use Rattle.ilp_workers.proofs.parts.Parts.send_message.Goals as goal
 
 -- an answer came
-pub returns-then-reply : goal.returns-then-reply
-returns-then-reply g c =
+pub returns-then-reply-clause-messages : goal.returns-then-reply-clause-messages
+returns-then-reply-clause-messages g c =
     let C = c.args.config.now in
     let now = c.now.result in
     let expires = c.message_expiry-expires.result in
@@ -36,8 +36,8 @@ returns-then-reply g c =
     }
 
 -- none came
-pub returns : goal.returns
-returns g c =
+pub returns-clause-messages : goal.returns-clause-messages
+returns-clause-messages g c =
     let C = c.args.config.now in
     let now = c.now.result in
     let expires = c.message_expiry-expires.result in
