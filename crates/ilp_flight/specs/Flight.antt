@@ -1,5 +1,5 @@
 -- What a worker begins, and what waits then.
-use Rattle.std.specs.Prelude.{◌≡◌, ℕ, Option, Some, None, Result, Ok, Err}
+use Rattle.std.specs.Prelude.{◌≡◌, ℕ, Some, None, Result, Ok, Err}
 use Rattle.slab.specs.Slab.{Slab, get, SameValues, Updates}
 use Rattle.ilp_workers.specs.Worker.{PlainWorker}
 use Rattle.ilp_workers.specs.Arrivals.{Arrival, IsBad}

@@ -5,7 +5,8 @@ ghost use Rattle.ilp_book.specs.Configured.{IsKnown};
 ghost use Rattle.ilp_desk.specs.Portion.{holding};
 ghost use Rattle.ilp_flight.specs.Flight.{Starts};
 ghost use Rattle.ilp_workers.specs.Arrivals.{arrival};
-ghost use Rattle.ilp_workers.specs.Pending.{PlainPending, octets_of};
+ghost use Rattle.ilp_replies.specs.Replies.{octets_of};
+ghost use Rattle.ilp_workers.specs.Pending.{PlainPending};
 ghost use Rattle.ilp_workers.specs.Booked.{handed_journal};
 ghost use Rattle.ilp_workers.specs.Halves.{IsBooked, IsHandedOn, IsFinished};
 

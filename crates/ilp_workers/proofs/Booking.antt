@@ -9,9 +9,9 @@ use Rattle.ilp_desk.specs.declared.record.Record.{Record}
 use Rattle.ilp_desk.specs.Desk.{PlainDesk}
 use Rattle.ilp_link_traits.specs.declared.links.LinkFault.{LinkFault}
 use Rattle.ilp_link_traits.specs.Links.{came_of}
-use Rattle.ilp_workers.specs.declared.rejects.ToldReject.{ToldReject}
-use Rattle.ilp_workers.specs.declared.rejects.ToldReject.TheVariants.{Own, Peer}
-use Rattle.ilp_workers.specs.declared.reply.Receipt.{Receipt}
+use Rattle.ilp_replies.specs.declared.rejects.ToldReject.{ToldReject}
+use Rattle.ilp_replies.specs.declared.rejects.ToldReject.TheVariants.{Own, Peer}
+use Rattle.ilp_replies.specs.declared.answer.Receipt.{Receipt}
 use Rattle.ilp_workers.specs.declared.reply_effect.ReplyEffect.{ReplyEffect}
 use Rattle.ilp_workers.specs.declared.reply_effect.Told.{Told}
 use Rattle.ilp_workers.specs.declared.reply_effect.Told.TheVariants.{Fulfill, Reject}

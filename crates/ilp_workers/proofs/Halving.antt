@@ -9,18 +9,19 @@ use Rattle.ilp_book.specs.declared.fault.NotOpen.{NotOpen}
 use Rattle.ilp_desk.specs.declared.record.Record.{Record}
 use Rattle.ilp_desk.specs.Desk.{PlainDesk}
 use Rattle.ilp_link_traits.specs.Links.{Tells, sending, messaging, messaged}
-use Rattle.ilp_workers.specs.declared.reply.Receipt.{Receipt}
+use Rattle.ilp_replies.specs.declared.answer.Receipt.{Receipt}
 use Rattle.ilp_workers.specs.declared.reply_effect.ReplyEffect.{ReplyEffect}
 use Rattle.ilp_workers.specs.declared.reply_effect.Told.{Told}
 use Rattle.ilp_workers.specs.declared.in_flight.Begun.{Begun}
 use Rattle.ilp_workers.specs.declared.in_flight.Begun.TheVariants.{Answered, Waits, Asks}
 use Rattle.ilp_workers.specs.Worker.{PlainWorker, replied, Seat, seat_of}
 use Rattle.ilp_workers.specs.Forwarding.{Order, order, IsEnded, IsSent, IsForwardedBy, Ends, effect_of}
-use Rattle.ilp_workers.specs.Messaging.{IsForEngine, IsMessaged, IsEngineAnswer, engine_answer}
+use Rattle.ilp_replies.specs.Messages.{IsForEngine, engine_answer, IsMessageTold}
+use Rattle.ilp_workers.specs.Messaging.{IsMessaged, IsEngineAnswer}
 use Rattle.ilp_workers.specs.Arrivals.{Arrival, arrival, Forwards}
 use Rattle.ilp_workers.specs.Pending.{PlainPending, waiting, held_prepare, told_order}
-use Rattle.ilp_workers.specs.EngineMessage.{PlainEngineMessage}
-use Rattle.ilp_workers.specs.MessageHalves.{IsAsked, IsEngineHanded, IsMessageTold}
+use Rattle.ilp_replies.specs.EngineMessage.{PlainEngineMessage}
+use Rattle.ilp_workers.specs.MessageHalves.{IsAsked, IsEngineHanded}
 use Rattle.ilp_workers.specs.Halves.{IsBegun, IsBegunBy, IsAskedBy, StartsWaiting, StartsAsking, Begins, IsHanded, IsFinished}
 
 -- ---- the first half

@@ -1,14 +1,6 @@
-pub mod Rejecting
 pub mod Sessions
 pub mod Sending
 pub mod Booking
 pub mod Halving
-pub mod Outcomes
-pub mod Later
-pub mod Running
-pub mod Asking
-pub mod Standing
-pub mod Behind
 pub mod CreditSessions
 pub mod EngineMessages
-pub mod CreditBehind

@@ -1,8 +1,8 @@
 -- A packet that is booked and whose sender is not answered yet, as contracts see it, and the journal that a keeper was handed.
 use Rattle.std.specs.Prelude.{ℕ, List, Option, Some, None, Result, Ok}
 use Rattle.ilp_keeping.specs.declared.keeper.NotKept.{NotKept}
-use Rattle.ilp_workers.specs.declared.reply.Receipt.{Receipt}
-use Rattle.ilp_workers.specs.declared.rejects.ToldReject.{ToldReject}
+use Rattle.ilp_replies.specs.declared.answer.Receipt.{Receipt}
+use Rattle.ilp_replies.specs.declared.rejects.ToldReject.{ToldReject}
 
 -- what became of its Prepare, the octets that its sender is answered, and how many entries the keeper is to be handed before
 pub record PlainBooked : Type 0 where

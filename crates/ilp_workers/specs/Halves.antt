@@ -7,18 +7,19 @@ use Rattle.ilp_book.specs.declared.calls.Held.{Held}
 use Rattle.ilp_desk.specs.Desk.{PlainDesk}
 use Rattle.ilp_link_traits.specs.Links.{Tells, sending}
 use Rattle.ilp_keeping.specs.declared.keeper.NotKept.{NotKept}
-use Rattle.ilp_workers.specs.declared.reply.BadPacket.{BadPacket}
-use Rattle.ilp_workers.specs.declared.reply.Receipt.{Receipt}
-use Rattle.ilp_workers.specs.declared.rejects.ToldReject.{ToldReject}
+use Rattle.ilp_workers.specs.declared.arrivals.BadPacket.{BadPacket}
+use Rattle.ilp_replies.specs.declared.answer.Receipt.{Receipt}
+use Rattle.ilp_replies.specs.declared.rejects.ToldReject.{ToldReject}
 use Rattle.ilp_workers.specs.declared.reply_effect.Told.{Told}
 use Rattle.ilp_workers.specs.declared.in_flight.Begun.{Begun}
 use Rattle.ilp_workers.specs.declared.in_flight.Begun.TheVariants.{Answered, Waits, Asks}
 use Rattle.ilp_workers.specs.Worker.{PlainWorker, Seat, seat_of, IsKept}
 use Rattle.ilp_workers.specs.Forwarding.{Order, order, onward, IsHolding, IsRefused, IsEnded, KeepsFirst, IsTold, reject_told, effect_of}
-use Rattle.ilp_workers.specs.Messaging.{IsForEngine, IsMessaged}
+use Rattle.ilp_replies.specs.Messages.{IsForEngine}
+use Rattle.ilp_workers.specs.Messaging.{IsMessaged}
 use Rattle.ilp_workers.specs.Arrivals.{Arrival, IsBad, IsEmpty, IsPassed}
 use Rattle.ilp_workers.specs.Pending.{PlainPending, waiting, held_prepare, told_order}
-use Rattle.ilp_workers.specs.EngineMessage.{PlainEngineMessage}
+use Rattle.ilp_replies.specs.EngineMessage.{PlainEngineMessage}
 use Rattle.ilp_workers.specs.MessageHalves.{IsAsked}
 use Rattle.ilp_workers.specs.Booked.{PlainBooked, behind_of}
 

@@ -1,17 +1,14 @@
 -- The two halves of a message between settlement engines (RFC 0038), from a peer and to one. Nothing is booked in either.
-use Rattle.std.specs.Prelude.{◌≡◌, ℕ, ◌<◌, ◌≤◌, ℤ, List, length, Option, Some, None, Result, Ok, Err}
+use Rattle.std.specs.Prelude.{◌≡◌, ℕ, ◌<◌, ◌≤◌, ℤ, List, length, Option, None, Result, Ok, Err}
 use Rattle.ilp_packet.specs.Packet.{PlainPrepare, prepare, most_payload, Spells}
 use Rattle.ilp_accounts.specs.Configuration.{Configuration}
 use Rattle.ilp_link_traits.specs.Links.{Tells, sending, messaging, messaged}
-use Rattle.ilp_workers.specs.declared.reply.Receipt.{Receipt}
-use Rattle.ilp_workers.specs.declared.rejects.LocalReject.{LocalReject}
-use Rattle.ilp_workers.specs.declared.rejects.LocalReject.TheVariants as local
-use Rattle.ilp_workers.specs.declared.messaging.MessageFault.{MessageFault}
-use Rattle.ilp_workers.specs.declared.messaging.MessageFault.TheVariants as message_fault
+use Rattle.ilp_replies.specs.declared.rejects.LocalReject.TheVariants as local
+use Rattle.ilp_replies.specs.declared.messages.MessageFault.{MessageFault}
+use Rattle.ilp_replies.specs.declared.messages.MessageFault.TheVariants as message_fault
 use Rattle.ilp_workers.specs.Worker.{PlainWorker}
-use Rattle.ilp_workers.specs.Receipts.{unbooked}
-use Rattle.ilp_workers.specs.Messaging.{message_refusal, engine_answer, answer_packet, reject_in, message_prepare, message_expiry}
-use Rattle.ilp_workers.specs.EngineMessage.{PlainEngineMessage, engine_message, PlainPeerMessage, peer_message}
+use Rattle.ilp_replies.specs.Messages.{message_refusal, message_prepare, message_expiry}
+use Rattle.ilp_replies.specs.EngineMessage.{PlainEngineMessage, engine_message, PlainPeerMessage, peer_message}
 
 -- All stays but for the moments of the clock.
 pub record IsUntouched (before after : PlainWorker) : Type 0 where
@@ -24,11 +21,6 @@ pub record IsUntouched (before after : PlainWorker) : Type 0 where
   pub pending : after.pending ≡ before.pending
 
 -- ---- a message of a peer's engine for the engine here
-
--- why the engine is handed nothing: the first refusal, or want of memory where there is none
-abbrev pub IsWhyRefused : Option LocalReject → LocalReject → Type 0
-IsWhyRefused (Some refusal) why = why ≡ refusal
-IsWhyRefused None why = why ≡ local.InternalError
 
 -- At one moment of the clock nothing refuses the Prepare, and the engine is to be handed its data for the peer.
 pub record IsAsked (C : Configuration) (from : ℕ) (packet : PlainPrepare) (before after : PlainWorker) (m : PlainEngineMessage) : Type 0 where
@@ -47,11 +39,6 @@ pub record IsEngineHanded (m : PlainEngineMessage) (came : Option (List ℕ)) (b
   pub sent : after.sent ≡ before.sent
   pub seen : after.seen ≡ before.seen
   pub kept : after.kept ≡ before.kept
-
--- The peer is answered by what came: these octets, of a Fulfill or of a Reject, which the receipt names.
-pub record IsMessageTold (C : Configuration) (came : Option (List ℕ)) (receipt : Receipt) (octets : List ℕ) : Type 0 where
-  pub reply : Spells octets (answer_packet C (engine_answer came))
-  pub named : receipt ≡ unbooked (reject_in (engine_answer came))
 
 -- ---- a message of the engine here for a peer's engine
 

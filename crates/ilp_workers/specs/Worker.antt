@@ -5,8 +5,8 @@ use Rattle.ilp_desk.specs.declared.record.Record.{Record}
 use Rattle.ilp_desk.specs.Portion.{Portion}
 use Rattle.ilp_keeping.specs.declared.keeper.NotKept.{NotKept}
 use Rattle.ilp_keeping.specs.Keeping.{ToKeeper, IsHanded}
-use Rattle.ilp_workers.specs.declared.reply.Buffer.{Buffer}
-use Rattle.ilp_workers.specs.declared.reply.Buffer.TheVariants.{Incoming, Rejected}
+use Rattle.ilp_workers.specs.declared.parts.Buffer.{Buffer}
+use Rattle.ilp_workers.specs.declared.parts.Buffer.TheVariants.{Incoming, Rejected}
 use Rattle.ilp_link_traits.specs.Links.{Sending, ToEngine}
 
 -- its share, the records of what it booked, what its links tell (the moments of its clock, what peers were handed, and what

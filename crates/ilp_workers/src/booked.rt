@@ -2,20 +2,12 @@
 ghost use Rattle.std.specs.Prelude.{◌≡◌, ◌≤◌};
 ghost use Rattle.ilp_workers.specs.Booked.{booked, handed_journal, no_journal};
 
-use crate::reply::Receipt;
 use ilp_desk::Naming;
 use ilp_keeping::NotKept;
 use ilp_oer::Octets;
+use ilp_replies::{Answer, Receipt};
 use std::alloc::{Allocator, Global};
 use std::marker::{Model, PhantomData};
-
-/// What the sender of a packet is answered: the octets of a Fulfill or of a Reject, and what became
-/// of its Prepare.
-#[derive(Drop)]
-pub struct Answer<A: Allocator = Global> {
-    pub receipt: Receipt,
-    pub octets: Octets<A>,
-}
 
 /// A packet whose end is booked, with all that its sender is answered. A Fulfill is told only once the
 /// keeper was handed a journal that has its entry; it says how many entries such a journal has at

@@ -1,13 +1,12 @@
 //! A packet that waits for what the next peer replies.
 ghost use Rattle.std.specs.Prelude.{◌≡◌, ◌+◌, ◌≤◌, length};
-ghost use Rattle.ilp_workers.specs.Rejects.{longest_local_reject};
+ghost use Rattle.ilp_replies.specs.Rejects.{longest_local_reject};
 ghost use Rattle.ilp_workers.specs.Pending.{waiting};
 
-use crate::engine_message::EngineMessage;
-use crate::reply::Receipt;
 use ilp_book::Held;
 use ilp_desk::Naming;
 use ilp_oer::Octets;
+use ilp_replies::{EngineMessage, Receipt};
 use std::alloc::{Allocator, Global};
 use std::marker::{Model, PhantomData};
 
@@ -39,7 +38,7 @@ pub struct Pending<J: Naming, A: Allocator = Global> {
 
 impl<J: Naming, A: Allocator> Model for Pending<J, A> {
     ghost use Rattle.std.specs.Prelude.{◌+◌, ◌≤◌, length};
-    ghost use Rattle.ilp_workers.specs.Rejects.{longest_local_reject};
+    ghost use Rattle.ilp_replies.specs.Rejects.{longest_local_reject};
     ghost use Rattle.ilp_workers.specs.Pending.{PlainPending, waiting};
 
     ghost Value = { PlainPending };

@@ -1,9 +1,9 @@
 //! Of what a worker consists, and the steps by which it passes a Prepare on.
-ghost use Rattle.std.specs.Prelude.{◌≡◌, ℕ, ◌+◌, ◌<◌, ◌≤◌, [], ◌++◌, ◌∷◌, length, Option, Some, Ok, List, Result, IfOk, IfErr, OnOk, OnErr, MatchBool, ◌≢◌, vec_len, vec_capacity};
-ghost use Rattle.ilp_packet.specs.Packet.{PlainPacket, plain_prepare, prepare, reject, IsPrepare, Spells};
+ghost use Rattle.std.specs.Prelude.{◌≡◌, ◌+◌, ◌<◌, ◌≤◌, [], length, Option, Some, Ok, Result, IfOk, IfErr, OnOk, OnErr, MatchBool, ◌≢◌, vec_len, vec_capacity};
+ghost use Rattle.ilp_packet.specs.Packet.{plain_prepare, prepare, reject, IsPrepare, Spells};
 ghost use Rattle.ilp_packet.specs.Writing.{size};
 ghost use Rattle.ilp_book.specs.Configured.{IsKnown};
-ghost use Rattle.ilp_workers.specs.Rejects.{local_reject, longest_local_reject};
+ghost use Rattle.ilp_replies.specs.Rejects.{local_reject, longest_local_reject};
 ghost use Rattle.ilp_desk.specs.Desk.{PlainDesk};
 ghost use Rattle.ilp_desk.specs.Portion.{holding};
 ghost use Rattle.ilp_workers.specs.Worker.{seat, reply_of, IsKept};
@@ -13,8 +13,6 @@ ghost use Rattle.ilp_workers.specs.Forwarding.{order, onward, IsHoldRefusal, IsH
 
 use crate::booked::HandedJournal;
 use crate::in_flight::HeldPrepare;
-use crate::rejects::{LONGEST_LOCAL_REJECT, LocalReject, ToldReject, put_local_reject};
-use crate::reply::Buffer;
 use crate::reply_effect::{ReplyEffect, Told};
 use ilp_accounts::Config;
 use ilp_book::{Held, Outcome};
@@ -23,6 +21,7 @@ use ilp_keeping::{Keeper, NotKept};
 use ilp_link_traits::{Clock, EngineLink, LinkFault, ReplyKind, Uplink};
 use ilp_oer::Octets;
 use ilp_packet::{Prepare, write_prepare};
+use ilp_replies::{LONGEST_LOCAL_REJECT, LocalReject, ToldReject, put_local_reject};
 use std::alloc::{AllocError, Allocator, Global};
 use std::sync::Wait;
 
@@ -285,6 +284,15 @@ impl<J: Naming, C: Clock + Drop, U: Uplink + Drop, E: EngineLink + Drop, K: Keep
         } = self;
         End::new(share, records)
     }
+}
+
+// Where the octets stand by which the sender of the last packet is answered.
+#[derive(Clone, Copy)]
+pub(crate) enum Buffer {
+    // Where what a peer replied is put, and what the sender of a packet that was forwarded is answered.
+    Incoming,
+    // Where Rejects are written of what is refused at once.
+    Rejected,
 }
 
 // What the sender is told of a hold that ended, and the entry that says so, if it is this one.

@@ -2,32 +2,33 @@
 ghost use Rattle.std.specs.Prelude.{◌≡◌, ◌+◌, ◌<◌, length, [], Some, unwrap_or, IfOk, IfErr};
 ghost use Rattle.ilp_book.specs.Configured.{IsKnown};
 ghost use Rattle.ilp_book.specs.SettleStep.{payment};
-ghost use Rattle.ilp_packet.specs.Packet.{plain_prepare, prepare, Spells};
+ghost use Rattle.ilp_packet.specs.Packet.{prepare};
 ghost use Rattle.ilp_desk.specs.Portion.{holding};
 ghost use Rattle.ilp_workers.specs.Worker.{worker, replied};
 ghost use Rattle.ilp_workers.specs.Crediting.{Credits};
-ghost use Rattle.ilp_workers.specs.Messaging.{peer_answer_of, Messages};
-ghost use Rattle.ilp_workers.specs.Pending.{octets_of};
+ghost use Rattle.ilp_replies.specs.Messages.{peer_answer_of};
+ghost use Rattle.ilp_workers.specs.Messaging.{Messages};
+ghost use Rattle.ilp_replies.specs.Replies.{octets_of};
 ghost use Rattle.ilp_workers.specs.Booked.{behind_of, handed_journal};
 ghost use Rattle.ilp_workers.specs.MessageHalves.{IsEngineHanded, Addresses};
 ghost use Rattle.ilp_workers.specs.Halves.{Begins, waiting_more, IsHanded, IsBooked, IsHandedOn, IsKeptFor, IsFinished};
-ghost use Rattle.ilp_workers.specs.Arrivals.{arrival, IsBad, Forwards};
+ghost use Rattle.ilp_workers.specs.Arrivals.{arrival, Forwards};
 
-use crate::booked::{Answer, Booked, HandedJournal};
+use crate::arrivals::{BadPacket, prepare_in};
+use crate::booked::{Booked, HandedJournal};
 use crate::crediting::NotCredited;
-use crate::engine_message::{EngineMessage, PeerMessage};
 use crate::in_flight::{Begun, Pending};
-use crate::messaging::{MessageFault, is_for_engine, peer_answer_in};
-use crate::parts::Parts;
-use crate::rejects::{LONGEST_LOCAL_REJECT, ToldReject};
-use crate::reply::{BadPacket, Buffer, Receipt};
+use crate::parts::{Buffer, Parts};
 use ilp_book::Kept;
 use ilp_desk::{Desk, End, JournalReceipt, Naming, Record, Share};
 use ilp_journal::Key;
 use ilp_keeping::Keeper;
 use ilp_link_traits::{Clock, EngineLink, Uplink};
 use ilp_oer::Octets;
-use ilp_packet::{Packet, Prepare};
+use ilp_replies::{
+    Answer, EngineMessage, LONGEST_LOCAL_REJECT, MessageFault, PeerMessage, Receipt, ToldReject,
+    is_for_engine, peer_answer_in,
+};
 use ilp_settlement::Quantity;
 use std::alloc::{Allocator, Global};
 use std::marker::Model;
@@ -423,18 +424,5 @@ impl<
     {
         let Worker { parts } = self;
         parts.into_end()
-    }
-}
-
-// The Prepare that the octets stand for.
-fn prepare_in(octets: &[u8]) -> Result<Prepare<'_>, BadPacket>
-    ensures ok { IfOk result (λ p. Spells octets.now (prepare (plain_prepare p))) }
-    ensures err { IfErr result (λ fault. IsBad octets.now fault) }
-{
-    match Packet::read(octets) {
-        Ok(Packet::Prepare(prepare)) => Ok(prepare),
-        Ok(Packet::Fulfill(_)) => Err(BadPacket::NotPrepare),
-        Ok(Packet::Reject(_)) => Err(BadPacket::NotPrepare),
-        Err(fault) => Err(BadPacket::Unread(fault)),
     }
 }

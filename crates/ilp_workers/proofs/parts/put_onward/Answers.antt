@@ -4,7 +4,7 @@ use Rattle.std.specs.Int.{w64}
 use Rattle.std.proofs.lemmas.Int.{to_z-of_z}
 use Rattle.ilp_packet.specs.Packet.{PlainPrepare, plain_prepare, prepare}
 use Rattle.ilp_packet.specs.Writing.{size}
-use Rattle.ilp_workers.proofs.Rejecting.{alone_in_room}
+use Rattle.ilp_replies.proofs.Rejecting.{alone_in_room}
 use Rattle.ilp_workers.proofs.parts.put_onward.Goals as goal
 
 -- the Prepare takes of the room what it needs

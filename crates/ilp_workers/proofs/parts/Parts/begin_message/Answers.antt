@@ -4,9 +4,8 @@ use Rattle.std.specs.Int.{w64}
 use Rattle.std.proofs.lemmas.Int.{to_z-of_z}
 use Rattle.ilp_packet.specs.Packet.{plain_prepare}
 use Rattle.ilp_link_traits.specs.Links.{Tells}
-use Rattle.ilp_workers.specs.Messaging.{message_refusal}
-use Rattle.ilp_workers.specs.MessageHalves.{IsWhyRefused}
-use Rattle.ilp_workers.proofs.Asking.{kept_back}
+use Rattle.ilp_replies.specs.Messages.{message_refusal, IsWhyRefused}
+use Rattle.ilp_workers.proofs.EngineMessages.{kept_back}
 use Rattle.ilp_workers.proofs.parts.Parts.begin_message.Goals as goal
 
 -- the message is refused

@@ -3,8 +3,8 @@ use Rattle.std.specs.Prelude.{FitsSigned}
 use Rattle.std.specs.Int.{w64}
 use Rattle.std.proofs.lemmas.Int.{to_z-of_z}
 use Rattle.ilp_packet.specs.Packet.{prepare, Spells}
-use Rattle.ilp_workers.specs.Messaging.{message_expiry, message_prepare}
-use Rattle.ilp_workers.specs.EngineMessage.{peer_message}
+use Rattle.ilp_replies.specs.Messages.{message_expiry, message_prepare}
+use Rattle.ilp_replies.specs.EngineMessage.{peer_message}
 use Rattle.ilp_workers.proofs.parts.Parts.begin_send.Goals as goal
 
 -- the packet carries the message, and expires as it is to

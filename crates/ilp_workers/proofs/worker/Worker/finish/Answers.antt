@@ -1,6 +1,6 @@
 use Rattle.std.proofs.Common.{sym, subst}
-use Rattle.ilp_workers.specs.declared.reply.Receipt.{Receipt}
-use Rattle.ilp_workers.specs.Pending.{octets_of}
+use Rattle.ilp_replies.specs.declared.answer.Receipt.{Receipt}
+use Rattle.ilp_replies.specs.Replies.{octets_of}
 use Rattle.ilp_workers.specs.Halves.{IsKeptFor, IsFinished}
 use Rattle.ilp_workers.proofs.Booking.{finished_by}
 use Rattle.ilp_workers.proofs.worker.Worker.finish.Goals as goal

@@ -1,10 +1,10 @@
 use Rattle.std.proofs.Common.{sym, subst}
 use Rattle.std.specs.Prelude.{Ok}
-use Rattle.ilp_workers.specs.declared.reply.Receipt.{Receipt}
+use Rattle.ilp_replies.specs.declared.answer.Receipt.{Receipt}
 use Rattle.ilp_workers.specs.declared.in_flight.Begun.{Begun}
 use Rattle.ilp_workers.specs.Worker.{PlainWorker}
 use Rattle.ilp_workers.specs.Arrivals.{arrival, Forwards}
-use Rattle.ilp_workers.specs.Pending.{octets_of}
+use Rattle.ilp_replies.specs.Replies.{octets_of}
 use Rattle.ilp_workers.specs.Halves.{StartsWaiting, Begins}
 use Rattle.ilp_workers.proofs.Halving.{forwards_by_halves}
 use Rattle.ilp_workers.proofs.worker.Worker.forward.Goals as goal
