@@ -1,4 +1,5 @@
 //! One packet of alice: what bob is handed, what alice is answered, and what is booked.
+ghost use Rattle.std.specs.Prelude.{◌≡◌};
 
 use super::Given;
 use crate::links::bob::Bob;
@@ -95,7 +96,9 @@ pub(crate) fn forward<J: Naming, C: Clock + Drop, U: Uplink + Drop>(
     desk: &Desk<J>,
     from: u32,
     packet: &[u8],
-) -> Option<Receipt> {
+) -> Option<Receipt>
+    ensures pending { worker.new.pending ≡ worker.old.pending }
+{
     if from < desk.config().peers() {
         worker.forward(rt, desk, from, packet).ok()
     } else {
