@@ -40,6 +40,7 @@ use Rattle.ilp_link_traits.specs.declared.links.ReplyKind.{ReplyKind}
 use Rattle.ilp_link_traits.specs.declared.links.ReplyKind.TheVariants.{Answer, NoAnswer}
 use Rattle.ilp_link_traits.specs.Links.{Tells, Sending, sending}
 use Rattle.ilp_replies.specs.Rejects.{local_reject, reject_of_fault}
+use Rattle.ilp_replies.specs.Messages.{within_years}
 use Rattle.ilp_workers.specs.Worker.{PlainWorker, Seat, seat_of, IsKept}
 
 -- ---- what is forwarded

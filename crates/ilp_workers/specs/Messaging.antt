@@ -9,6 +9,7 @@ use Rattle.ilp_replies.specs.declared.rejects.ToldReject.{ToldReject}
 use Rattle.ilp_replies.specs.declared.messages.MessageFault.{MessageFault}
 use Rattle.ilp_replies.specs.declared.messages.MessageFault.TheVariants as message_fault
 use Rattle.ilp_link_traits.specs.Links.{Tells, Sending, sending, ToEngine, messaging, messaged}
+use Rattle.ilp_replies.specs.Messages.{message_prepare, message_refusal, engine_answer, answer_packet, reject_in, message_expiry, peer_answer_of}
 use Rattle.ilp_workers.specs.Worker.{PlainWorker}
 
 -- the engine is handed nothing, and this is why
