@@ -12,7 +12,6 @@ ghost use Rattle.ilp_desk.specs.Desk.{PlainDesk};
 ghost use Rattle.ilp_desk.specs.Totals.{packets};
 ghost use Rattle.ilp_keeping.specs.declared.keeper.NotKept.{NotKept};
 ghost use Rattle.ilp_keeping.specs.Keeping.{ToKeeper};
-ghost use Rattle.ilp_replies.specs.declared.rejects.LocalReject.{LocalReject};
 ghost use Rattle.ilp_replies.specs.Rejects.{reject_of_fault};
 ghost use Rattle.ilp_replies.specs.declared.answer.Receipt.{Receipt};
 ghost use Rattle.ilp_workers.specs.Worker.{PlainWorker, replied};
@@ -27,11 +26,9 @@ ghost use Rattle.ilp_worker_laws.specs.Runs.{Step, IsRun, fulfills_told};
 ghost use Rattle.ilp_workers.specs.Messaging.{IsMessaged, IsTried};
 ghost use Rattle.ilp_workers.specs.Arrivals.{Arrival, IsForPeers, Forwards};
 ghost use Rattle.ilp_workers.specs.Crediting.{Credits};
-ghost use Rattle.ilp_worker_laws.specs.Outcome.{IsCreditBehind};
-ghost use Rattle.ilp_worker_laws.specs.Outcome.{IsFulfilled, IsRejected, IsFulfilledEnd, IsRejectedEnd, IsToldBehind, IsRefusedAs, standing_refusal};
+ghost use Rattle.ilp_worker_laws.specs.Outcome.{IsFulfilled, IsRejected, IsFulfilledEnd, IsRejectedEnd, IsToldBehind, IsRefusedAs, IsCreditBehind, standing_refusal};
 
-use crate::messaging::MessageFault;
-use crate::rejects::{LONGEST_LOCAL_REJECT, LocalReject};
+use ilp_replies::MessageFault;
 
 /// Whoever sends a Prepare to another address than `peer.settle` is answered a Fulfill exactly where
 /// the worker keeps one packet more, and else a Reject, which the receipt names. The premise is that
