@@ -1,3 +1,4 @@
 pub mod Flow
+pub mod Counts
 pub mod Closing
 pub mod Rows

@@ -6,9 +6,11 @@
 //! - The definitions (`specs/Flow.antt`, `specs/Closing.antt`) come to worked rows: `rows`.
 #![tactic(auto)]
 
+mod flow;
 pub mod laws;
 mod passage;
 mod waiter;
 
+pub use flow::Flow;
 pub use passage::Passage;
 pub use waiter::Waiter;
