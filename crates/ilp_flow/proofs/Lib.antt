@@ -1,2 +1,0 @@
-pub mod RowProofs
-pub mod Turns
