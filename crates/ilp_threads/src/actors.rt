@@ -1,5 +1,5 @@
 //! The actors of a desk, ready to be started.
-ghost use Rattle.std.specs.Prelude.{◌≤◌, vec_len};
+ghost use Rattle.std.specs.Prelude.{◌≡◌, ◌≤◌, vec_len};
 
 use crate::pauses::Pauses;
 use crate::turns::PausedSettler;
@@ -12,7 +12,7 @@ use ilp_workers::{Clock, EngineLink, Keeper, Uplink, Worker};
 use std::alloc::AllocError;
 use std::sync::Wait;
 
-/// A worker, and the buffer into which it reads requests.
+/// A worker none of whose packets waits, and the buffer into which it reads requests.
 #[derive(Drop)]
 pub(crate) struct Responder<
     J: Naming,
@@ -23,6 +23,7 @@ pub(crate) struct Responder<
 > {
     pub(crate) worker: Worker<J, C, U, E, K>,
     pub(crate) buffer: Buffer,
+    pub(crate) ghost idle: { worker.pending ≡ 0 },
 }
 
 /// What the watcher is given: a clock, a keeper, and what was seen of the journal.

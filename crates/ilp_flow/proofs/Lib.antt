@@ -1,0 +1,2 @@
+pub mod RowProofs
+pub mod Turns

@@ -1,0 +1,4 @@
+pub mod Flow
+pub mod Counts
+pub mod Closing
+pub mod Rows
