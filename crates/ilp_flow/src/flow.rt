@@ -58,6 +58,33 @@ impl Flow {
         self.flying < self.most && of_sender.flying < self.part && of_receiver < self.part
     }
 
+    /// Begins.
+    pub fn begin(&mut self, passage: Passage) -> bool
+    {
+        self.flying = self.flying.saturating_add(1);
+        self.begun = self.begun.saturating_add(1);
+        if let Some(of) = self.senders.get_mut(passage.sender as usize) {
+            of.flying = of.flying.saturating_add(1);
+            of.turn = self.begun;
+        }
+        if let Some(count) = self.receivers.get_mut(passage.receiver as usize) {
+            *count = count.saturating_add(1);
+        }
+        true
+    }
+
+    /// Ends.
+    pub fn end(&mut self, passage: Passage)
+    {
+        self.flying = self.flying.saturating_sub(1);
+        if let Some(of) = self.senders.get_mut(passage.sender as usize) {
+            of.flying = of.flying.saturating_sub(1);
+        }
+        if let Some(count) = self.receivers.get_mut(passage.receiver as usize) {
+            *count = count.saturating_sub(1);
+        }
+    }
+
     /// Who of those that wait, the first to come in front, begins next: of all that may the one whose
     /// sender's last turn was longest ago, and of several such the first.
     pub fn next(&self, waiting: &[Passage]) -> Option<usize>

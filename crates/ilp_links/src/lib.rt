@@ -14,20 +14,25 @@
 //! - `SystemClock` gives the whole milliseconds of its time.
 #![tactic(auto)]
 
+mod call;
 mod calling;
 mod engine_way;
+mod exchange;
 mod hurry;
 mod links;
 mod no_answer;
 mod peer_link;
+mod resumed;
 mod system_clock;
 mod time_left;
 mod timed;
 
+pub use call::{Call, Came, Outside};
 pub use engine_way::EngineWay;
 pub use hurry::Hurry;
 pub use links::{Links, TcpLinks};
 pub use peer_link::PeerLink;
+pub use resumed::Resumed;
 pub use system_clock::SystemClock;
 pub use time_left::instant_after;
 pub use timed::{TimedReader, TimedWriter};

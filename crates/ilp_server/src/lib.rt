@@ -35,9 +35,11 @@
 #![tactic(auto)]
 
 mod answering;
+mod course;
 mod fields;
 mod handled;
 pub mod laws;
+mod response;
 mod served;
 mod serving;
 mod target;
@@ -45,8 +47,10 @@ mod unserved;
 mod work;
 
 pub use answering::answer_connection;
+pub use course::{Course, begin_request};
 pub use fields::{key_of, sender_of};
 pub use handled::{ConnectionFault, Deed, Handled};
+pub use response::Response;
 pub use target::{Side, Target, target_of};
 pub use unserved::{NotServed, unread};
 pub use work::{Work, work_of};

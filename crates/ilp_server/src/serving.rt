@@ -81,7 +81,7 @@ fn serve_packet<
 }
 
 // Credits the body as a settlement of the peer, under the key that the request gives.
-fn serve_settlement<
+pub(crate) fn serve_settlement<
     J: Naming,
     C: Clock + Drop,
     U: Uplink + Drop,
@@ -178,7 +178,7 @@ fn serve_message<
 }
 
 // Tells the balances. The copy of the book is made under its lock, and written without it.
-fn serve_report<J: Naming>(
+pub(crate) fn serve_report<J: Naming>(
     rt: &impl Wait,
     alloc: Global,
     desk: &Desk<J>,

@@ -1,21 +1,14 @@
-//! What an intake's thread does: it hands connections to the workers.
+//! What an intake's thread does: it hands connections to the loops of the workers.
 
-use crate::places::Places;
 use crossbeam_channel::Sender;
 use ilp_accounts::Config;
 use ilp_desk::{Desk, Naming};
 use ilp_http::Buffer;
-use ilp_intake::{Admission, Intake, ReadyConnection};
+use ilp_intake::{Admission, Intake};
+use ilp_loops::{Bells, Job, Places};
 use ilp_server::{Side, Work, work_of};
 use std::sync::Wait;
 use std::time::Clock;
-
-/// A connection that is to be served, and the side at which it came.
-#[derive(Drop)]
-pub(crate) struct Job {
-    pub(crate) side: Side,
-    pub(crate) connection: ReadyConnection<Work>,
-}
 
 /// What takes connections in at one side.
 #[derive(Drop)]
@@ -26,7 +19,7 @@ pub(crate) struct Acceptor {
     pub(crate) buffer: Buffer,
 }
 
-// Gives a connection on where there is a place for it with the workers.
+// Gives a connection on where there is a place for it with the loops.
 #[derive(Drop)]
 struct Placing<'a, R> {
     rt: &'a R,
@@ -60,13 +53,14 @@ impl<R: Wait + Clock> Admission for Placing<'_, R> {
     }
 }
 
-/// Hands the connections of one side to the workers, as far as there are places for them, until the
+/// Hands the connections of one side to the loops, as far as there are places for them, until the
 /// intake is closed and none waits there, or its time is over. Then its sender of jobs is dropped:
-/// once both sides' are, the workers know that no more come.
+/// once both sides' are, the loops know that no more come.
 pub(crate) fn accept_all<J: Naming, R: Wait + Clock>(
     rt: &R,
     desk: &Desk<J>,
     places: &Places,
+    bells: &Bells,
     acceptor: Acceptor,
     jobs: Sender<Job>,
 ) {
@@ -89,5 +83,6 @@ pub(crate) fn accept_all<J: Naming, R: Wait + Clock>(
         if jobs.send(rt, Job { side, connection }).is_err() {
             break;
         }
+        bells.ring_one();
     }
 }

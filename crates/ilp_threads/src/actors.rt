@@ -1,30 +1,17 @@
 //! The actors of a desk, ready to be started.
-ghost use Rattle.std.specs.Prelude.{◌≡◌, ◌≤◌, vec_len};
+ghost use Rattle.std.specs.Prelude.{◌≤◌, vec_len};
 
 use crate::pauses::Pauses;
 use crate::turns::PausedSettler;
 use ilp_desk::{Desk, JournalReceipt, Naming, Share};
-use ilp_http::Buffer;
 use ilp_keeping::SharedKeeper;
 use ilp_links::Links;
+use ilp_loops::{Bells, Nobody, Seat, ServingLoop};
 use ilp_settler::{Settler, Sweeper};
-use ilp_workers::{Clock, EngineLink, Keeper, Uplink, Worker};
+use ilp_workers::{Clock, EngineLink, Keeper, Worker};
 use std::alloc::AllocError;
+use std::net::Net;
 use std::sync::Wait;
-
-/// A worker none of whose packets waits, and the buffer into which it reads requests.
-#[derive(Drop)]
-pub(crate) struct Responder<
-    J: Naming,
-    C: Clock + Drop,
-    U: Uplink + Drop,
-    E: EngineLink + Drop,
-    K: Keeper<J> + Drop,
-> {
-    pub(crate) worker: Worker<J, C, U, E, K>,
-    pub(crate) buffer: Buffer,
-    pub(crate) ghost idle: { worker.pending ≡ 0 },
-}
 
 /// What the watcher is given: a clock, a keeper, and what was seen of the journal.
 #[derive(Drop)]
@@ -43,41 +30,24 @@ pub(crate) struct Turning<J: Naming, C: Clock + Drop, E: EngineLink + Drop, K: K
     pub(crate) watching: WatcherLinks<J, C, K>,
 }
 
-/// The actors of a desk, with all the memory that they are given.
+/// The actors of a desk, with all the memory that they are given, and what wakes the workers' loops.
 #[derive(Drop)]
-pub(crate) struct Actors<
-    J: Naming,
-    C: Clock + Drop,
-    U: Uplink + Drop,
-    E: EngineLink + Drop,
-    K: Keeper<J> + Drop,
-> {
-    pub(crate) responders: Vec<Responder<J, C, U, E, K>>,
+pub(crate) struct Actors<J: Naming, C: Clock + Drop, E: EngineLink + Drop, K: Keeper<J> + Drop> {
+    pub(crate) loops: Vec<ServingLoop<J, C, K>>,
+    pub(crate) bells: Bells,
     pub(crate) turning: Turning<J, C, E, K>,
 }
 
 // The actors whose links are made by `L`, and whose keepers are `K`.
-type ActorsOf<J, L, K> = Actors<
-    J,
-    <L as Links>::Clock,
-    <L as Links>::Uplink,
-    <L as Links>::Engine,
-    K,
->;
+type ActorsOf<J, L, K> = Actors<J, <L as Links>::Clock, <L as Links>::Engine, K>;
 
-// A worker whose links are made by `L`, with its buffer.
-type ResponderOf<J, L, K> = Responder<
-    J,
-    <L as Links>::Clock,
-    <L as Links>::Uplink,
-    <L as Links>::Engine,
-    K,
->;
+// A worker's loop whose clock is made by `L`.
+type LoopOf<J, L, K> = ServingLoop<J, <L as Links>::Clock, K>;
 
 /// The actors whose shares these are, the settler's last and the sweeper's before it. Each has a keeper of
-/// its own of the same journal. It is refused where memory is denied.
-pub(crate) fn actors_of<J: Naming, L: Links, K: SharedKeeper<J> + Drop>(
-    rt: &impl Wait,
+/// its own of the same journal. It is refused where memory is denied, or what a loop waits with.
+pub(crate) fn actors_of<J: Naming, N: Wait + Net, L: Links, K: SharedKeeper<J> + Drop>(
+    rt: &N,
     desk: &Desk<J>,
     shares: Vec<Share<J>>,
     links: &L,
@@ -95,7 +65,7 @@ pub(crate) fn actors_of<J: Naming, L: Links, K: SharedKeeper<J> + Drop>(
         pauses: Pauses::new(alloc, desk.config().peers())?,
     };
     let sweeper = Sweeper::new(alloc, sweepers, links.clock());
-    let responders = new_responders(rt, desk, shares, links, &keeper)?;
+    let (loops, bells) = new_loops(rt, desk, shares, links, &keeper)?;
     let watching = WatcherLinks {
         clock: links.clock(),
         keeper,
@@ -107,39 +77,47 @@ pub(crate) fn actors_of<J: Naming, L: Links, K: SharedKeeper<J> + Drop>(
         watching,
     };
     Ok(Actors {
-        responders,
+        loops,
+        bells,
         turning,
     })
 }
 
-fn new_responders<J: Naming, L: Links, K: SharedKeeper<J> + Drop>(
-    rt: &impl Wait,
+fn new_loops<J: Naming, N: Wait + Net, L: Links, K: SharedKeeper<J> + Drop>(
+    rt: &N,
     desk: &Desk<J>,
     shares: Vec<Share<J>>,
     links: &L,
     keeper: &K,
-) -> Result<Vec<ResponderOf<J, L, K>>, AllocError> {
-    let mut responders = Vec::new(desk.config().allocator());
-    for share in shares {
-        responders.push(new_responder(rt, desk, share, links, keeper.another())?)?;
+) -> Result<(Vec<LoopOf<J, L, K>>, Bells), AllocError> {
+    let alloc = desk.config().allocator();
+    let mut loops = Vec::new(alloc);
+    let mut bells = Bells::new(alloc);
+    for (number, share) in shares.into_iter().enumerate() {
+        let Ok((seat, waker)) = Seat::new(rt, alloc, number) else {
+            return Err(AllocError);
+        };
+        bells.add(waker)?;
+        loops.push(new_loop(rt, desk, seat, share, links, keeper.another())?)?;
     }
-    Ok(responders)
+    Ok((loops, bells))
 }
 
-fn new_responder<J: Naming, L: Links, K: Keeper<J> + Drop>(
+fn new_loop<J: Naming, L: Links, K: Keeper<J> + Drop>(
     rt: &impl Wait,
     desk: &Desk<J>,
+    seat: Seat,
     share: Share<J>,
     links: &L,
     keeper: K,
-) -> Result<ResponderOf<J, L, K>, AllocError> {
+) -> Result<LoopOf<J, L, K>, AllocError> {
     let alloc = desk.config().allocator();
-    let buffer = Buffer::new(alloc)?;
-    let uplink = links.uplink()?;
-    let engine = links.engine()?;
     let receipt = desk.receipt(rt);
-    match Worker::new(alloc, share, receipt, links.clock(), uplink, engine, keeper) {
-        Ok(worker) => Ok(Responder { worker, buffer }),
+    match Worker::new(alloc, share, receipt, links.clock(), Nobody, Nobody, keeper) {
+        Ok(worker) => match ServingLoop::new(alloc, seat, worker, links.clock()) {
+            Ok(own) => Ok(own),
+            Err(_) => Err(AllocError),
+        },
         Err(_) => Err(AllocError),
     }
 }

@@ -12,13 +12,9 @@
 
 mod accepting;
 mod actors;
-mod deeds;
 mod fault;
-mod intakes;
 mod open_files;
 mod pauses;
-mod places;
-mod responding;
 mod shutdown;
 mod sides;
 mod threads;

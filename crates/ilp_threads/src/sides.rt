@@ -2,19 +2,17 @@
 ghost use Rattle.std.specs.Prelude.{◌≤◌, vec_len};
 
 use crate::accepting::Acceptor;
-use crate::actors::actors_of;
+use crate::actors::{Actors, actors_of};
 use crate::fault::Unprinted;
-use crate::intakes::{Intakes, ending_after};
 use crate::open_files::{open_files, waiting_by, wanted};
-use crate::places::Places;
-use crate::threads::{Acceptors, Shared, run};
-use crate::watching::Seen;
+use crate::threads::{Acceptors, Running, run};
 use ilp_accounts::Config;
 use ilp_desk::{Desk, End, Naming, Share};
 use ilp_http::Buffer;
 use ilp_intake::{Intake, IntakeHandle, MOST_WAITING, listen};
 use ilp_keeping::SharedKeeper;
 use ilp_links::Links;
+use ilp_loops::{Intakes, Places, Seen, Shared, ending_after};
 use ilp_notices::{few_files, listening, no_thread, not_listening, one_worker};
 use ilp_server::Side;
 use std::io::{Eprint, ErrorKind};
@@ -142,14 +140,18 @@ fn run_between<J, R, L, K>(
 ) -> Result<Vec<End<J>>, Unprinted>
 where
     J: Naming + Send + Sync,
-    R: Threads + Wait + Clock + Eprint + Sync,
+    R: Net + Threads + Wait + Clock + Eprint + Sync,
     L: Links,
     K: SharedKeeper<J> + Drop + Send,
     requires { 2 ≤ vec_len shares }
 {
     let config = desk.config();
-    let actors = actors_of(rt, desk, shares, links, keeper)?;
-    let places = Places::new(config.allocator(), config.workers(), config.peers())?;
+    let Actors {
+        loops,
+        bells,
+        turning,
+    } = actors_of(rt, desk, shares, links, keeper)?;
+    let places = Places::new(config.allocator(), config.in_flight(), config.peers())?;
     let seen = Seen::new();
     let Sides {
         acceptors,
@@ -162,10 +164,11 @@ where
         desk,
         places: &places,
         intakes: &intakes,
+        bells: &bells,
         notices: links.notices(),
         seen: &seen,
     };
-    let ends = run(shared, actors, acceptors, links.hurry());
+    let ends = run(shared, Running { loops, turning }, acceptors, links.hurry());
     if let Err(Unprinted::Spawn) = &ends {
         no_thread(rt);
     }

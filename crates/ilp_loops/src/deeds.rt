@@ -1,7 +1,7 @@
 //! What there is to tell of a connection that was served: a settlement that was credited, or refused
 //! under a key that is taken, and a Reject that went to its sender.
 
-use crate::threads::Shared;
+use crate::shared::Shared;
 use ilp_desk::Naming;
 use ilp_notices::{ShownKey, ToldQuantity};
 use ilp_server::Deed;
@@ -13,7 +13,7 @@ use std::time;
 
 /// Tells what a request brought about, whatever became of its response: a credit, one under a key that
 /// is taken, and that the journal has no room.
-pub(crate) fn tell_deed<J: Naming, R: Wait + time::Clock + Eprint>(
+pub fn tell_deed<J: Naming, R: Wait + time::Clock + Eprint>(
     shared: &Shared<'_, J, R>,
     deed: Deed,
 ) {
@@ -81,7 +81,7 @@ fn credit_at<J: Naming, R: Wait>(shared: &Shared<'_, J, R>, number: u32) -> Opti
 }
 
 /// Counts a Reject whose response was written whole.
-pub(crate) fn count_reject<J: Naming, R: Wait>(shared: &Shared<'_, J, R>, deed: Deed) {
+pub fn count_reject<J: Naming, R: Wait>(shared: &Shared<'_, J, R>, deed: Deed) {
     if let Deed::Rejected { peer, reject } = deed {
         shared.notices.rejected(shared.rt, peer, reject.code());
     }

@@ -13,14 +13,14 @@ const MARGIN_MS: u64 = 10_000;
 
 /// For how long connections that were accepted are still served after a close, where packets are held
 /// for so many milliseconds at most.
-pub(crate) fn ending_after(max_hold_ms: u32) -> Duration {
+pub fn ending_after(max_hold_ms: u32) -> Duration {
     Duration::from_millis(u64::from(max_hold_ms).saturating_add(MARGIN_MS))
 }
 
 /// What reaches the intakes of both sides, and whether what still waits there is served after a close.
 /// Threads share it by reference.
 #[derive(Drop)]
-pub(crate) struct Intakes {
+pub struct Intakes {
     peers: IntakeHandle,
     engines: IntakeHandle,
     // For how long connections are served once it is closed.
@@ -32,7 +32,7 @@ pub(crate) struct Intakes {
 
 impl Intakes {
     /// The intakes of these handles, which accept. After a close they are served for so long.
-    pub(crate) fn new(peers: IntakeHandle, engines: IntakeHandle, after: Duration) -> Intakes {
+    pub fn new(peers: IntakeHandle, engines: IntakeHandle, after: Duration) -> Intakes {
         Intakes {
             peers,
             engines,
@@ -42,7 +42,7 @@ impl Intakes {
     }
 
     /// Has both sides accept no more, and counts the time from here. A second close changes nothing.
-    pub(crate) fn close(&self, rt: &impl Clock) {
+    pub fn close(&self, rt: &impl Clock) {
         if let Ok(now) = rt.monotonic() {
             let over = in_milliseconds(now.saturating_add(self.after));
             let _ = self
@@ -53,13 +53,13 @@ impl Intakes {
     }
 
     /// Has both sides accept no more.
-    pub(crate) fn accept_no_more(&self) {
+    pub fn accept_no_more(&self) {
         self.peers.close();
         self.engines.close();
     }
 
     /// Tells the intakes of these sides that a connection which waits there may be given on now.
-    pub(crate) fn look_again(&self, held_back: HeldBack) {
+    pub fn look_again(&self, held_back: HeldBack) {
         if held_back.peers {
             self.peers.look_again();
         }
@@ -70,7 +70,7 @@ impl Intakes {
 
     /// Has the intake of this side read on, for a moment, what the client of an answered connection
     /// still sends.
-    pub(crate) fn linger(&self, rt: &impl Wait, side: Side, stream: TcpStream) {
+    pub fn linger(&self, rt: &impl Wait, side: Side, stream: TcpStream) {
         match side {
             Side::Ilp => self.peers.linger(rt, stream),
             Side::Engine => self.engines.linger(rt, stream),
@@ -78,7 +78,7 @@ impl Intakes {
     }
 
     /// Whether what has not begun is closed unanswered. While the clock can't be read, nothing is.
-    pub(crate) fn is_over(&self, rt: &impl Clock) -> bool {
+    pub fn is_over(&self, rt: &impl Clock) -> bool {
         match rt.monotonic() {
             Ok(now) => self.over.load(Ordering::SeqCst) <= in_milliseconds(now),
             Err(_) => false,

@@ -1,0 +1,499 @@
+//! What a loop does for the connections that it serves.
+
+use crate::deeds::{count_reject, tell_deed};
+use crate::guest::{Guest, Stage, Written};
+use crate::jobs::Job;
+use crate::nobody::Nobody;
+use crate::shared::Shared;
+use ilp_desk::{End, Naming};
+use ilp_flight::Flight;
+use ilp_http::{Buffer, Status};
+use ilp_links::{Call, Came};
+use ilp_notices::SentHold;
+use ilp_oer::Octets;
+use ilp_server::{Course, Response, Work, begin_request};
+use ilp_workers::{Clock, EngineMessage, HandedJournal, Keeper, PeerMessage, Worker};
+use mio::{Registry, Token};
+use slab::Slab;
+use std::alloc::{AllocError, Global};
+use std::io::Eprint;
+use std::mem;
+use std::net::Net;
+use std::sync::Wait;
+use std::time;
+use std::time::Duration;
+
+/// A worker with all that it has begun, and the connections that it serves.
+#[derive(Drop)]
+pub(crate) struct Serving<J: Naming, C: Clock + Drop, K: Keeper<J> + Drop> {
+    flight: Flight<J, C, Nobody, Nobody, K>,
+    clock: C,
+    guests: Slab<Guest<J>>,
+    // Those whose packet is booked, and those that are over, in this turn.
+    booked: Vec<usize>,
+    over: Vec<usize>,
+    buffer: Buffer,
+    // None of them is to be looked at before.
+    due: Option<Duration>,
+}
+
+impl<J: Naming, C: Clock + Drop, K: Keeper<J> + Drop> Serving<J, C, K> {
+    /// A worker none of whose packets waits, with a clock.
+    pub(crate) fn new(
+        alloc: Global,
+        worker: Worker<J, C, Nobody, Nobody, K>,
+        clock: C,
+    ) -> Result<Serving<J, C, K>, AllocError>
+        requires none { worker.pending ≡ 0 }
+    {
+        Ok(Serving {
+            flight: Flight::new(alloc, worker),
+            clock,
+            guests: Slab::new(alloc),
+            booked: Vec::new(alloc),
+            over: Vec::new(alloc),
+            buffer: Buffer::new(alloc)?,
+            due: None,
+        })
+    }
+
+    /// Whether no connection is served.
+    pub(crate) fn is_idle(&self) -> bool {
+        self.guests.is_empty()
+    }
+
+    /// When one of them is to be looked at, whatever comes.
+    pub(crate) fn due(&self) -> Option<Duration> {
+        self.due
+    }
+
+    /// What the worker hands in.
+    pub(crate) fn into_end(self) -> Option<End<J>> {
+        self.flight.into_end().ok()
+    }
+
+    /// Serves a connection, as far as that is possible without waiting. It is closed unanswered where
+    /// want of memory refuses it, and where the time after a close is over.
+    pub(crate) fn take<R: Wait + time::Clock + Eprint + Net>(
+        &mut self,
+        shared: &Shared<'_, J, R>,
+        registry: &Registry,
+        job: Job,
+        now: Duration,
+    ) {
+        let Job { side, connection } = job;
+        let work = connection.kind;
+        if shared.intakes.is_over(shared.rt) {
+            give_back(shared, work);
+            return;
+        }
+        let (guest, octets) = Guest::new(side, connection);
+        let Some(place) = self.seat(guest) else {
+            give_back(shared, work);
+            return;
+        };
+        let course = begin_request(
+            shared.rt,
+            &mut self.flight,
+            shared.desk,
+            side,
+            octets.as_slice(),
+            &mut self.buffer,
+        );
+        let stage = self.begin(shared, course, now);
+        self.go_on_from(shared, registry, place, stage, now);
+    }
+
+    // Gives a connection its place, with room for it in the lists of a turn.
+    fn seat(&mut self, guest: Guest<J>) -> Option<usize> {
+        let most = self.guests.len().saturating_add(1);
+        self.booked.reserve(most).ok()?;
+        self.over.reserve(most).ok()?;
+        self.guests.insert(guest).ok()
+    }
+
+    // What comes next for a request that was begun.
+    fn begin<R: Wait + time::Clock + Eprint + Net>(
+        &mut self,
+        shared: &Shared<'_, J, R>,
+        course: Course,
+        now: Duration,
+    ) -> Stage<J> {
+        match course {
+            Course::Answered(response) => responds(shared, response, now),
+            Course::Packet { sender, key } => self.call_next(shared, sender, key, now),
+            Course::ToEngine(message) => match shared.outside().call_engine(message.from(), now) {
+                Some(call) => Stage::ToEngine { message, call },
+                None => answered_message(shared, message, None, now),
+            },
+            Course::ToPeer(message) => {
+                let (to, deadline) = (message.to(), message.deadline());
+                let late = self.clock.now();
+                match shared.outside().call_peer(to, None, deadline, late, now) {
+                    Some(call) => Stage::ToPeer { message, call },
+                    None => answered_peer(shared, None, now),
+                }
+            }
+            Course::Unanswered(_) => Stage::Over,
+        }
+    }
+
+    // Begins to call the next peer with the packet that waits under the key.
+    fn call_next<R: Wait + time::Clock + Eprint + Net>(
+        &mut self,
+        shared: &Shared<'_, J, R>,
+        sender: u32,
+        key: usize,
+        now: Duration,
+    ) -> Stage<J> {
+        let late = self.clock.now();
+        let call = match self.flight.waiting.get(key) {
+            Some(pending) => {
+                let prepare = pending.prepare();
+                let held = prepare.held;
+                let hold = SentHold::new(held.number, held.out, &prepare.condition);
+                shared
+                    .outside()
+                    .call_peer(held.to, Some(hold), held.deadline, late, now)
+            }
+            None => None,
+        };
+        match call {
+            Some(call) => Stage::Packet { sender, key, call },
+            None => self.book(shared, sender, key, None),
+        }
+    }
+
+    // Books what came for the packet under the key.
+    fn book<R: Wait>(
+        &mut self,
+        shared: &Shared<'_, J, R>,
+        sender: u32,
+        key: usize,
+        came: Option<Octets>,
+    ) -> Stage<J> {
+        match self.flight.book(shared.rt, shared.desk, key, came) {
+            Some(booked) => Stage::Booked { sender, booked },
+            None => Stage::Over,
+        }
+    }
+
+    /// Goes on with the connection at this place, of which an event tells.
+    pub(crate) fn go_on<R: Wait + time::Clock + Eprint + Net>(
+        &mut self,
+        shared: &Shared<'_, J, R>,
+        registry: &Registry,
+        place: usize,
+        now: Duration,
+    ) {
+        let Some(guest) = self.guests.get_mut(place) else {
+            return;
+        };
+        let stage = mem::replace(&mut guest.stage, Stage::Over);
+        self.go_on_from(shared, registry, place, stage, now);
+    }
+
+    // Goes on with a connection from this stage.
+    fn go_on_from<R: Wait + time::Clock + Eprint + Net>(
+        &mut self,
+        shared: &Shared<'_, J, R>,
+        registry: &Registry,
+        place: usize,
+        stage: Stage<J>,
+        now: Duration,
+    ) {
+        let stage = match stage {
+            Stage::Packet { sender, key, call } => {
+                self.go_on_packet(shared, registry, place, sender, key, call)
+            }
+            Stage::ToEngine { message, call } => {
+                self.go_on_to_engine(shared, registry, place, message, call, now)
+            }
+            Stage::ToPeer { message, call } => {
+                self.go_on_to_peer(shared, registry, place, message, call, now)
+            }
+            other => other,
+        };
+        let stage = match stage {
+            Stage::Responds {
+                response,
+                taken,
+                until,
+            } => self.go_on_writing(shared, registry, place, response, taken, until),
+            other => other,
+        };
+        self.keep_stage(place, stage);
+    }
+
+    // Keeps how far a connection is.
+    fn keep_stage(&mut self, place: usize, stage: Stage<J>) {
+        if let Some(due) = stage.due() {
+            self.due = Some(self.due.unwrap_or(due).min(due));
+        }
+        match &stage {
+            Stage::Booked { .. } => {
+                let _ = self.booked.push(place);
+            }
+            Stage::Over => {
+                let _ = self.over.push(place);
+            }
+            _ => {}
+        }
+        if let Some(guest) = self.guests.get_mut(place) {
+            guest.stage = stage;
+        }
+    }
+
+    fn go_on_packet<R: Wait + time::Clock + Eprint + Net>(
+        &mut self,
+        shared: &Shared<'_, J, R>,
+        registry: &Registry,
+        place: usize,
+        sender: u32,
+        key: usize,
+        call: Call,
+    ) -> Stage<J> {
+        let mut call = call;
+        let came = match self.flight.waiting.get(key) {
+            Some(pending) => call.go_on(
+                &shared.outside(),
+                registry,
+                Token(place),
+                pending.octets(),
+                &mut self.buffer,
+            ),
+            None => Came::Over(None),
+        };
+        match came {
+            Came::NotYet => Stage::Packet { sender, key, call },
+            Came::Over(came) => self.book(shared, sender, key, came),
+        }
+    }
+
+    fn go_on_to_engine<R: Wait + time::Clock + Eprint + Net>(
+        &mut self,
+        shared: &Shared<'_, J, R>,
+        registry: &Registry,
+        place: usize,
+        message: EngineMessage,
+        call: Call,
+        now: Duration,
+    ) -> Stage<J> {
+        let mut call = call;
+        match call.go_on(
+            &shared.outside(),
+            registry,
+            Token(place),
+            message.octets(),
+            &mut self.buffer,
+        ) {
+            Came::NotYet => Stage::ToEngine { message, call },
+            Came::Over(came) => answered_message(shared, message, came, now),
+        }
+    }
+
+    fn go_on_to_peer<R: Wait + time::Clock + Eprint + Net>(
+        &mut self,
+        shared: &Shared<'_, J, R>,
+        registry: &Registry,
+        place: usize,
+        message: PeerMessage,
+        call: Call,
+        now: Duration,
+    ) -> Stage<J> {
+        let mut call = call;
+        match call.go_on(
+            &shared.outside(),
+            registry,
+            Token(place),
+            message.packet(),
+            &mut self.buffer,
+        ) {
+            Came::NotYet => Stage::ToPeer { message, call },
+            Came::Over(came) => answered_peer(shared, came, now),
+        }
+    }
+
+    // Writes a response on, and tells what there is to tell of one that is written whole.
+    fn go_on_writing<R: Wait + time::Clock + Eprint + Net>(
+        &mut self,
+        shared: &Shared<'_, J, R>,
+        registry: &Registry,
+        place: usize,
+        response: Response,
+        taken: usize,
+        until: Duration,
+    ) -> Stage<J> {
+        let Some(guest) = self.guests.get_mut(place) else {
+            return Stage::Over;
+        };
+        let is_stranger = response.status() == Status::Unauthorized;
+        let address = if is_stranger { guest.address() } else { None };
+        match guest.write(registry, Token(place), &response, taken) {
+            Written::Part(taken) => Stage::Responds {
+                response,
+                taken,
+                until,
+            },
+            Written::Failed => Stage::Over,
+            Written::Whole => {
+                count_reject(shared, response.deed());
+                if is_stranger {
+                    shared.notices.wrong_token(shared.rt, address);
+                }
+                if response.closes() {
+                    shared.intakes.close(shared.rt);
+                }
+                Stage::Over
+            }
+        }
+    }
+
+    /// Gives up what is late.
+    pub(crate) fn give_up<R: Wait + time::Clock + Eprint + Net>(
+        &mut self,
+        shared: &Shared<'_, J, R>,
+        registry: &Registry,
+        now: Duration,
+    ) {
+        match self.due {
+            Some(due) if due <= now => {}
+            _ => return,
+        }
+        self.due = None;
+        for place in 0..self.guests.capacity() {
+            let Some(guest) = self.guests.get_mut(place) else {
+                continue;
+            };
+            match guest.stage.due() {
+                Some(due) if due <= now => {
+                    let stage = mem::replace(&mut guest.stage, Stage::Over);
+                    let stage = self.unless_late(shared, stage, now);
+                    self.go_on_from(shared, registry, place, stage, now);
+                }
+                Some(due) => self.due = Some(self.due.unwrap_or(due).min(due)),
+                None => {}
+            }
+        }
+    }
+
+    // The stage, or what comes next where its time is over.
+    fn unless_late<R: Wait + time::Clock + Eprint + Net>(
+        &mut self,
+        shared: &Shared<'_, J, R>,
+        stage: Stage<J>,
+        now: Duration,
+    ) -> Stage<J> {
+        let outside = shared.outside();
+        match stage {
+            Stage::Packet { sender, key, call } if call.give_up(&outside, now) => {
+                self.book(shared, sender, key, None)
+            }
+            Stage::ToEngine { message, call } if call.give_up(&outside, now) => {
+                answered_message(shared, message, None, now)
+            }
+            Stage::ToPeer { message: _, call } if call.give_up(&outside, now) => {
+                answered_peer(shared, None, now)
+            }
+            Stage::Responds { until, .. } if until <= now => Stage::Over,
+            other => other,
+        }
+    }
+
+    /// Ends a turn: the keeper keeps what is booked, once for all of it, and then the senders are told.
+    /// Those whose service is over give back their places.
+    pub(crate) fn end_turn<R: Wait + time::Clock + Eprint + Net>(
+        &mut self,
+        shared: &Shared<'_, J, R>,
+        registry: &Registry,
+        now: Duration,
+    ) {
+        if !self.booked.is_empty() {
+            let handed = self.flight.keep();
+            self.tell(shared, registry, &handed, now);
+        }
+        for _ in 0..self.over.len() {
+            let Some(place) = self.over.pop() else {
+                break;
+            };
+            if let Some(guest) = self.guests.try_remove(place) {
+                leave(shared, registry, guest);
+            }
+        }
+    }
+
+    // Tells the senders of all packets that are booked.
+    fn tell<R: Wait + time::Clock + Eprint + Net>(
+        &mut self,
+        shared: &Shared<'_, J, R>,
+        registry: &Registry,
+        handed: &HandedJournal<J>,
+        now: Duration,
+    ) {
+        for k in 0..self.booked.len() {
+            let place = self.booked[k];
+            let Some(guest) = self.guests.get_mut(place) else {
+                continue;
+            };
+            let stage = match mem::replace(&mut guest.stage, Stage::Over) {
+                Stage::Booked { sender, booked } if booked.behind() <= handed.entries() => {
+                    let response = Response::to_packet(sender, booked.tell(handed));
+                    responds(shared, response, now)
+                }
+                other => other,
+            };
+            self.go_on_from(shared, registry, place, stage, now);
+        }
+        self.booked.clear();
+    }
+}
+
+// A response is to be written from now on. What its request brought about is told whatever becomes of it.
+fn responds<J: Naming, R: Wait + time::Clock + Eprint>(
+    shared: &Shared<'_, J, R>,
+    response: Response,
+    now: Duration,
+) -> Stage<J> {
+    tell_deed(shared, response.deed());
+    Stage::responds(response, now)
+}
+
+// A message of a peer's engine is answered by what came from the engine here.
+fn answered_message<J: Naming, R: Wait + time::Clock + Eprint>(
+    shared: &Shared<'_, J, R>,
+    message: EngineMessage,
+    came: Option<Octets>,
+    now: Duration,
+) -> Stage<J> {
+    let sender = message.from();
+    let answer = message.answer(shared.desk.config(), came);
+    responds(shared, Response::to_packet(sender, answer), now)
+}
+
+// A message of the engine here is answered by what came from the peer.
+fn answered_peer<J: Naming, R: Wait + time::Clock + Eprint>(
+    shared: &Shared<'_, J, R>,
+    came: Option<Octets>,
+    now: Duration,
+) -> Stage<J> {
+    let alloc = shared.desk.config().allocator();
+    let octets = came.as_ref().map(|octets| octets.as_slice());
+    responds(shared, Response::to_message(alloc, octets), now)
+}
+
+// A connection whose service is over gives its place back. The client of a request that was refused may
+// still be sending it: what comes is read on elsewhere for a moment, since a connection that is closed
+// before it was read takes the answer with it.
+fn leave<J: Naming, R: Wait>(shared: &Shared<'_, J, R>, registry: &Registry, guest: Guest<J>) {
+    let work = guest.work;
+    if let Some((side, stream)) = guest.into_lingering(registry) {
+        shared.intakes.linger(shared.rt, side, stream);
+    }
+    give_back(shared, work);
+}
+
+// A place is free again. The intakes ask again where others wait for one.
+fn give_back<J: Naming, R: Wait>(shared: &Shared<'_, J, R>, work: Work) {
+    let held_back = shared.places.give_back_served(shared.rt, work);
+    shared.intakes.look_again(held_back);
+}
