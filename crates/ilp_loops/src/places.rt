@@ -1,4 +1,5 @@
 //! How many connections of each kind the loops have at once, and whose turn it is.
+ghost use Rattle.ilp_flow.specs.Counts.{AreKnownTo};
 
 use crate::jobs::LOCAL_AT_ONCE;
 use ilp_flow::{Flow, Passage};
@@ -42,13 +43,17 @@ impl Remote {
     }
 
     // There is room for as many as may wait, so none is left out.
-    fn list(&mut self, ready: &[Work]) {
+    fn list(&mut self, flow: &Flow, ready: &[Work])
+        ensures { AreKnownTo flow.now self.new.passages.items }
+    {
         self.passages.clear();
         self.places.clear();
         for (place, work) in ready.iter().enumerate() {
-            if let Work::Remote { passage } = work {
-                let _ = self.passages.push(*passage);
-                let _ = self.places.push(place);
+            if let Work::Remote { passage } = *work {
+                if flow.knows(passage) {
+                    let _ = self.passages.push(passage);
+                    let _ = self.places.push(place);
+                }
             }
         }
     }
@@ -185,7 +190,7 @@ impl Taken {
         if local.is_some() && self.local < LOCAL_AT_ONCE {
             return local;
         }
-        self.remote.list(ready);
+        self.remote.list(&self.flow, ready);
         let next = self.flow.next(self.remote.passages.as_slice())?;
         self.remote.places.get(next).copied()
     }
@@ -194,7 +199,9 @@ impl Taken {
         match work {
             Work::Local => self.local = self.local.saturating_add(1),
             Work::Remote { passage } => {
-                let _ = self.flow.begin(passage);
+                if self.flow.knows(passage) {
+                    let _ = self.flow.begin(passage);
+                }
             }
         }
     }
@@ -202,7 +209,11 @@ impl Taken {
     fn give_back(&mut self, work: Work) {
         match work {
             Work::Local => self.local = self.local.saturating_sub(1),
-            Work::Remote { passage } => self.flow.end(passage),
+            Work::Remote { passage } => {
+                if self.flow.knows(passage) {
+                    self.flow.end(passage);
+                }
+            }
         }
     }
 }

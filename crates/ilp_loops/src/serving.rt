@@ -5,6 +5,7 @@ use crate::guest::{Guest, Stage, Written};
 use crate::jobs::Job;
 use crate::nobody::Nobody;
 use crate::shared::Shared;
+use crate::turn::monotonic;
 use ilp_desk::{End, Naming};
 use ilp_flight::Flight;
 use ilp_http::{Buffer, Status};
@@ -121,15 +122,15 @@ impl<J: Naming, C: Clock + Drop, K: Keeper<J> + Drop> Serving<J, C, K> {
     ) -> Stage<J> {
         match course {
             Course::Answered(response) => responds(shared, response, now),
-            Course::Packet { sender, key } => self.call_next(shared, sender, key, now),
+            Course::Packet { sender, key } => self.call_next(shared, sender, key),
             Course::ToEngine(message) => match shared.outside().call_engine(message.from(), now) {
                 Some(call) => Stage::ToEngine { message, call },
                 None => answered_message(shared, message, None, now),
             },
             Course::ToPeer(message) => {
                 let (to, deadline) = (message.to(), message.deadline());
-                let late = self.clock.now();
-                match shared.outside().call_peer(to, None, deadline, late, now) {
+                let (late, began) = self.times(shared);
+                match shared.outside().call_peer(to, None, deadline, late, began) {
                     Some(call) => Stage::ToPeer { message, call },
                     None => answered_peer(shared, None, now),
                 }
@@ -138,15 +139,21 @@ impl<J: Naming, C: Clock + Drop, K: Keeper<J> + Drop> Serving<J, C, K> {
         }
     }
 
+    // How late it is by the clock, and then by the one that never goes back: so what is left until a
+    // deadline by the one has passed by the other no sooner.
+    fn times<R: time::Clock>(&mut self, shared: &Shared<'_, J, R>) -> (i64, Duration) {
+        let late = self.clock.now();
+        (late, monotonic(shared.rt))
+    }
+
     // Begins to call the next peer with the packet that waits under the key.
     fn call_next<R: Wait + time::Clock + Eprint + Net>(
         &mut self,
         shared: &Shared<'_, J, R>,
         sender: u32,
         key: usize,
-        now: Duration,
     ) -> Stage<J> {
-        let late = self.clock.now();
+        let (late, began) = self.times(shared);
         let call = match self.flight.waiting.get(key) {
             Some(pending) => {
                 let prepare = pending.prepare();
@@ -154,7 +161,7 @@ impl<J: Naming, C: Clock + Drop, K: Keeper<J> + Drop> Serving<J, C, K> {
                 let hold = SentHold::new(held.number, held.out, &prepare.condition);
                 shared
                     .outside()
-                    .call_peer(held.to, Some(hold), held.deadline, late, now)
+                    .call_peer(held.to, Some(hold), held.deadline, late, began)
             }
             None => None,
         };

@@ -138,7 +138,7 @@ impl<J: Naming, C: Clock + Drop, K: Keeper<J> + Drop> ServingLoop<J, C, K> {
     }
 }
 
-// The time by the clock that never goes back; none has passed where it can't be read.
-fn monotonic(rt: &impl time::Clock) -> Duration {
+/// The time by the clock that never goes back; none has passed where it can't be read.
+pub(crate) fn monotonic(rt: &impl time::Clock) -> Duration {
     rt.monotonic().unwrap_or(Duration::ZERO)
 }

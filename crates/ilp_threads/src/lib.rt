@@ -12,6 +12,7 @@
 
 mod accepting;
 mod actors;
+mod busy;
 mod fault;
 mod open_files;
 mod pauses;

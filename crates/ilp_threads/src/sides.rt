@@ -1,8 +1,9 @@
 //! The two sides of a connector, and the run of a desk between them.
 ghost use Rattle.std.specs.Prelude.{◌≤◌, vec_len};
 
-use crate::accepting::Acceptor;
+use crate::accepting::{Acceptor, senders};
 use crate::actors::{Actors, actors_of};
+use crate::busy::Busy;
 use crate::fault::Unprinted;
 use crate::open_files::{open_files, waiting_by, wanted};
 use crate::threads::{Acceptors, Running, run};
@@ -77,9 +78,10 @@ where
 {
     let alloc = config.allocator();
     let buffer = Buffer::new(alloc)?;
+    let busy = Busy::new(alloc, config)?;
     let after = ending_after(config.max_hold_ms());
     let opened = match listen(rt, place) {
-        Ok(listener) => Intake::new(rt, alloc, listener, most, after),
+        Ok(listener) => Intake::new(rt, alloc, listener, most, senders(config), after),
         Err(error) => Err(error),
     };
     match opened {
@@ -88,6 +90,7 @@ where
                 side,
                 intake,
                 buffer,
+                busy,
             },
             handle,
         )),

@@ -178,11 +178,12 @@ where
     J: Naming + Send + Sync + 's,
     R: Threads + Wait + time::Clock + Sync + 's,
 {
-    let (rt, desk, places, bells) = (shared.rt, shared.desk, shared.places, shared.bells);
+    let rt = shared.rt;
     let Acceptors { peers, engines } = acceptors;
     let engine_jobs = jobs.clone()?;
-    let peer_thread = scope.spawn(move || accept_all(rt, desk, places, bells, peers, jobs))?;
-    match scope.spawn(move || accept_all(rt, desk, places, bells, engines, engine_jobs)) {
+    let (of_peers, of_engines) = (shared.another(), shared.another());
+    let peer_thread = scope.spawn(move || accept_all(of_peers, peers, jobs))?;
+    match scope.spawn(move || accept_all(of_engines, engines, engine_jobs)) {
         Ok(thread) => thread.join(rt),
         Err(_) => {
             shared.intakes.accept_no_more();
