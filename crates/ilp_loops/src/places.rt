@@ -13,6 +13,8 @@ use std::time::{Clock, Duration};
 /// the senders take turns. Threads share it by reference.
 #[derive(Drop)]
 pub struct Places {
+    in_flight: u32,
+    room: u64,
     taken: Mutex<Taken>,
 }
 
@@ -109,9 +111,12 @@ impl Waits {
 impl Places {
     /// None is taken. So many packets and messages of so many peers and their engines may be in flight.
     pub fn new(alloc: Global, in_flight: u32, peers: u32) -> Result<Places, AllocError> {
+        let flow = Flow::new(alloc, in_flight, peers.saturating_mul(2))?;
         Ok(Places {
+            in_flight,
+            room: flow.room(),
             taken: Mutex::new(Taken {
-                flow: Flow::new(alloc, in_flight, peers.saturating_mul(2))?,
+                flow,
                 local: 0,
                 remote: Remote::new(alloc)?,
                 held_back: HeldBack::NONE,
@@ -121,6 +126,16 @@ impl Places {
                 },
             }),
         })
+    }
+
+    /// How many may be in flight at once.
+    pub fn in_flight(&self) -> u32 {
+        self.in_flight
+    }
+
+    /// How many octets may be in flight at once.
+    pub fn room(&self) -> u64 {
+        self.room
     }
 
     /// Takes a place for one of these connections of a side, those that came first in front, and tells

@@ -3,6 +3,7 @@
 use crate::deeds::{count_reject, tell_deed};
 use crate::guest::{Guest, Stage, Written};
 use crate::jobs::Job;
+use crate::keeping::KeepingAsker;
 use crate::nobody::Nobody;
 use crate::shared::Shared;
 use crate::turn::monotonic;
@@ -407,17 +408,24 @@ impl<J: Naming, C: Clock + Drop, K: Keeper<J> + Drop> Serving<J, C, K> {
         }
     }
 
-    /// Ends a turn: the keeper keeps what is booked, once for all of it, and then the senders are told.
+    /// Ends a turn. The senders of packets that are booked are told: a Fulfill once the journal is kept
+    /// that has it, which one keeping is for all of. Without somebody to ask for that, it is waited for.
     /// Those whose service is over give back their places.
     pub(crate) fn end_turn<R: Wait + time::Clock + Eprint + Net>(
         &mut self,
         shared: &Shared<'_, J, R>,
         registry: &Registry,
+        asker: Option<&KeepingAsker>,
         now: Duration,
     ) {
         if !self.booked.is_empty() {
-            let handed = self.flight.keep();
-            self.tell(shared, registry, &handed, now);
+            self.answer_booked(shared, asker, now);
+            self.send_answers(shared, registry, now);
+        }
+        if let Some(asker) = asker {
+            if !self.booked.is_empty() {
+                asker.ask(shared.rt);
+            }
         }
         for _ in 0..self.over.len() {
             let Some(place) = self.over.pop() else {
@@ -429,29 +437,84 @@ impl<J: Naming, C: Clock + Drop, K: Keeper<J> + Drop> Serving<J, C, K> {
         }
     }
 
-    // Tells the senders of all packets that are booked.
-    fn tell<R: Wait + time::Clock + Eprint + Net>(
+    /// Whether a sender may be told now whose packet was booked before.
+    pub(crate) fn is_ripe<R>(&self, shared: &Shared<'_, J, R>) -> bool {
+        let entries = shared.kept.entries();
+        let mut booked = self.booked.iter();
+        booked.any(|place| match self.guests.get(*place) {
+            Some(guest) => guest.stage.is_behind(entries),
+            None => false,
+        })
+    }
+
+    // Makes the answers of all packets that are booked and kept.
+    fn answer_booked<R: Wait + time::Clock + Eprint>(
         &mut self,
         shared: &Shared<'_, J, R>,
-        registry: &Registry,
-        handed: &HandedJournal<J>,
+        asker: Option<&KeepingAsker>,
         now: Duration,
     ) {
+        match asker {
+            Some(_) => {
+                let handed = shared.kept.lock(shared.rt);
+                self.answer_behind(&handed, now);
+            }
+            None => {
+                let handed = self.flight.keep();
+                self.answer_behind(&handed, now);
+            }
+        }
+    }
+
+    // Makes the answers of the packets that are booked, whose senders may be told behind this journal.
+    fn answer_behind(&mut self, handed: &HandedJournal<J>, now: Duration) {
         for k in 0..self.booked.len() {
-            let place = self.booked[k];
+            let Some(place) = self.booked.get(k).copied() else {
+                return;
+            };
             let Some(guest) = self.guests.get_mut(place) else {
                 continue;
             };
             let stage = match mem::replace(&mut guest.stage, Stage::Over) {
                 Stage::Booked { sender, booked } if booked.behind() <= handed.entries() => {
                     let response = Response::to_packet(sender, booked.tell(handed));
-                    responds(shared, response, now)
+                    Stage::responds(response, now)
                 }
                 other => other,
             };
+            guest.stage = stage;
+        }
+    }
+
+    // Writes the answers that are made. The others wait on.
+    fn send_answers<R: Wait + time::Clock + Eprint + Net>(
+        &mut self,
+        shared: &Shared<'_, J, R>,
+        registry: &Registry,
+        now: Duration,
+    ) {
+        let mut left = 0;
+        for k in 0..self.booked.len() {
+            let Some(place) = self.booked.get(k).copied() else {
+                break;
+            };
+            let Some(guest) = self.guests.get_mut(place) else {
+                continue;
+            };
+            if let Stage::Booked { .. } = guest.stage {
+                if let Some(slot) = self.booked.get_mut(left) {
+                    *slot = place;
+                    left += 1;
+                }
+                continue;
+            }
+            let stage = mem::replace(&mut guest.stage, Stage::Over);
+            if let Stage::Responds { response, .. } = &stage {
+                tell_deed(shared, response.deed());
+            }
             self.go_on_from(shared, registry, place, stage, now);
         }
-        self.booked.clear();
+        self.booked.truncate(left);
     }
 }
 

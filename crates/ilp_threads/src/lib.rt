@@ -22,5 +22,6 @@ mod threads;
 mod turns;
 mod watching;
 
+pub use actors::KeepingWay;
 pub use fault::Unprinted;
 pub use sides::run_desk;
