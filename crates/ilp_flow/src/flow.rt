@@ -64,7 +64,9 @@ impl OfSender {
 }
 
 impl Flow {
-    /// None is in flight. There may be so many in all, of so many senders and receivers.
+    /// None is in flight. There may be so many in all, and half as many, but one at least, of one sender
+    /// or to one receiver. For octets there is room of 8,192 for each that may be, and for 16 at least;
+    /// one sender has half of it. There are so many senders and receivers.
     pub fn new(alloc: Global, most: u32, parties: u32) -> Result<Flow, AllocError>
         ensures counts { IfOk result (λ flow. HasCounts flow [] []) }
         ensures limit { IfOk result (λ flow. limit_of flow ≡ most) }
@@ -140,7 +142,8 @@ impl Flow {
     }
 
     /// Who of those that wait, the first to come in front, begins next: of all that may the one whose
-    /// sender's last turn was longest ago, and of several such the first.
+    /// sender's last turn was longest ago, and of several such the first. Turns are counted up to
+    /// 2^64 - 1, and later ones are alike.
     pub fn next(&self, waiting: &[Passage]) -> Option<usize>
         requires known { AreKnownTo self.now waiting.now }
         ensures { (flying begun : List Passage) → HasCounts self.now flying begun
@@ -156,11 +159,11 @@ impl Flow {
     }
 
     /// Begins this one if it may, and says whether it did: it is in flight from now on, and its sender had
-    /// the last turn. Else nothing changes. The turns are counted, up to 2^64 - 1 of them.
+    /// the last turn. Else nothing changes.
     pub fn begin(&mut self, passage: Passage) -> bool
         requires known { IsKnownTo self.old passage }
         ensures begins { (flying begun : List Passage) → HasCounts self.old flying begun
-            → length begun + 1 < 2 ^ 64 → OnTrue result (Begins self.old self.new flying begun passage) }
+            → OnTrue result (Begins self.old self.new flying begun passage) }
         ensures refuses { (flying begun : List Passage) → HasCounts self.old flying begun
             → OnFalse result (¬ MayBegin (limit_of self.old) flying passage) }
         ensures unchanged { OnFalse result (self.new ≡ self.old) }
@@ -169,6 +172,7 @@ impl Flow {
         if !self.may_begin(passage) {
             return false;
         }
+        // What may begin is far from the ends of these numbers. The count of turns stays at its last.
         self.begun = self.begun.saturating_add(1);
         self.flying = self.flying.saturating_add(1);
         self.octets = self.octets.saturating_add(u64::from(passage.octets));
