@@ -20,7 +20,7 @@ pub trait Admission {
 
     /// The number of whoever sent the request of a connection of this kind. Of many that wait, those of
     /// one sender are closed first.
-    fn sender_of(&self, kind: Self::Kind) -> usize;
+    fn sender_of(&self, kind: Self::Kind) -> u32;
 
     /// A connection of this kind is closed, since too many wait: its client is told where that can be
     /// written without waiting.

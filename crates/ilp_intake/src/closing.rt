@@ -1,5 +1,7 @@
 //! Which connection is closed where too many wait.
-ghost use Rattle.std.specs.Prelude.{◌<◌, vec_len};
+ghost use Rattle.std.specs.Prelude.{◌≡◌, ℕ, ◌<◌, vec_len};
+ghost use Rattle.ilp_flow.specs.declared.waiter.Waiter.TheVariants.{Whole};
+ghost use Rattle.ilp_flow.specs.Fullest.{HasRoomFor};
 
 use crate::admission::Admission;
 use crate::connection::Connection;
@@ -14,15 +16,19 @@ pub(crate) struct Closing {
     waiters: Vec<Waiter>,
     // How many whole requests of each sender wait.
     counts: Vec<usize>,
-    ghost some: { 0 < vec_len counts },
+    // The last of the senders' numbers.
+    last: u32,
+    ghost counted: { last < vec_len counts },
+    ghost known: { HasRoomFor counts.items waiters.items },
 }
 
 impl Closing {
-    /// Of so many connections at most, of so many senders.
-    pub(crate) fn new(alloc: Global, most: usize, senders: usize) -> Result<Closing, AllocError> {
+    /// Of so many connections at most, of senders whose numbers are not above the last.
+    pub(crate) fn new(alloc: Global, most: usize, last: u32) -> Result<Closing, AllocError> {
         Ok(Closing {
             waiters: Vec::with_capacity(alloc, most)?,
-            counts: vec![in alloc; 0; senders.max(1)]?,
+            counts: vec![in alloc; 0; last as usize + 1]?,
+            last,
         })
     }
 
@@ -44,20 +50,32 @@ impl Closing {
         waiting: &[Connection<D::Kind>],
         admission: &D,
     ) {
-        let last = self.counts.len() - 1;
-        self.waiters.clear();
+        self.clear();
         for _ in 0..lingering {
-            let _ = self.waiters.push(Waiter::Lingers);
+            self.add(Waiter::Lingers);
         }
         for connection in waiting {
-            let waiter = match connection.stage() {
-                Stage::Ready { kind, refused: _ } => Waiter::Whole {
-                    sender: admission.sender_of(kind).min(last) as u32,
-                },
-                Stage::Waiting => Waiter::Partial,
-                Stage::Lost => Waiter::Partial,
-            };
-            let _ = self.waiters.push(waiter);
+            match connection.stage() {
+                Stage::Ready { kind, refused: _ } => self.add_whole(admission.sender_of(kind)),
+                Stage::Waiting => self.add(Waiter::Partial),
+                Stage::Lost => self.add(Waiter::Partial),
+            }
         }
+    }
+
+    fn clear(&mut self) {
+        self.waiters.clear();
+    }
+
+    // Adds the whole request of a sender.
+    fn add_whole(&mut self, sender: u32) {
+        let sender = sender.min(self.last);
+        self.add(Waiter::Whole { sender });
+    }
+
+    fn add(&mut self, waiter: Waiter)
+        requires { (sender : ℕ) → waiter ≡ Whole sender → sender < vec_len self.old.counts }
+    {
+        let _ = self.waiters.push(waiter);
     }
 }

@@ -73,12 +73,12 @@ impl<K: Copy> Ready<K> {
 }
 
 impl<K: Copy> Connections<K> {
-    /// None yet. There will be so many at most, but one at least and `MOST_WAITING` at most, of so many
-    /// senders.
+    /// None yet. There will be so many at most, but one at least and `MOST_WAITING` at most, of senders
+    /// whose numbers are not above the last.
     pub(crate) fn new(
         alloc: Global,
         most: usize,
-        senders: usize,
+        last: u32,
     ) -> Result<Connections<K>, AllocError>
         ensures { IfOk result (λ connections. connections.most ≡ max 1 (min most MOST_WAITING)) }
     {
@@ -87,7 +87,7 @@ impl<K: Copy> Connections<K> {
             waiting: Vec::with_capacity(alloc, most)?,
             lingering: Vec::with_capacity(alloc, most)?,
             ready: Ready::new(alloc, most)?,
-            closing: Closing::new(alloc, most, senders)?,
+            closing: Closing::new(alloc, most, last)?,
             most,
             next: 0,
             has_new: false,

@@ -92,7 +92,7 @@ enum Backlog {
 impl<K: Copy> Intake<K> {
     /// The intake of a listening socket, and what reaches it. So many connections wait at most, of
     /// which each has a descriptor: at least 1 and at most `MOST_WAITING`, whatever is asked for. Their
-    /// senders have so many numbers. Once
+    /// senders' numbers are not above the last. Once
     /// it is closed, connections are given on for so long at most. Where memory is denied the error's
     /// kind is `OutOfMemory`.
     pub fn new(
@@ -100,7 +100,7 @@ impl<K: Copy> Intake<K> {
         alloc: Global,
         listener: Listener,
         most: usize,
-        senders: usize,
+        last: u32,
         ending: Duration,
     ) -> io::Result<(Intake<K>, IntakeHandle)> {
         let mut listener = listener;
@@ -117,7 +117,7 @@ impl<K: Copy> Intake<K> {
             events: Events::with_capacity(alloc, MOST_EVENTS)?,
             listener: Some(listener),
             backlog: Backlog::Empty,
-            connections: Connections::new(alloc, most, senders)?,
+            connections: Connections::new(alloc, most, last)?,
             returned,
             ending,
             watch: Watch::new(),

@@ -55,10 +55,10 @@ impl<R: Wait + Clock> Admission for Placing<'_, R> {
         self.places.admit(self.rt, self.side, ready)
     }
 
-    fn sender_of(&self, kind: Work) -> usize {
+    fn sender_of(&self, kind: Work) -> u32 {
         match kind {
-            Work::Remote { passage } => passage.sender as usize,
-            Work::Local => senders(self.config).saturating_sub(1),
+            Work::Remote { passage } => passage.sender,
+            Work::Local => last_sender(self.config),
         }
     }
 
@@ -78,10 +78,10 @@ impl<R: Wait + Clock> Admission for Placing<'_, R> {
     }
 }
 
-/// How many numbers those have who send requests: peers, their engines behind them, and one for all
-/// others.
-pub(crate) fn senders(config: &Config) -> usize {
-    config.peers() as usize * 2 + 1
+/// The last number of those who send requests: peers have the first, their engines those behind, and all
+/// others have this one.
+pub(crate) fn last_sender(config: &Config) -> u32 {
+    config.peers() * 2
 }
 
 /// Hands the connections of one side to the loops, as far as there are places for them, until the

@@ -1,7 +1,7 @@
 //! The two sides of a connector, and the run of a desk between them.
 ghost use Rattle.std.specs.Prelude.{◌≤◌, vec_len};
 
-use crate::accepting::{Acceptor, senders};
+use crate::accepting::{Acceptor, last_sender};
 use crate::actors::{Actors, KeepingWay, actors_of};
 use crate::busy::Busy;
 use crate::fault::Unprinted;
@@ -81,7 +81,7 @@ where
     let busy = Busy::new(alloc, config)?;
     let after = ending_after(config.max_hold_ms());
     let opened = match listen(rt, place) {
-        Ok(listener) => Intake::new(rt, alloc, listener, most, senders(config), after),
+        Ok(listener) => Intake::new(rt, alloc, listener, most, last_sender(config), after),
         Err(error) => Err(error),
     };
     match opened {
