@@ -75,11 +75,7 @@ impl<K: Copy> Ready<K> {
 impl<K: Copy> Connections<K> {
     /// None yet. There will be so many at most, but one at least and `MOST_WAITING` at most, of senders
     /// whose numbers are not above the last.
-    pub(crate) fn new(
-        alloc: Global,
-        most: usize,
-        last: u32,
-    ) -> Result<Connections<K>, AllocError>
+    pub(crate) fn new(alloc: Global, most: usize, last: u32) -> Result<Connections<K>, AllocError>
         ensures { IfOk result (λ connections. connections.most ≡ max 1 (min most MOST_WAITING)) }
     {
         let most = most.min(MOST_WAITING).max(1);

@@ -13,10 +13,7 @@ use std::time;
 
 /// Tells what a request brought about, whatever became of its response: a credit, one under a key that
 /// is taken, and that the journal has no room.
-pub fn tell_deed<J: Naming, R: Wait + time::Clock + Eprint>(
-    shared: &Shared<'_, J, R>,
-    deed: Deed,
-) {
+pub fn tell_deed<J: Naming, R: Wait + time::Clock + Eprint>(shared: &Shared<'_, J, R>, deed: Deed) {
     match deed {
         Deed::Nothing => {}
         Deed::Credited {

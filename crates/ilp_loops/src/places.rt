@@ -140,12 +140,7 @@ impl Places {
 
     /// Takes a place for one of these connections of a side, those that came first in front, and tells
     /// which it is: the first that waits for nobody outside, and else the one that the flow begins next.
-    pub fn admit<R: Wait + Clock>(
-        &self,
-        rt: &R,
-        side: Side,
-        ready: &[Work],
-    ) -> Option<usize> {
+    pub fn admit<R: Wait + Clock>(&self, rt: &R, side: Side, ready: &[Work]) -> Option<usize> {
         let mut taken = self.taken.lock(rt);
         let taken = &mut *taken;
         match taken.choose(ready) {

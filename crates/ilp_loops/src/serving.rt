@@ -19,11 +19,10 @@ use mio::{Registry, Token};
 use slab::Slab;
 use std::alloc::{AllocError, Global};
 use std::io::Eprint;
-use std::mem;
 use std::net::Net;
 use std::sync::Wait;
-use std::time;
 use std::time::Duration;
+use std::{mem, time};
 
 /// A worker with all that it has begun, and the connections that it serves.
 #[derive(Drop)]

@@ -13,9 +13,7 @@ use ilp_desk::{Desk, Naming};
 use ilp_flight::{Flight, NoStart, Started};
 use ilp_http::{Buffer, Request, read_request};
 use ilp_oer::Octets;
-use ilp_workers::{
-    Answer, Clock, EngineLink, EngineMessage, Keeper, PeerMessage, Receipt, Uplink,
-};
+use ilp_workers::{Answer, Clock, EngineLink, EngineMessage, Keeper, PeerMessage, Receipt, Uplink};
 use std::alloc::Global;
 use std::sync::Wait;
 
@@ -64,13 +62,7 @@ pub fn begin_request<
 }
 
 // Begins to serve a request that was read.
-fn begin<
-    J: Naming,
-    C: Clock + Drop,
-    U: Uplink + Drop,
-    E: EngineLink + Drop,
-    K: Keeper<J> + Drop,
->(
+fn begin<J: Naming, C: Clock + Drop, U: Uplink + Drop, E: EngineLink + Drop, K: Keeper<J> + Drop>(
     rt: &impl Wait,
     alloc: Global,
     flight: &mut Flight<J, C, U, E, K>,

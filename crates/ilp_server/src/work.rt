@@ -32,8 +32,7 @@ pub fn work_of(
     side: Side,
     octets: &[u8],
     buffer: &mut Buffer,
-) -> Work
-{
+) -> Work {
     let mut source = octets;
     match read_request(alloc, &mut source, buffer) {
         Ok(request) => work_for(config, side, &request),
@@ -42,8 +41,7 @@ pub fn work_of(
 }
 
 // What a request asks for.
-fn work_for(config: &Config, side: Side, request: &Request<'_>) -> Work
-{
+fn work_for(config: &Config, side: Side, request: &Request<'_>) -> Work {
     match target_of(config, side, request.path) {
         Some(Target::Packet) => match sender_of(config, &request.headers) {
             Some(peer) => work_of_packet(config, peer, request.body),
