@@ -1,5 +1,5 @@
 -- How many packets and messages are in flight at once, and who begins next.
-use Rattle.std.specs.Prelude.{◌≡◌, ℕ, ◌+◌, ◌<◌, ◌≤◌, ◌==◌, ◌/◌, max, List, [], ◌∷◌, length, Option, Some, None, slice_get, count_by, if◌then◌else◌}
+use Rattle.std.specs.Prelude.{◌≡◌, ℕ, ◌+◌, ◌*◌, ◌<◌, ◌≤◌, ◌==◌, ◌/◌, max, List, [], ◌∷◌, length, Option, Some, None, slice_get, count_by, sum_by, if◌then◌else◌}
 use Rattle.ilp_flow.specs.declared.passage.Passage.{Passage}
 
 -- ---- limits
@@ -16,17 +16,33 @@ sent_by sender flying = count_by (λ (p : Passage). p.sender == sender) flying
 abbrev pub bound_for : ℕ → List Passage → ℕ
 bound_for receiver flying = count_by (λ (p : Passage). p.receiver == receiver) flying
 
--- Beside these that are in flight one more may begin.
+-- how many octets there may be in flight, where there may be so many in all: 8,192 of each, and of 16 at least
+abbrev pub room_of : ℕ → ℕ
+room_of most = max 16 most * 8192
+
+-- how many octets are in flight
+abbrev pub octets_in : List Passage → ℕ
+octets_in flying = sum_by (λ (p : Passage). p.octets) flying
+
+-- how many of them are one sender's
+abbrev pub octets_by : ℕ → List Passage → ℕ
+octets_by sender flying = sum_by (λ (p : Passage). if p.sender == sender then p.octets else 0) flying
+
+-- Beside these that are in flight one more may begin. One sender has half of the room for octets at most.
 pub record MayBegin (most : ℕ) (flying : List Passage) (p : Passage) : Type 0 where
   pub in_all : length flying < most
   pub of_sender : sent_by p.sender flying < part_of most
   pub of_receiver : bound_for p.receiver flying < part_of most
+  pub octets : octets_in flying + p.octets ≤ room_of most
+  pub octets_of_sender : octets_by p.sender flying + p.octets ≤ room_of most / 2
 
 -- The limits are kept.
 pub record AreWithin (most : ℕ) (flying : List Passage) : Type 0 where
   pub in_all : length flying ≤ most
   pub of_senders : (sender : ℕ) → sent_by sender flying ≤ part_of most
   pub of_receivers : (receiver : ℕ) → bound_for receiver flying ≤ part_of most
+  pub octets : octets_in flying ≤ room_of most
+  pub octets_of_senders : (sender : ℕ) → octets_by sender flying ≤ room_of most / 2
 
 -- ---- turns
 
