@@ -31,6 +31,7 @@ pub record IsOf (sender : ℕ) (of : OfSender) (flying begun : List Passage) : T
 
 -- The numbers are those of the ones in flight, and of all that began so far, the first to begin in front.
 pub record HasCounts (f : Flow) (flying begun : List Passage) : Type 0 where
+  pub few : f.most < 2 ^ 32
   pub part : f.part ≡ part_of f.most
   pub room : f.room ≡ room_of f.most
   pub in_all : f.flying ≡ length flying
