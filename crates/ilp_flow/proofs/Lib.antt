@@ -1,3 +1,5 @@
 pub mod Counting
+pub mod Ending
+pub mod Limits
 pub mod RowProofs
 pub mod Turns
