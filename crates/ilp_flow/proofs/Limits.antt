@@ -1,9 +1,9 @@
 -- The limits are kept as one begins and as one ends.
-use Rattle.std.proofs.Common.{◌≡◌, ◌≢◌, ℕ, ◌+◌, ◌*◌, ◌/◌, ◌<◌, ◌≤◌, max, List, [], ◌∷◌, ◌++◌, length, sym, ap, subst, arith, ◌⊎◌, inl, inr}
+use Rattle.std.proofs.Common.{◌≡◌, ◌≢◌, ℕ, ◌/◌, ◌≤◌, List, [], ◌∷◌, ◌++◌, subst, arith, ◌⊎◌, inl, inr}
 use Rattle.std.specs.Prelude.{◌==◌, if◌then◌else◌, sum_by}
 use Rattle.std.proofs.lemmas.List.Sums.{sum_by-cons}
 use Rattle.ilp_flow.specs.declared.passage.Passage.{Passage}
-use Rattle.ilp_flow.specs.Flow.{part_of, room_of, sent_by, bound_for, octets_in, octets_by, MayBegin, AreWithin}
+use Rattle.ilp_flow.specs.Flow.{part_of, room_of, sent_by, bound_for, octets_by, MayBegin, AreWithin}
 use Rattle.ilp_flow.proofs.Counting.{sum_in_front, sent_by_own, sent_by_other, bound_for_own, bound_for_other, octets_by_own, octets_by_other, octets_in_more}
 use Rattle.ilp_flow.proofs.Ending.{length_in_front}
 

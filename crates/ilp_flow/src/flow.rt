@@ -9,6 +9,7 @@ use std::alloc::{AllocError, Global};
 
 // How many octets there is room for, for each that may be in flight, and for how many of them at least.
 const OCTETS_OF_EACH: u64 = 8192;
+
 const LEAST_WITH_ROOM: u32 = 16;
 
 /// How many are in flight, of each sender and to each receiver, and when each sender had its last turn.
@@ -68,7 +69,11 @@ impl Flow {
         ensures limit { IfOk result (λ flow. flow.most ≡ most) }
         ensures parties { IfOk result (λ flow. IsFor flow parties) }
     {
-        let never = OfSender { flying: 0, octets: 0, turn: 0 };
+        let never = OfSender {
+            flying: 0,
+            octets: 0,
+            turn: 0,
+        };
         Ok(Flow {
             most,
             part: (most / 2).max(1),

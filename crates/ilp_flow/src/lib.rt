@@ -6,11 +6,13 @@
 //! - The definitions (`specs/Flow.antt`, `specs/Closing.antt`) come to worked rows: `rows`.
 #![tactic(auto)]
 
+mod closing;
 mod flow;
 pub mod laws;
 mod passage;
 mod waiter;
 
+pub use closing::closed_next;
 pub use flow::Flow;
 pub use passage::Passage;
 pub use waiter::Waiter;

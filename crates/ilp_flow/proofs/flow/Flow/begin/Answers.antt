@@ -1,11 +1,9 @@
-use Rattle.std.proofs.Common.{rules, ◌≡◌, ◌^◌, ◌<◌, ◌+◌, ◌-◌, min, List, [], ◌∷◌, ◌++◌, length, ℕ, Some, slice_get, refl, arith}
+use Rattle.std.proofs.Common.{rules, ◌≡◌, length, refl}
 use Rattle.std.specs.Prelude.{vec_len}
 use Rattle.std.proofs.lemmas.Option.{slice_get_read}
-use Rattle.ilp_flow.specs.declared.passage.Passage.{Passage}
 use Rattle.ilp_flow.specs.declared.flow.Flow.{Flow}
 use Rattle.ilp_flow.specs.Flow.{MayBegin}
-use Rattle.ilp_flow.specs.Counts.{HasCounts, Begins}
-use Rattle.ilp_flow.proofs.Counting.{IsAdded, begins}
+use Rattle.ilp_flow.proofs.Counting.{begins}
 use Rattle.ilp_flow.proofs.flow.Flow.begin.Goals as goal
 
 pub returns-clause-counts : goal.returns-clause-counts

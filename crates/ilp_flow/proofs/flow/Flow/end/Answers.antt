@@ -1,9 +1,7 @@
-use Rattle.std.proofs.Common.{rules, ◌≡◌, List, ◌∷◌, ◌++◌, length, ℕ, Some, slice_get, refl}
+use Rattle.std.proofs.Common.{rules, ◌≡◌, length, refl}
 use Rattle.std.specs.Prelude.{vec_len}
 use Rattle.std.proofs.lemmas.Option.{slice_get_read}
-use Rattle.ilp_flow.specs.declared.passage.Passage.{Passage}
 use Rattle.ilp_flow.specs.declared.flow.Flow.{Flow}
-use Rattle.ilp_flow.specs.Counts.{HasCounts}
 use Rattle.ilp_flow.proofs.Ending.{ends}
 use Rattle.ilp_flow.proofs.flow.Flow.end.Goals as goal
 

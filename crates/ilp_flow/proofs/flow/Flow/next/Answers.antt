@@ -1,12 +1,11 @@
-use Rattle.std.proofs.Common.{rules, ◌≡◌, ℕ, ◌+◌, ◌<◌, ◌≤◌, List, length, Some, slice_get, get_or, subst, sym, refl, ◌∙◌, arith}
+use Rattle.std.proofs.Common.{rules, ◌≡◌, ℕ, ◌+◌, length, Some, slice_get, get_or, subst, sym, ◌∙◌, arith}
 use Rattle.std.specs.Prelude.{option_map, vec_len}
 use Rattle.std.proofs.lemmas.Option.{slice_get-get_or, slice_get_read}
 use Rattle.ilp_flow.specs.declared.passage.Passage.{Passage}
 use Rattle.ilp_flow.specs.declared.flow.Turn.{Turn}
-use Rattle.ilp_flow.specs.declared.flow.OfSender.{OfSender}
-use Rattle.ilp_flow.specs.Flow.{MayBegin, BeginsNext, last_turn}
-use Rattle.ilp_flow.specs.Counts.{HasCounts, IsBest, sooner, IsOf}
-use Rattle.ilp_flow.proofs.Turns.{IsPassed, IsWilling, passed_over, taken_up, over}
+use Rattle.ilp_flow.specs.Flow.{MayBegin, BeginsNext}
+use Rattle.ilp_flow.specs.Counts.{IsBest, IsOf}
+use Rattle.ilp_flow.proofs.Turns.{IsWilling, passed_over, taken_up, over}
 use Rattle.ilp_flow.proofs.flow.Flow.next.Goals as goal
 use Rattle.ilp_flow.proofs.flow.Flow.next.Goals.{then-may_begin, else-may_begin}
 
@@ -20,7 +19,7 @@ loop-place-preserved c flying begun counts =
     let at : slice_get waiting n ≡ Some p = slice_get-get_or waiting n d c.loop-place-test.true in
     let before : IsBest most flying begun waiting n c.loop-place.best = c.loop-place.invariant flying begun counts in
     elim c.if-may_begin.branch [
-      | then-may_begin w ↦ 
+      | then-may_begin w ↦
           let may : MayBegin most flying p = w.if-may_begin.ensures flying begun counts in
           let known = c.requires.known n p at in
           let long : vec_len c.args.self.now.senders ≡ length c.args.self.now.senders.items = search rules in
