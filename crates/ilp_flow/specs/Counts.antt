@@ -6,6 +6,10 @@ use Rattle.ilp_flow.specs.declared.flow.OfSender.{OfSender}
 use Rattle.ilp_flow.specs.declared.flow.Turn.{Turn}
 use Rattle.ilp_flow.specs.Flow.{part_of, room_of, sent_by, bound_for, octets_in, octets_by, MayBegin, last_turn}
 
+-- how many may be in flight at once
+abbrev pub limit_of : Flow → ℕ
+limit_of f = f.most
+
 -- there are so many senders and as many receivers
 abbrev pub IsFor : Flow → ℕ → Type 0
 IsFor f parties = (vec_len f.senders ≡ parties) × (vec_len f.receivers ≡ parties)

@@ -2,7 +2,8 @@
 ghost use Rattle.std.specs.Prelude.{◌≡◌, ◌^◌, ◌/◌, ◌<◌, ◌≤◌, ◌+◌, ◌↔◌, IsTrue, List, [], ◌∷◌, ◌++◌, length, IfOk, MatchBool};
 ghost use Rattle.ilp_flow.specs.declared.passage.Passage.{Passage};
 ghost use Rattle.ilp_flow.specs.Flow.{MayBegin, BeginsNext};
-ghost use Rattle.ilp_flow.specs.Counts.{IsFor, IsKnownTo, AreKnownTo, HasCounts, KeepsLimits, Begins, with_one, without_one, sooner};
+ghost use Rattle.std.specs.Bool.{OnTrue, OnFalse};
+ghost use Rattle.ilp_flow.specs.Counts.{limit_of, IsFor, IsKnownTo, AreKnownTo, HasCounts, KeepsLimits, Begins, with_one, without_one, sooner};
 
 use crate::passage::Passage;
 use std::alloc::{AllocError, Global};
@@ -66,7 +67,7 @@ impl Flow {
     /// None is in flight. There may be so many in all, of so many senders and receivers.
     pub fn new(alloc: Global, most: u32, parties: u32) -> Result<Flow, AllocError>
         ensures counts { IfOk result (λ flow. HasCounts flow [] []) }
-        ensures limit { IfOk result (λ flow. flow.most ≡ most) }
+        ensures limit { IfOk result (λ flow. limit_of flow ≡ most) }
         ensures parties { IfOk result (λ flow. IsFor flow parties) }
     {
         let never = OfSender {
@@ -88,7 +89,8 @@ impl Flow {
 
     /// How many are in flight.
     pub fn flying(&self) -> u32
-        ensures { (flying begun : List Passage) → HasCounts self.now flying begun → result ≡ length flying }
+        ensures { (flying begun : List Passage) → HasCounts self.now flying begun
+            → result ≡ length flying }
     {
         self.flying
     }
@@ -97,8 +99,8 @@ impl Flow {
     pub fn may_begin(&self, passage: Passage) -> bool
         requires known { IsKnownTo self.now passage }
         ensures { (flying begun : List Passage) → HasCounts self.now flying begun
-            → MatchBool result (MayBegin self.now.most flying passage)
-            (¬ MayBegin self.now.most flying passage) }
+            → MatchBool result (MayBegin (limit_of self.now) flying passage)
+            (¬ MayBegin (limit_of self.now) flying passage) }
     {
         let of_sender = self.senders[passage.sender as usize];
         let of_receiver = self.receivers[passage.receiver as usize];
@@ -107,14 +109,16 @@ impl Flow {
 
     // Whether there may be one more, of a sender with so many and to a receiver with so many.
     fn has_place(&self, of_sender: OfSender, of_receiver: u32) -> bool
-        ensures { IsTrue result ↔ (self.now.flying < self.now.most) × (of_sender.flying < self.now.part) × (of_receiver < self.now.part) }
+        ensures { IsTrue result ↔ (self.now.flying < self.now.most)
+            × (of_sender.flying < self.now.part) × (of_receiver < self.now.part) }
     {
         self.flying < self.most && of_sender.flying < self.part && of_receiver < self.part
     }
 
     // Whether so many octets more find room, of a sender with so many.
     fn has_room(&self, of_sender: OfSender, octets: u32) -> bool
-        ensures { IsTrue result ↔ (self.now.octets + octets ≤ self.now.room) × (of_sender.octets + octets ≤ self.now.room / 2) }
+        ensures { IsTrue result ↔ (self.now.octets + octets ≤ self.now.room)
+            × (of_sender.octets + octets ≤ self.now.room / 2) }
     {
         fits(self.octets, octets, self.room) && fits(of_sender.octets, octets, self.room / 2)
     }
@@ -124,7 +128,7 @@ impl Flow {
     pub fn next(&self, waiting: &[Passage]) -> Option<usize>
         requires known { AreKnownTo self.now waiting.now }
         ensures { (flying begun : List Passage) → HasCounts self.now flying begun
-            → BeginsNext self.now.most flying begun waiting.now result }
+            → BeginsNext (limit_of self.now) flying begun waiting.now result }
     {
         let mut best: Option<Turn> = None;
         for (place, passage) in waiting.iter().enumerate() {
@@ -135,14 +139,15 @@ impl Flow {
         best.map(|turn| turn.place)
     }
 
-    /// Begins this one if it may, and says whether it did: it is in flight from now on, and its sender has
-    /// had its turn. Else nothing changes. Turns are counted up to 2^64 - 1.
+    /// Begins this one if it may, and says whether it did: it is in flight from now on, and its sender had
+    /// the last turn. Else nothing changes. The turns are counted, up to 2^64 - 1 of them.
     pub fn begin(&mut self, passage: Passage) -> bool
         requires known { IsKnownTo self.old passage }
-        ensures counts { (flying begun : List Passage) → HasCounts self.old flying begun
-            → length begun + 1 < 2 ^ 64
-            → MatchBool result (Begins self.old self.new flying begun passage)
-            ((¬ MayBegin self.old.most flying passage) × (self.new ≡ self.old)) }
+        ensures begins { (flying begun : List Passage) → HasCounts self.old flying begun
+            → length begun + 1 < 2 ^ 64 → OnTrue result (Begins self.old self.new flying begun passage) }
+        ensures refuses { (flying begun : List Passage) → HasCounts self.old flying begun
+            → OnFalse result (¬ MayBegin (limit_of self.old) flying passage) }
+        ensures unchanged { OnFalse result (self.new ≡ self.old) }
         ensures limits { KeepsLimits self.old self.new }
     {
         if !self.may_begin(passage) {
@@ -158,7 +163,8 @@ impl Flow {
         true
     }
 
-    /// One that is in flight ends, and is in flight no longer.
+    /// One that is in flight ends, and is in flight no longer. Of one that wasn't, nothing is said; no
+    /// number falls below 0.
     pub fn end(&mut self, passage: Passage)
         requires known { IsKnownTo self.old passage }
         ensures counts { (before after begun : List Passage)

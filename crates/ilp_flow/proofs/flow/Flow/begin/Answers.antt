@@ -6,8 +6,8 @@ use Rattle.ilp_flow.specs.Flow.{MayBegin}
 use Rattle.ilp_flow.proofs.Counting.{begins}
 use Rattle.ilp_flow.proofs.flow.Flow.begin.Goals as goal
 
-pub returns-clause-counts : goal.returns-clause-counts
-returns-clause-counts c flying begun counts turns =
+pub returns-clause-begins : goal.returns-clause-begins
+returns-clause-begins c flying begun counts turns =
     let f : Flow = c.args.self.now in
     let p = c.args.passage in
     let may : MayBegin f.most flying p = c.if-not-may_begin.ensures flying begun counts in
