@@ -87,6 +87,14 @@ impl Flow {
         })
     }
 
+    /// Whether the sender and the receiver of it are among these parties.
+    pub fn knows(&self, passage: Passage) -> bool
+        ensures { IsTrue result ↔ IsKnownTo self.now passage }
+    {
+        (passage.sender as usize) < self.senders.len()
+            && (passage.receiver as usize) < self.receivers.len()
+    }
+
     /// How many are in flight.
     pub fn flying(&self) -> u32
         ensures { (flying begun : List Passage) → HasCounts self.now flying begun
