@@ -7,7 +7,7 @@ use Rattle.std.proofs.lemmas.List.Sums.{sum_by-cons, sum_by-append}
 use Rattle.ilp_flow.specs.declared.passage.Passage.{Passage}
 use Rattle.ilp_flow.specs.declared.flow.Flow.{Flow}
 use Rattle.ilp_flow.specs.declared.flow.OfSender.{OfSender}
-use Rattle.ilp_flow.specs.Flow.{part_of, room_of, sent_by, bound_for, octets_in, octets_by, MayBegin, last_turn_from}
+use Rattle.ilp_flow.specs.Flow.{part_of, room_of, sent_by, bound_for, octets_in, octets_by, MayBegin, last_turn_from, LAST_TURN}
 use Rattle.ilp_flow.specs.Counts.{HasCounts, IsOf, with_one}
 
 -- ---- sums with one more
@@ -64,11 +64,11 @@ last_turn_from_other sender last n (q ∷ begun) p other = last_turn_from_other 
 -- ---- what is counted of one sender
 
 -- of its own one that begins
-is_own : (p : Passage) (flying begun : List Passage) (old new : OfSender) → IsOf p.sender old flying begun → new.flying ≡ old.flying + 1 → new.octets ≡ old.octets + p.octets → new.turn ≡ length begun + 1 → IsOf p.sender new (p ∷ flying) (begun ++ p ∷ [])
+is_own : (p : Passage) (flying begun : List Passage) (old new : OfSender) → IsOf p.sender old flying begun → new.flying ≡ old.flying + 1 → new.octets ≡ old.octets + p.octets → new.turn ≡ min (length begun + 1) LAST_TURN → IsOf p.sender new (p ∷ flying) (begun ++ p ∷ [])
 is_own p flying begun old new is sent octets turn = record {
   sent = omega (arith, sent, is.sent, sent_by_own p flying);
   octets = omega (arith, octets, is.octets, octets_by_own p flying);
-  turn = omega (arith, turn, last_turn_from_own 0 1 begun p);
+  turn = turn ∙ ap (λ (n : ℕ). min n LAST_TURN) (sym (last_turn_from_own 0 1 begun p ∙ omega arith));
 }
 
 -- of another's
@@ -76,7 +76,7 @@ is_other : (sender : ℕ) (p : Passage) (flying begun : List Passage) (of : OfSe
 is_other sender p flying begun of other is = record {
   sent = omega (arith, is.sent, sent_by_other sender p flying other);
   octets = omega (arith, is.octets, octets_by_other sender p flying other);
-  turn = is.turn ∙ sym (last_turn_from_other sender 0 1 begun p other);
+  turn = is.turn ∙ ap (λ (n : ℕ). min n LAST_TURN) (sym (last_turn_from_other sender 0 1 begun p other));
 }
 
 -- ---- what stands in a list of which one place was written
@@ -93,7 +93,7 @@ get_written (z ∷ xs) (suc place) y (suc k) x at = elim (get_written xs place y
 
 -- ---- one more begins
 
-added_sender : (f : Flow) (p : Passage) (flying begun : List Passage) (old new : OfSender) → HasCounts f flying begun → IsOf p.sender old flying begun → new.flying ≡ old.flying + 1 → new.octets ≡ old.octets + p.octets → new.turn ≡ length begun + 1
+added_sender : (f : Flow) (p : Passage) (flying begun : List Passage) (old new : OfSender) → HasCounts f flying begun → IsOf p.sender old flying begun → new.flying ≡ old.flying + 1 → new.octets ≡ old.octets + p.octets → new.turn ≡ min (length begun + 1) LAST_TURN
     → (k : ℕ) (of : OfSender) → slice_get (slice_set f.senders.items p.sender new) k ≡ Some of → IsOf k of (p ∷ flying) (begun ++ p ∷ [])
 added_sender f p flying begun old new counts is sent octets turn k of at = elim (get_written f.senders.items p.sender new k of at) [
   | inl same ↦ subst (λ (j : ℕ). IsOf j of (p ∷ flying) (begun ++ p ∷ [])) (sym same.0) (subst (λ (it : OfSender). IsOf p.sender it (p ∷ flying) (begun ++ p ∷ [])) (sym same.1) (is_own p flying begun old new is sent octets turn))
@@ -126,22 +126,26 @@ pub record IsAdded (f g : Flow) (p : Passage) (old new : OfSender) (was count : 
 whole : (n top : ℕ) → n ≤ top → min n top ≡ n
 whole n top within = grind arith
 
+-- the count of turns stays at the last
+one_turn_more : (n : ℕ) → min (min n LAST_TURN + 1) LAST_TURN ≡ min (n + 1) LAST_TURN
+one_turn_more n = grind arith
+
 part_within : (most : ℕ) → most < 2 ^ 32 → part_of most < 2 ^ 32
 part_within most within = grind arith
 
 room_within : (most : ℕ) → most < 2 ^ 32 → room_of most < 2 ^ 46
 room_within most within = grind arith
 
-pub begins : (f g : Flow) (p : Passage) (flying begun : List Passage) (old new : OfSender) (was count : ℕ) → HasCounts f flying begun → MayBegin f.most flying p → length begun + 1 < 2 ^ 64 → IsAdded f g p old new was count → HasCounts g (p ∷ flying) (begun ++ p ∷ [])
-begins f g p flying begun old new was count counts may turns added =
+pub begins : (f g : Flow) (p : Passage) (flying begun : List Passage) (old new : OfSender) (was count : ℕ) → HasCounts f flying begun → MayBegin f.most flying p → IsAdded f g p old new was count → HasCounts g (p ∷ flying) (begun ++ p ∷ [])
+begins f g p flying begun old new was count counts may added =
     let small = part_within f.most counts.few in
     let fits = room_within f.most counts.few in
     let is : IsOf p.sender old flying begun = counts.of_senders p.sender old added.has_old in
     let to : was ≡ bound_for p.receiver flying = counts.of_receivers p.receiver was added.was_count in
-    let turn : g.begun ≡ length begun + 1 = omega (arith, added.turns, counts.turns, whole (f.begun + 1) (2 ^ 64 - 1) (omega (arith, counts.turns, turns))) in
+    let turn : g.begun ≡ min (length begun + 1) LAST_TURN = added.turns ∙ (ap (λ (n : ℕ). min (n + 1) LAST_TURN) counts.turns ∙ one_turn_more (length begun)) in
     let sent : new.flying ≡ old.flying + 1 = ap (λ (of : OfSender). of.flying) added.of_sender ∙ whole (old.flying + 1) (2 ^ 32 - 1) (omega (arith, is.sent, may.of_sender, small)) in
     let octets : new.octets ≡ old.octets + p.octets = ap (λ (of : OfSender). of.octets) added.of_sender ∙ whole (old.octets + p.octets) (2 ^ 64 - 1) (omega (arith, is.octets, may.octets_of_sender, fits)) in
-    let in_turn : new.turn ≡ length begun + 1 = ap (λ (of : OfSender). of.turn) added.of_sender ∙ turn in
+    let in_turn : new.turn ≡ min (length begun + 1) LAST_TURN = ap (λ (of : OfSender). of.turn) added.of_sender ∙ turn in
     let one_more : count ≡ bound_for p.receiver flying + 1 = omega (arith, added.of_receiver, to, whole (was + 1) (2 ^ 32 - 1) (omega (arith, to, may.of_receiver, small))) in
     record {
       few = omega (arith, added.most, counts.few);
@@ -149,7 +153,7 @@ begins f g p flying begun old new was count counts may turns added =
       room = added.room ∙ (counts.room ∙ ap room_of (sym added.most));
       in_all = omega (arith, added.flying, counts.in_all, whole (f.flying + 1) (2 ^ 32 - 1) (omega (arith, counts.in_all, may.in_all, counts.few)));
       octets = omega (arith, added.octets, counts.octets, octets_in_more p flying, whole (f.octets + p.octets) (2 ^ 64 - 1) (omega (arith, counts.octets, may.octets, fits)));
-      turns = omega (arith, turn, length_push begun p);
+      turns = turn ∙ ap (λ (n : ℕ). min n LAST_TURN) (sym (length_push begun p));
       of_senders = subst (λ (xs : List OfSender). (k : ℕ) (of : OfSender) → slice_get xs k ≡ Some of → IsOf k of (p ∷ flying) (begun ++ p ∷ [])) (sym added.senders) (added_sender f p flying begun old new counts is sent octets in_turn);
       of_receivers = subst (λ (xs : List ℕ). (k c : ℕ) → slice_get xs k ≡ Some c → c ≡ bound_for k (p ∷ flying)) (sym added.receivers) (added_receiver f p flying begun count counts one_more);
     }

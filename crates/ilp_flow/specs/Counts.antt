@@ -4,7 +4,7 @@ use Rattle.ilp_flow.specs.declared.passage.Passage.{Passage}
 use Rattle.ilp_flow.specs.declared.flow.Flow.{Flow}
 use Rattle.ilp_flow.specs.declared.flow.OfSender.{OfSender}
 use Rattle.ilp_flow.specs.declared.flow.Turn.{Turn}
-use Rattle.ilp_flow.specs.Flow.{part_of, room_of, sent_by, bound_for, octets_in, octets_by, MayBegin, last_turn}
+use Rattle.ilp_flow.specs.Flow.{part_of, room_of, sent_by, bound_for, octets_in, octets_by, MayBegin, last_turn, LAST_TURN}
 
 -- how many may be in flight at once
 abbrev pub limit_of : Flow → ℕ
@@ -40,7 +40,7 @@ pub record HasCounts (f : Flow) (flying begun : List Passage) : Type 0 where
   pub room : f.room ≡ room_of f.most
   pub in_all : f.flying ≡ length flying
   pub octets : f.octets ≡ octets_in flying
-  pub turns : f.begun ≡ length begun
+  pub turns : f.begun ≡ min (length begun) LAST_TURN
   pub of_senders : (k : ℕ) (of : OfSender) → slice_get f.senders.items k ≡ Some of → IsOf k of flying begun
   pub of_receivers : (k count : ℕ) → slice_get f.receivers.items k ≡ Some count → count ≡ bound_for k flying
 

@@ -1,5 +1,5 @@
 -- How many packets and messages are in flight at once, and who begins next.
-use Rattle.std.specs.Prelude.{◌≡◌, ℕ, ◌+◌, ◌*◌, ◌<◌, ◌≤◌, ◌==◌, ◌/◌, max, List, [], ◌∷◌, length, Option, Some, None, slice_get, count_by, sum_by, if◌then◌else◌}
+use Rattle.std.specs.Prelude.{◌≡◌, ℕ, ◌+◌, ◌-◌, ◌*◌, ◌^◌, ◌<◌, ◌≤◌, ◌==◌, ◌/◌, min, max, List, [], ◌∷◌, length, Option, Some, None, slice_get, count_by, sum_by, if◌then◌else◌}
 use Rattle.ilp_flow.specs.declared.passage.Passage.{Passage}
 
 -- ---- limits
@@ -46,13 +46,17 @@ pub record AreWithin (most : ℕ) (flying : List Passage) : Type 0 where
 
 -- ---- turns
 
--- When a sender began last, of those that began, the first of them in front: 0 where it never did, 1 where it was the first.
+-- the greatest number of a turn: all later ones have it too
+abbrev pub LAST_TURN : ℕ
+LAST_TURN = 2 ^ 64 - 1
+
 abbrev pub last_turn_from : ℕ → ℕ → ℕ → List Passage → ℕ
 last_turn_from sender last n [] = last
 last_turn_from sender last n (p ∷ begun) = last_turn_from sender (if p.sender == sender then n else last) (n + 1) begun
 
+-- When a sender began last, of those that began, the first of them in front: 0 where it never did, 1 where it was the first.
 abbrev pub last_turn : ℕ → List Passage → ℕ
-last_turn sender begun = last_turn_from sender 0 1 begun
+last_turn sender begun = min (last_turn_from sender 0 1 begun) LAST_TURN
 
 -- Of those that wait, the first to come in front, this one begins next: it may, and of all that may it is of the sender whose last turn
 -- was longest ago; of several such it came first.

@@ -132,7 +132,8 @@ impl Flow {
     }
 
     /// Who of those that wait, the first to come in front, begins next: of all that may the one whose
-    /// sender's last turn was longest ago, and of several such the first.
+    /// sender's last turn was longest ago, and of several such the first. Turns are counted up to
+    /// 2^64 - 1, and later ones are alike.
     pub fn next(&self, waiting: &[Passage]) -> Option<usize>
         requires known { AreKnownTo self.now waiting.now }
         ensures { (flying begun : List Passage) → HasCounts self.now flying begun
@@ -148,11 +149,11 @@ impl Flow {
     }
 
     /// Begins this one if it may, and says whether it did: it is in flight from now on, and its sender had
-    /// the last turn. Else nothing changes. The turns are counted, up to 2^64 - 1 of them.
+    /// the last turn. Else nothing changes.
     pub fn begin(&mut self, passage: Passage) -> bool
         requires known { IsKnownTo self.old passage }
         ensures begins { (flying begun : List Passage) → HasCounts self.old flying begun
-            → length begun + 1 < 2 ^ 64 → OnTrue result (Begins self.old self.new flying begun passage) }
+            → OnTrue result (Begins self.old self.new flying begun passage) }
         ensures refuses { (flying begun : List Passage) → HasCounts self.old flying begun
             → OnFalse result (¬ MayBegin (limit_of self.old) flying passage) }
         ensures unchanged { OnFalse result (self.new ≡ self.old) }

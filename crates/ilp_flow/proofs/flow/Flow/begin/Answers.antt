@@ -7,7 +7,7 @@ use Rattle.ilp_flow.proofs.Counting.{begins}
 use Rattle.ilp_flow.proofs.flow.Flow.begin.Goals as goal
 
 pub returns-clause-begins : goal.returns-clause-begins
-returns-clause-begins c flying begun counts turns =
+returns-clause-begins c flying begun counts =
     let f : Flow = c.args.self.now in
     let p = c.args.passage in
     let may : MayBegin f.most flying p = c.if-not-may_begin.ensures flying begun counts in
@@ -17,7 +17,7 @@ returns-clause-begins c flying begun counts turns =
     let was = slice_get_read f.receivers.items _ p.receiver c.index-2.result.now wide c.requires.known.1 c.index-2.ensures in
     record {
       may = may;
-      counts = begins f _ p flying begun c.index.result.now c.with_one.result c.index-2.result.now c.saturating_add.result counts may turns (record {
+      counts = begins f _ p flying begun c.index.result.now c.with_one.result c.index-2.result.now c.saturating_add.result counts may (record {
         most = refl;
         part = refl;
         room = refl;
