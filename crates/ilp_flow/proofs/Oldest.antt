@@ -8,7 +8,7 @@ use Rattle.std.proofs.lemmas.List.Sums.{sum_by-cons}
 use Rattle.std.proofs.lemmas.Option.{slice_get-get_or, get_or_from_slice_get}
 use Rattle.ilp_flow.specs.declared.waiter.Waiter.{Waiter}
 use Rattle.ilp_flow.specs.declared.waiter.Waiter.TheVariants.{Lingers, Partial, Whole}
-use Rattle.ilp_flow.specs.Closing.{IsOldest, IsNone, lingers, is_partial}
+use Rattle.ilp_flow.specs.Closing.{IsOldest, HasNone, lingers, is_partial}
 use Rattle.ilp_flow.specs.Fullest.{HasNoWhole}
 
 pub oldest_is : (test : Waiter → Bool) (waiters : List Waiter) (place : ℕ) → position test waiters ≡ Some place → IsOldest test waiters place
@@ -35,15 +35,15 @@ none_passes test (w ∷ waiters) all = by (none_passes test waiters) (test w) re
         let counted = count_of test w waiters false e in
         omega (arith, counted, rest (omega (arith, more)))
 
-pub none_is : (test : Waiter → Bool) (waiters : List Waiter) → position test waiters ≡ None → IsNone test waiters
+pub none_is : (test : Waiter → Bool) (waiters : List Waiter) → position test waiters ≡ None → HasNone test waiters
 none_is test waiters none = none_passes test waiters (grind (arith, nat_tests))
 
 -- ---- each waiter is of some kind
 
-first_counts : (test : Waiter → Bool) (w : Waiter) (waiters : List Waiter) → test w ≡ true → IsNone test (w ∷ waiters) → ⊥
+first_counts : (test : Waiter → Bool) (w : Waiter) (waiters : List Waiter) → test w ≡ true → HasNone test (w ∷ waiters) → ⊥
 first_counts test w waiters is none = let one = count_of test w waiters true is in omega (arith, one, none)
 
-pub none_waits : (waiters : List Waiter) → IsNone lingers waiters → IsNone is_partial waiters → HasNoWhole waiters → waiters ≡ []
+pub none_waits : (waiters : List Waiter) → HasNone lingers waiters → HasNone is_partial waiters → HasNoWhole waiters → waiters ≡ []
 none_waits [] lingering partial whole = refl
 none_waits (Lingers ∷ waiters) lingering partial whole = absurd (first_counts lingers Lingers waiters refl lingering)
 none_waits (Partial ∷ waiters) lingering partial whole = absurd (first_counts is_partial Partial waiters refl partial)

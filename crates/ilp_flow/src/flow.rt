@@ -64,7 +64,9 @@ impl OfSender {
 }
 
 impl Flow {
-    /// None is in flight. There may be so many in all, of so many senders and receivers.
+    /// None is in flight. There may be so many in all, and half as many, but one at least, of one sender
+    /// or to one receiver. For octets there is room of 8,192 for each that may be, and for 16 at least;
+    /// one sender has half of it. There are so many senders and receivers.
     pub fn new(alloc: Global, most: u32, parties: u32) -> Result<Flow, AllocError>
         ensures counts { IfOk result (λ flow. HasCounts flow [] []) }
         ensures limit { IfOk result (λ flow. limit_of flow ≡ most) }
