@@ -1,2 +1,7 @@
+pub mod Counting
+pub mod Ending
+pub mod Limits
+pub mod Most
+pub mod Oldest
 pub mod RowProofs
 pub mod Turns

@@ -29,16 +29,22 @@ pub flow_rows : FlowRows
 flow_rows = record {
   part_of_one = refl;
   part_of_five = refl;
-  another_sender = record { in_all = lit< tt; of_sender = lit< tt; of_receiver = lit< tt };
+  room_of_one = refl;
+  room_of_twenty = refl;
+  another_sender = record { in_all = lit< tt; of_sender = lit< tt; of_receiver = lit< tt; octets = omega arith; octets_of_sender = omega arith };
   same_sender = of_sender_0 7;
   same_receiver = λ may. let below : 2 < 2 = may.of_receiver in omega (arith, below);
   none_in_all = λ may. let below : 2 < 2 = may.in_all in omega (arith, below);
+  octets_fit = record { in_all = lit< tt; of_sender = lit< tt; of_receiver = lit< tt; octets = omega arith; octets_of_sender = omega arith };
+  octets_of_sender = λ may. let below : 65537 ≤ 65536 = may.octets_of_sender in omega (arith, below);
+  octets_of_another = record { in_all = lit< tt; of_sender = lit< tt; of_receiver = lit< tt; octets = omega arith; octets_of_sender = omega arith };
+  octets_in_all = λ may. let below : 131073 ≤ 131072 = may.octets in omega (arith, below);
   never_began = refl;
   began_last = refl;
   next = record {
     passage = from_to 2 5;
     stands = refl;
-    may = record { in_all = lit< tt; of_sender = lit< tt; of_receiver = lit< tt };
+    may = record { in_all = lit< tt; of_sender = lit< tt; of_receiver = lit< tt; octets = omega arith; octets_of_sender = omega arith };
     longest = λ k other at may. let none : last_turn 2 three_begun ≡ 0 = refl in omega (arith, none);
     first = first;
   };

@@ -12,7 +12,7 @@ passage_is : {p q : Passage} → ◌≡◌ {A = Option Passage} (Some p) (Some q
 passage_is e = cc
 
 -- one of the first n + 1 is one of the first n, or the next
-below_or_next : (k n : ℕ) → k < n + 1 → (k < n) ⊎ (k ≡ n)
+pub below_or_next : (k n : ℕ) → k < n + 1 → (k < n) ⊎ (k ≡ n)
 below_or_next k n below = grind arith
 
 -- the one that may not begin isn't the one that stands at n

@@ -27,8 +27,8 @@ pub record IsOldest (test : Waiter → Bool) (waiters : List Waiter) (place : �
   pub none_older : (k : ℕ) (other : Waiter) → k < place → slice_get waiters k ≡ Some other → test other ≡ false
 
 -- The test is true of none.
-abbrev pub IsNone : (Waiter → Bool) → List Waiter → Type 0
-IsNone test waiters = count_by test waiters ≡ 0
+abbrev pub HasNone : (Waiter → Bool) → List Waiter → Type 0
+HasNone test waiters = count_by test waiters ≡ 0
 
 -- It is a whole request, of a sender of whom most wait, and the newest of all such.
 pub record IsOfMost (waiters : List Waiter) (place : ℕ) : Type 0 where
@@ -42,4 +42,4 @@ pub record IsOfMost (waiters : List Waiter) (place : ℕ) : Type 0 where
 abbrev pub IsClosedNext : List Waiter → ℕ → Type 0
 IsClosedNext waiters place =
     IsOldest lingers waiters place
-    ⊎ (IsNone lingers waiters × (IsOldest is_partial waiters place ⊎ (IsNone is_partial waiters × IsOfMost waiters place)))
+    ⊎ (HasNone lingers waiters × (IsOldest is_partial waiters place ⊎ (HasNone is_partial waiters × IsOfMost waiters place)))

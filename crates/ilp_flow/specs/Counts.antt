@@ -1,10 +1,14 @@
 -- What is counted of the packets and messages that are in flight.
-use Rattle.std.specs.Prelude.{◌≡◌, ℕ, ◌<◌, ◌≤◌, nat_le, List, length, Option, Some, None, slice_get, vec_len, if◌then◌else◌}
+use Rattle.std.specs.Prelude.{◌≡◌, ℕ, ◌+◌, ◌-◌, ◌^◌, ◌<◌, ◌≤◌, nat_le, min, List, [], ◌∷◌, ◌++◌, length, Option, Some, None, slice_get, vec_len, if◌then◌else◌}
 use Rattle.ilp_flow.specs.declared.passage.Passage.{Passage}
 use Rattle.ilp_flow.specs.declared.flow.Flow.{Flow}
 use Rattle.ilp_flow.specs.declared.flow.OfSender.{OfSender}
 use Rattle.ilp_flow.specs.declared.flow.Turn.{Turn}
-use Rattle.ilp_flow.specs.Flow.{part_of, sent_by, bound_for, MayBegin, last_turn}
+use Rattle.ilp_flow.specs.Flow.{part_of, room_of, sent_by, bound_for, octets_in, octets_by, MayBegin, last_turn, LAST_TURN}
+
+-- how many may be in flight at once
+abbrev pub limit_of : Flow → ℕ
+limit_of f = f.most
 
 -- there are so many senders and as many receivers
 abbrev pub IsFor : Flow → ℕ → Type 0
@@ -17,13 +21,41 @@ IsKnownTo f p = (p.sender < vec_len f.senders) × (p.receiver < vec_len f.receiv
 abbrev pub AreKnownTo : Flow → List Passage → Type 0
 AreKnownTo f waiting = (k : ℕ) (p : Passage) → slice_get waiting k ≡ Some p → IsKnownTo f p
 
+-- The limits and the parties stay as they are.
+pub record KeepsLimits (old new : Flow) : Type 0 where
+  pub most : new.most ≡ old.most
+  pub senders : vec_len new.senders ≡ vec_len old.senders
+  pub receivers : vec_len new.receivers ≡ vec_len old.receivers
+
+-- The numbers of one sender are those of the ones in flight, and its last turn is that among all that began.
+pub record IsOf (sender : ℕ) (of : OfSender) (flying begun : List Passage) : Type 0 where
+  pub sent : of.flying ≡ sent_by sender flying
+  pub octets : of.octets ≡ octets_by sender flying
+  pub turn : of.turn ≡ last_turn sender begun
+
 -- The numbers are those of the ones in flight, and of all that began so far, the first to begin in front.
 pub record HasCounts (f : Flow) (flying begun : List Passage) : Type 0 where
+  pub few : f.most < 2 ^ 32
   pub part : f.part ≡ part_of f.most
+  pub room : f.room ≡ room_of f.most
   pub in_all : f.flying ≡ length flying
-  pub turns : f.begun ≡ length begun
-  pub of_senders : (k : ℕ) (of : OfSender) → slice_get f.senders.items k ≡ Some of → (of.flying ≡ sent_by k flying) × (of.turn ≡ last_turn k begun)
+  pub octets : f.octets ≡ octets_in flying
+  pub turns : f.begun ≡ min (length begun) LAST_TURN
+  pub of_senders : (k : ℕ) (of : OfSender) → slice_get f.senders.items k ≡ Some of → IsOf k of flying begun
   pub of_receivers : (k count : ℕ) → slice_get f.receivers.items k ≡ Some count → count ≡ bound_for k flying
+
+-- It may begin, and is in flight from now on, the last of all that began.
+pub record Begins (old new : Flow) (flying begun : List Passage) (p : Passage) : Type 0 where
+  pub may : MayBegin old.most flying p
+  pub counts : HasCounts new (p ∷ flying) (begun ++ p ∷ [])
+
+-- One more of so many octets began, in this turn.
+abbrev pub with_one : OfSender → ℕ → ℕ → OfSender
+with_one of octets turn = record { flying = min (of.flying + 1) (2 ^ 32 - 1); octets = min (of.octets + octets) (2 ^ 64 - 1); turn = turn }
+
+-- One of so many octets ended.
+abbrev pub without_one : OfSender → ℕ → OfSender
+without_one of octets = record { flying = of.flying - 1; octets = of.octets - octets; turn = of.turn }
 
 -- ---- who begins next, of the first that wait
 
