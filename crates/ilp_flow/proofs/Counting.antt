@@ -53,11 +53,11 @@ octets_in_more p flying = sum_by-cons (λ (q : Passage). q.octets) p flying
 -- ---- turns with one more
 
 -- the sender of the last one has its last turn there
-last_turn_from_own : (last n : ℕ) (begun : List Passage) (p : Passage) → last_turn_from p.sender last n (begun ++ p ∷ []) ≡ n + length begun
+pub last_turn_from_own : (last n : ℕ) (begun : List Passage) (p : Passage) → last_turn_from p.sender last n (begun ++ p ∷ []) ≡ n + length begun
 last_turn_from_own last n [] p = ap (λ (it : Bool). cond it n last) (same_is p.sender) ∙ omega arith
 last_turn_from_own last n (q ∷ begun) p = last_turn_from_own (if q.sender == p.sender then n else last) (n + 1) begun p ∙ omega arith
 
-last_turn_from_other : (sender last n : ℕ) (begun : List Passage) (p : Passage) → p.sender ≢ sender → last_turn_from sender last n (begun ++ p ∷ []) ≡ last_turn_from sender last n begun
+pub last_turn_from_other : (sender last n : ℕ) (begun : List Passage) (p : Passage) → p.sender ≢ sender → last_turn_from sender last n (begun ++ p ∷ []) ≡ last_turn_from sender last n begun
 last_turn_from_other sender last n [] p other = ap (λ (it : Bool). cond it n last) (other_is p.sender sender other)
 last_turn_from_other sender last n (q ∷ begun) p other = last_turn_from_other sender (if q.sender == sender then n else last) (n + 1) begun p other
 

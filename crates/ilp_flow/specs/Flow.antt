@@ -1,5 +1,5 @@
 -- How many packets and messages are in flight at once, and who begins next.
-use Rattle.std.specs.Prelude.{◌≡◌, ℕ, ◌+◌, ◌-◌, ◌*◌, ◌^◌, ◌<◌, ◌≤◌, ◌==◌, ◌/◌, min, max, List, [], ◌∷◌, length, Option, Some, None, slice_get, count_by, sum_by, if◌then◌else◌}
+use Rattle.std.specs.Prelude.{◌≡◌, ◌≢◌, ℕ, ◌+◌, ◌-◌, ◌*◌, ◌^◌, ◌<◌, ◌≤◌, ◌==◌, ◌/◌, min, max, List, [], ◌∷◌, length, Option, Some, None, slice_get, count_by, sum_by, if◌then◌else◌}
 use Rattle.ilp_flow.specs.declared.passage.Passage.{Passage}
 
 -- ---- limits
@@ -75,3 +75,17 @@ MayNoneBegin most flying waiting = (k : ℕ) (other : Passage) → slice_get wai
 abbrev pub BeginsNext : ℕ → List Passage → List Passage → List Passage → Option ℕ → Type 0
 BeginsNext most flying begun waiting (Some place) = IsNext most flying begun waiting place
 BeginsNext most flying begun waiting None = MayNoneBegin most flying waiting
+
+-- One of another sender waits that may begin.
+pub record MayAnotherBegin (most : ℕ) (flying waiting : List Passage) (sender : ℕ) : Type 0 where
+  pub place : ℕ
+  pub passage : Passage
+  pub stands : slice_get waiting place ≡ Some passage
+  pub another : passage.sender ≢ sender
+  pub may : MayBegin most flying passage
+
+-- The one that waits there is of another sender.
+pub record IsOfAnother (waiting : List Passage) (place sender : ℕ) : Type 0 where
+  pub passage : Passage
+  pub stands : slice_get waiting place ≡ Some passage
+  pub another : passage.sender ≢ sender

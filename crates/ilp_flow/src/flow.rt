@@ -1,7 +1,7 @@
 //! How many packets and messages are in flight, whose they are, and who begins next.
 ghost use Rattle.std.specs.Prelude.{◌≡◌, ◌^◌, ◌/◌, ◌<◌, ◌≤◌, ◌+◌, ◌↔◌, IsTrue, List, [], ◌∷◌, ◌++◌, length, IfOk, MatchBool};
 ghost use Rattle.ilp_flow.specs.declared.passage.Passage.{Passage};
-ghost use Rattle.ilp_flow.specs.Flow.{MayBegin, BeginsNext};
+ghost use Rattle.ilp_flow.specs.Flow.{room_of, MayBegin, BeginsNext};
 ghost use Rattle.std.specs.Bool.{OnTrue, OnFalse};
 ghost use Rattle.ilp_flow.specs.Counts.{limit_of, IsFor, IsKnownTo, AreKnownTo, HasCounts, KeepsLimits, Begins, with_one, without_one, sooner};
 
@@ -105,6 +105,14 @@ impl Flow {
         self.flying
     }
 
+    /// How many octets may be in flight at once.
+    pub fn room(&self) -> u64
+        ensures { (flying begun : List Passage) → HasCounts self.now flying begun
+            → result ≡ room_of (limit_of self.now) }
+    {
+        self.room
+    }
+
     /// Whether one more may begin.
     pub fn may_begin(&self, passage: Passage) -> bool
         requires known { IsKnownTo self.now passage }
@@ -164,6 +172,7 @@ impl Flow {
         if !self.may_begin(passage) {
             return false;
         }
+        // What may begin is far from the ends of these numbers. The count of turns stays at its last.
         self.begun = self.begun.saturating_add(1);
         self.flying = self.flying.saturating_add(1);
         self.octets = self.octets.saturating_add(u64::from(passage.octets));

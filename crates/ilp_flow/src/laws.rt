@@ -1,7 +1,7 @@
 //! What holds of the definitions. These functions do nothing: their contracts are the laws.
-ghost use Rattle.std.specs.Prelude.{ℕ, ◌≤◌, List, [], ◌∷◌, ◌++◌};
+ghost use Rattle.std.specs.Prelude.{ℕ, ◌+◌, ◌^◌, ◌<◌, ◌≤◌, length, List, [], ◌∷◌, ◌++◌};
 ghost use Rattle.ilp_flow.specs.declared.passage.Passage.{Passage};
-ghost use Rattle.ilp_flow.specs.Flow.{MayBegin, AreWithin};
+ghost use Rattle.ilp_flow.specs.Flow.{MayBegin, AreWithin, IsNext, MayAnotherBegin, IsOfAnother};
 ghost use Rattle.ilp_flow.specs.Rows.{FlowRows, ClosingRows};
 
 /// Worked rows of who may begin, who begins next and who is closed.
@@ -22,4 +22,13 @@ pub fn limits_are_kept()
 /// Where none is in flight one may begin, and be it the largest packet there is.
 pub fn one_may_begin()
     ensures { (most : ℕ) (p : Passage) → 1 ≤ most → p.octets ≤ 65536 → MayBegin most [] p }
+{}
+
+/// Who had the last turn isn't next while one of another sender waits that may begin.
+pub fn turns_go_round()
+    ensures { (most : ℕ) (flying begun waiting : List Passage) (last : Passage) (place : ℕ)
+        → length begun + 1 < 2 ^ 64
+        → MayAnotherBegin most flying waiting last.sender
+        → IsNext most flying (begun ++ last ∷ []) waiting place
+        → IsOfAnother waiting place last.sender }
 {}

@@ -10,7 +10,8 @@
 //!   its sender's, and fewer than half go to its receiver; its octets find room in all, and in the half
 //!   of it that one sender has. Else nothing changes. `may_begin` tells the same.
 //! - `next` is, of those that wait and may begin, the first of the sender whose last turn was longest
-//!   ago; none just where none may.
+//!   ago; none just where none may. Who had the last turn isn't next while one of another sender waits
+//!   that may begin: `turns_go_round`.
 //! - What begins and ends in this way keeps the limits, and where none is in flight one may begin, be it
 //!   the largest packet: `limits_are_kept`, `one_may_begin`.
 //! - `closed_next` is, of those that wait, the one that lingers longest; where none does, the oldest whose

@@ -8,6 +8,6 @@ pub struct Passage {
     pub sender: u32,
     /// Who is to be handed it.
     pub receiver: u32,
-    /// How many octets of it are kept while it is in flight: of a packet all of its own.
+    /// How many octets it has, all of which are kept while it is in flight.
     pub octets: u32,
 }

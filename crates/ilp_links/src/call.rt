@@ -7,9 +7,9 @@ use crate::time_left::time_left;
 use ilp_accounts::Config;
 use ilp_client::{message_head, message_reply, messages_target, packet_head, packet_reply};
 use ilp_http::{Buffer, Response};
-use ilp_link_traits::ReplyKind;
 use ilp_notices::{Notices, SentHold};
 use ilp_oer::Octets;
+use ilp_packet::Packet;
 use mio::{Registry, Token};
 use std::io::Eprint;
 use std::net::Net;
@@ -151,15 +151,21 @@ impl<R: Net + Clock + Eprint> Outside<'_, R> {
     // Notes what was answered.
     fn note(&self, whom: Whom, octets: &[u8]) {
         match whom {
-            Whom::Peer { to, hold } => match ilp_replies::message_reply(Ok(()), octets).kind {
-                ReplyKind::Answer => self.notices.peer_answered(to),
-                ReplyKind::NoAnswer => {
-                    self.notices.peer_unreadable(self.rt, self.config, to, hold);
-                }
-            },
+            Whom::Peer { to, hold: _ } if is_answer(octets) => self.notices.peer_answered(to),
+            Whom::Peer { to, hold } => {
+                self.notices.peer_unreadable(self.rt, self.config, to, hold);
+            }
             Whom::EngineOf(peer) => self.notices.engine_answered(peer),
         }
     }
+}
+
+// Whether octets are a Fulfill or a Reject (RFC 0027).
+fn is_answer(octets: &[u8]) -> bool {
+    matches!(
+        Packet::read(octets),
+        Ok(Packet::Fulfill(_) | Packet::Reject(_))
+    )
 }
 
 impl Call {

@@ -1,5 +1,5 @@
 //! The links of a running connector: its clock, and the ways over TCP by which the actors of a desk
-//! reach peers and settlement engines.
+//! reach peers and settlement engines. A `Call` waits for nobody; an `EngineWay` does.
 //!
 //! What a socket gives or takes, and how long that takes, no clause can say: it stands in the
 //! comments, and `test_sockets` tests it over real sockets.
@@ -21,7 +21,6 @@ mod exchange;
 mod hurry;
 mod links;
 mod no_answer;
-mod peer_link;
 mod resumed;
 mod system_clock;
 mod time_left;
@@ -31,8 +30,7 @@ pub use call::{Call, Came, Outside};
 pub use engine_way::EngineWay;
 pub use hurry::Hurry;
 pub use links::{Links, TcpLinks};
-pub use peer_link::PeerLink;
 pub use resumed::Resumed;
 pub use system_clock::SystemClock;
 pub use time_left::instant_after;
-pub use timed::{TimedReader, TimedWriter};
+pub use timed::TimedWriter;

@@ -1,4 +1,5 @@
 //! Writes that go on where an earlier try ended.
+ghost use Rattle.std.specs.Io.{WritesAtMost};
 
 use mio::net::TcpStream;
 use std::io;
@@ -42,7 +43,9 @@ impl<'s> Resumed<'s> {
     }
 
     // Writes to the connection.
-    fn write_on(&mut self, octets: &[u8]) -> io::Result<usize> {
+    fn write_on(&mut self, octets: &[u8]) -> io::Result<usize>
+        ensures { WritesAtMost result octets.now }
+    {
         for _ in 0..MOST_TRIES {
             let mut stream = self.stream;
             match stream.write(octets) {

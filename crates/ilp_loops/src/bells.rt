@@ -44,10 +44,12 @@ impl Bells {
         }
     }
 
-    /// Wakes all loops.
+    /// Wakes all loops that rest.
     pub fn ring_all(&self) {
         for bell in self.bells.iter() {
-            let _ = bell.waker.wake();
+            if bell.rests.swap(false, Ordering::SeqCst) {
+                let _ = bell.waker.wake();
+            }
         }
     }
 

@@ -72,6 +72,15 @@ impl<J: Naming> Stage<J> {
         }
     }
 
+    /// Whether it is of a packet that is booked, whose sender may be told behind a journal of so many
+    /// entries.
+    pub(crate) fn is_behind(&self, entries: u32) -> bool {
+        match self {
+            Stage::Booked { booked, .. } => booked.behind() <= entries,
+            _ => false,
+        }
+    }
+
     /// By when it is to be looked at, whatever comes.
     pub(crate) fn due(&self) -> Option<Duration> {
         match self {

@@ -1,4 +1,5 @@
 //! How many connections of each kind the loops have at once, and whose turn it is.
+ghost use Rattle.ilp_flow.specs.Counts.{AreKnownTo};
 
 use crate::jobs::LOCAL_AT_ONCE;
 use ilp_flow::{Flow, Passage};
@@ -12,6 +13,8 @@ use std::time::{Clock, Duration};
 /// the senders take turns. Threads share it by reference.
 #[derive(Drop)]
 pub struct Places {
+    in_flight: u32,
+    room: u64,
     taken: Mutex<Taken>,
 }
 
@@ -42,13 +45,17 @@ impl Remote {
     }
 
     // There is room for as many as may wait, so none is left out.
-    fn list(&mut self, ready: &[Work]) {
+    fn list(&mut self, flow: &Flow, ready: &[Work])
+        ensures { AreKnownTo flow.now self.new.passages.items }
+    {
         self.passages.clear();
         self.places.clear();
         for (place, work) in ready.iter().enumerate() {
-            if let Work::Remote { passage } = work {
-                let _ = self.passages.push(*passage);
-                let _ = self.places.push(place);
+            if let Work::Remote { passage } = *work {
+                if flow.knows(passage) {
+                    let _ = self.passages.push(passage);
+                    let _ = self.places.push(place);
+                }
             }
         }
     }
@@ -104,9 +111,12 @@ impl Waits {
 impl Places {
     /// None is taken. So many packets and messages of so many peers and their engines may be in flight.
     pub fn new(alloc: Global, in_flight: u32, peers: u32) -> Result<Places, AllocError> {
+        let flow = Flow::new(alloc, in_flight, peers.saturating_mul(2))?;
         Ok(Places {
+            in_flight,
+            room: flow.room(),
             taken: Mutex::new(Taken {
-                flow: Flow::new(alloc, in_flight, peers.saturating_mul(2))?,
+                flow,
                 local: 0,
                 remote: Remote::new(alloc)?,
                 held_back: HeldBack::NONE,
@@ -116,6 +126,16 @@ impl Places {
                 },
             }),
         })
+    }
+
+    /// How many may be in flight at once.
+    pub fn in_flight(&self) -> u32 {
+        self.in_flight
+    }
+
+    /// How many octets may be in flight at once.
+    pub fn room(&self) -> u64 {
+        self.room
     }
 
     /// Takes a place for one of these connections of a side, those that came first in front, and tells
@@ -185,7 +205,7 @@ impl Taken {
         if local.is_some() && self.local < LOCAL_AT_ONCE {
             return local;
         }
-        self.remote.list(ready);
+        self.remote.list(&self.flow, ready);
         let next = self.flow.next(self.remote.passages.as_slice())?;
         self.remote.places.get(next).copied()
     }
@@ -194,7 +214,9 @@ impl Taken {
         match work {
             Work::Local => self.local = self.local.saturating_add(1),
             Work::Remote { passage } => {
-                let _ = self.flow.begin(passage);
+                if self.flow.knows(passage) {
+                    let _ = self.flow.begin(passage);
+                }
             }
         }
     }
@@ -202,7 +224,11 @@ impl Taken {
     fn give_back(&mut self, work: Work) {
         match work {
             Work::Local => self.local = self.local.saturating_sub(1),
-            Work::Remote { passage } => self.flow.end(passage),
+            Work::Remote { passage } => {
+                if self.flow.knows(passage) {
+                    self.flow.end(passage);
+                }
+            }
         }
     }
 }

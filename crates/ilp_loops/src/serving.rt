@@ -3,8 +3,10 @@
 use crate::deeds::{count_reject, tell_deed};
 use crate::guest::{Guest, Stage, Written};
 use crate::jobs::Job;
+use crate::keeping::KeepingAsker;
 use crate::nobody::Nobody;
 use crate::shared::Shared;
+use crate::turn::monotonic;
 use ilp_desk::{End, Naming};
 use ilp_flight::Flight;
 use ilp_http::{Buffer, Status};
@@ -121,15 +123,15 @@ impl<J: Naming, C: Clock + Drop, K: Keeper<J> + Drop> Serving<J, C, K> {
     ) -> Stage<J> {
         match course {
             Course::Answered(response) => responds(shared, response, now),
-            Course::Packet { sender, key } => self.call_next(shared, sender, key, now),
+            Course::Packet { sender, key } => self.call_next(shared, sender, key),
             Course::ToEngine(message) => match shared.outside().call_engine(message.from(), now) {
                 Some(call) => Stage::ToEngine { message, call },
                 None => answered_message(shared, message, None, now),
             },
             Course::ToPeer(message) => {
                 let (to, deadline) = (message.to(), message.deadline());
-                let late = self.clock.now();
-                match shared.outside().call_peer(to, None, deadline, late, now) {
+                let (late, began) = self.times(shared);
+                match shared.outside().call_peer(to, None, deadline, late, began) {
                     Some(call) => Stage::ToPeer { message, call },
                     None => answered_peer(shared, None, now),
                 }
@@ -138,15 +140,21 @@ impl<J: Naming, C: Clock + Drop, K: Keeper<J> + Drop> Serving<J, C, K> {
         }
     }
 
+    // How late it is by the clock, and then by the one that never goes back: so what is left until a
+    // deadline by the one has passed by the other no sooner.
+    fn times<R: time::Clock>(&mut self, shared: &Shared<'_, J, R>) -> (i64, Duration) {
+        let late = self.clock.now();
+        (late, monotonic(shared.rt))
+    }
+
     // Begins to call the next peer with the packet that waits under the key.
     fn call_next<R: Wait + time::Clock + Eprint + Net>(
         &mut self,
         shared: &Shared<'_, J, R>,
         sender: u32,
         key: usize,
-        now: Duration,
     ) -> Stage<J> {
-        let late = self.clock.now();
+        let (late, began) = self.times(shared);
         let call = match self.flight.waiting.get(key) {
             Some(pending) => {
                 let prepare = pending.prepare();
@@ -154,7 +162,7 @@ impl<J: Naming, C: Clock + Drop, K: Keeper<J> + Drop> Serving<J, C, K> {
                 let hold = SentHold::new(held.number, held.out, &prepare.condition);
                 shared
                     .outside()
-                    .call_peer(held.to, Some(hold), held.deadline, late, now)
+                    .call_peer(held.to, Some(hold), held.deadline, late, began)
             }
             None => None,
         };
@@ -400,17 +408,24 @@ impl<J: Naming, C: Clock + Drop, K: Keeper<J> + Drop> Serving<J, C, K> {
         }
     }
 
-    /// Ends a turn: the keeper keeps what is booked, once for all of it, and then the senders are told.
+    /// Ends a turn. The senders of packets that are booked are told: a Fulfill once the journal is kept
+    /// that has it, which one keeping is for all of. Without somebody to ask for that, it is waited for.
     /// Those whose service is over give back their places.
     pub(crate) fn end_turn<R: Wait + time::Clock + Eprint + Net>(
         &mut self,
         shared: &Shared<'_, J, R>,
         registry: &Registry,
+        asker: Option<&KeepingAsker>,
         now: Duration,
     ) {
         if !self.booked.is_empty() {
-            let handed = self.flight.keep();
-            self.tell(shared, registry, &handed, now);
+            self.answer_booked(shared, asker, now);
+            self.send_answers(shared, registry, now);
+        }
+        if let Some(asker) = asker {
+            if !self.booked.is_empty() {
+                asker.ask(shared.rt);
+            }
         }
         for _ in 0..self.over.len() {
             let Some(place) = self.over.pop() else {
@@ -422,29 +437,84 @@ impl<J: Naming, C: Clock + Drop, K: Keeper<J> + Drop> Serving<J, C, K> {
         }
     }
 
-    // Tells the senders of all packets that are booked.
-    fn tell<R: Wait + time::Clock + Eprint + Net>(
+    /// Whether a sender may be told now whose packet was booked before.
+    pub(crate) fn is_ripe<R>(&self, shared: &Shared<'_, J, R>) -> bool {
+        let entries = shared.kept.entries();
+        let mut booked = self.booked.iter();
+        booked.any(|place| match self.guests.get(*place) {
+            Some(guest) => guest.stage.is_behind(entries),
+            None => false,
+        })
+    }
+
+    // Makes the answers of all packets that are booked and kept.
+    fn answer_booked<R: Wait + time::Clock + Eprint>(
         &mut self,
         shared: &Shared<'_, J, R>,
-        registry: &Registry,
-        handed: &HandedJournal<J>,
+        asker: Option<&KeepingAsker>,
         now: Duration,
     ) {
+        match asker {
+            Some(_) => {
+                let handed = shared.kept.lock(shared.rt);
+                self.answer_behind(&handed, now);
+            }
+            None => {
+                let handed = self.flight.keep();
+                self.answer_behind(&handed, now);
+            }
+        }
+    }
+
+    // Makes the answers of the packets that are booked, whose senders may be told behind this journal.
+    fn answer_behind(&mut self, handed: &HandedJournal<J>, now: Duration) {
         for k in 0..self.booked.len() {
-            let place = self.booked[k];
+            let Some(place) = self.booked.get(k).copied() else {
+                return;
+            };
             let Some(guest) = self.guests.get_mut(place) else {
                 continue;
             };
             let stage = match mem::replace(&mut guest.stage, Stage::Over) {
                 Stage::Booked { sender, booked } if booked.behind() <= handed.entries() => {
                     let response = Response::to_packet(sender, booked.tell(handed));
-                    responds(shared, response, now)
+                    Stage::responds(response, now)
                 }
                 other => other,
             };
+            guest.stage = stage;
+        }
+    }
+
+    // Writes the answers that are made. The others wait on.
+    fn send_answers<R: Wait + time::Clock + Eprint + Net>(
+        &mut self,
+        shared: &Shared<'_, J, R>,
+        registry: &Registry,
+        now: Duration,
+    ) {
+        let mut left = 0;
+        for k in 0..self.booked.len() {
+            let Some(place) = self.booked.get(k).copied() else {
+                break;
+            };
+            let Some(guest) = self.guests.get_mut(place) else {
+                continue;
+            };
+            if let Stage::Booked { .. } = guest.stage {
+                if let Some(slot) = self.booked.get_mut(left) {
+                    *slot = place;
+                    left += 1;
+                }
+                continue;
+            }
+            let stage = mem::replace(&mut guest.stage, Stage::Over);
+            if let Stage::Responds { response, .. } = &stage {
+                tell_deed(shared, response.deed());
+            }
             self.go_on_from(shared, registry, place, stage, now);
         }
-        self.booked.clear();
+        self.booked.truncate(left);
     }
 }
 

@@ -2,6 +2,7 @@
 
 use crate::bells::Bells;
 use crate::intakes::Intakes;
+use crate::keeping::KeptJournal;
 use crate::places::Places;
 use crate::seen::Seen;
 use ilp_desk::{Desk, Naming};
@@ -16,6 +17,7 @@ pub struct Shared<'a, J: Naming, R> {
     pub places: &'a Places,
     pub intakes: &'a Intakes,
     pub bells: &'a Bells,
+    pub kept: &'a KeptJournal<J>,
     pub notices: &'a Notices,
     pub seen: &'a Seen,
 }
@@ -29,6 +31,7 @@ impl<'a, J: Naming, R> Shared<'a, J, R> {
             places: self.places,
             intakes: self.intakes,
             bells: self.bells,
+            kept: self.kept,
             notices: self.notices,
             seen: self.seen,
         }

@@ -1,6 +1,7 @@
 //! What a worker's thread does: turn after turn it takes in what has come, and serves it.
 
 use crate::jobs::Job;
+use crate::keeping::KeepingAsker;
 use crate::nobody::Nobody;
 use crate::serving::Serving;
 use crate::shared::Shared;
@@ -55,23 +56,28 @@ impl Seat {
 pub struct ServingLoop<J: Naming, C: Clock + Drop, K: Keeper<J> + Drop> {
     seat: Seat,
     serving: Serving<J, C, K>,
+    // By which it asks for the journal to be kept; none where it has that done itself.
+    asker: Option<KeepingAsker>,
     // Whether more jobs may come.
     open: bool,
 }
 
 impl<J: Naming, C: Clock + Drop, K: Keeper<J> + Drop> ServingLoop<J, C, K> {
-    /// The loop of a worker none of whose packets waits, with a clock.
+    /// The loop of a worker none of whose packets waits, with a clock. It asks for the journal to be
+    /// kept, or has the worker's keeper do that, and waits for it.
     pub fn new(
         alloc: Global,
         seat: Seat,
         worker: Worker<J, C, Nobody, Nobody, K>,
         clock: C,
+        asker: Option<KeepingAsker>,
     ) -> io::Result<ServingLoop<J, C, K>>
         requires none { worker.pending ≡ 0 }
     {
         Ok(ServingLoop {
             seat,
             serving: Serving::new(alloc, worker, clock)?,
+            asker,
             open: true,
         })
     }
@@ -120,7 +126,8 @@ impl<J: Naming, C: Clock + Drop, K: Keeper<J> + Drop> ServingLoop<J, C, K> {
             }
         }
         self.serving.give_up(shared, registry, now);
-        self.serving.end_turn(shared, registry, now);
+        self.serving
+            .end_turn(shared, registry, self.asker.as_ref(), now);
     }
 
     // Waits for events, unless there are jobs.
@@ -130,7 +137,8 @@ impl<J: Naming, C: Clock + Drop, K: Keeper<J> + Drop> ServingLoop<J, C, K> {
             None => None,
         };
         shared.bells.rest(self.seat.number);
-        let left = if jobs.is_empty() { left } else { Some(Duration::ZERO) };
+        let comes = !jobs.is_empty() || self.serving.is_ripe(shared);
+        let left = if comes { Some(Duration::ZERO) } else { left };
         if self.seat.poll.poll(&mut self.seat.events, left).is_err() {
             thread::sleep(shared.rt, Duration::from_millis(REST_MS));
         }
@@ -138,7 +146,7 @@ impl<J: Naming, C: Clock + Drop, K: Keeper<J> + Drop> ServingLoop<J, C, K> {
     }
 }
 
-// The time by the clock that never goes back; none has passed where it can't be read.
-fn monotonic(rt: &impl time::Clock) -> Duration {
+/// The time by the clock that never goes back; none has passed where it can't be read.
+pub(crate) fn monotonic(rt: &impl time::Clock) -> Duration {
     rt.monotonic().unwrap_or(Duration::ZERO)
 }

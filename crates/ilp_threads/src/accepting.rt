@@ -1,12 +1,16 @@
 //! What an intake's thread does: it hands connections to the loops of the workers.
 
+use crate::busy::Busy;
 use crossbeam_channel::Sender;
 use ilp_accounts::Config;
-use ilp_desk::{Desk, Naming};
+use ilp_desk::Naming;
 use ilp_http::Buffer;
 use ilp_intake::{Admission, Intake};
-use ilp_loops::{Bells, Job, Places};
+use ilp_loops::{Job, Places, Shared};
+use ilp_notices::Notices;
+use ilp_replies::LocalReject;
 use ilp_server::{Side, Work, work_of};
+use mio::net::TcpStream;
 use std::sync::Wait;
 use std::time::Clock;
 
@@ -17,6 +21,8 @@ pub(crate) struct Acceptor {
     pub(crate) intake: Intake<Work>,
     /// Room for a request, by which it is found out what that asks for.
     pub(crate) buffer: Buffer,
+    /// What is told whoever is turned away.
+    pub(crate) busy: Busy,
 }
 
 // Gives a connection on where there is a place for it with the loops.
@@ -27,6 +33,8 @@ struct Placing<'a, R> {
     places: &'a Places,
     side: Side,
     buffer: Buffer,
+    busy: Busy,
+    notices: &'a Notices,
 }
 
 impl<R: Wait + Clock> Admission for Placing<'_, R> {
@@ -47,20 +55,40 @@ impl<R: Wait + Clock> Admission for Placing<'_, R> {
         self.places.admit(self.rt, self.side, ready)
     }
 
+    fn sender_of(&self, kind: Work) -> usize {
+        match kind {
+            Work::Remote { passage } => passage.sender as usize,
+            Work::Local => senders(self.config).saturating_sub(1),
+        }
+    }
+
+    fn turn_away(&mut self, kind: Work, stream: &TcpStream) {
+        let Work::Remote { passage } = kind else {
+            return;
+        };
+        if let Some(peer) = self.busy.tell(passage, stream) {
+            let busy = LocalReject::ConnectorBusy;
+            self.notices.rejected(self.rt, peer, busy.code());
+        }
+    }
+
     fn give_back(&mut self, kind: Work) {
         // This intake asks again at once, and the other one when the next job is done.
         self.places.give_back(self.rt, kind);
     }
 }
 
+/// How many numbers those have who send requests: peers, their engines behind them, and one for all
+/// others.
+pub(crate) fn senders(config: &Config) -> usize {
+    config.peers() as usize * 2 + 1
+}
+
 /// Hands the connections of one side to the loops, as far as there are places for them, until the
 /// intake is closed and none waits there, or its time is over. Then its sender of jobs is dropped:
 /// once both sides' are, the loops know that no more come.
 pub(crate) fn accept_all<J: Naming, R: Wait + Clock>(
-    rt: &R,
-    desk: &Desk<J>,
-    places: &Places,
-    bells: &Bells,
+    shared: Shared<'_, J, R>,
     acceptor: Acceptor,
     jobs: Sender<Job>,
 ) {
@@ -68,13 +96,17 @@ pub(crate) fn accept_all<J: Naming, R: Wait + Clock>(
         side,
         mut intake,
         buffer,
+        busy,
     } = acceptor;
+    let rt = shared.rt;
     let mut placing = Placing {
         rt,
-        config: desk.config(),
-        places,
+        config: shared.desk.config(),
+        places: shared.places,
         side,
         buffer,
+        busy,
+        notices: shared.notices,
     };
     for _ in rt.forever() {
         let Some(connection) = intake.next(rt, &mut placing) else {
@@ -83,6 +115,6 @@ pub(crate) fn accept_all<J: Naming, R: Wait + Clock>(
         if jobs.send(rt, Job { side, connection }).is_err() {
             break;
         }
-        bells.ring_one();
+        shared.bells.ring_one();
     }
 }

@@ -6,9 +6,9 @@ use crate::turns::PausedSettler;
 use ilp_desk::{Desk, JournalReceipt, Naming, Share};
 use ilp_keeping::SharedKeeper;
 use ilp_links::Links;
-use ilp_loops::{Bells, Nobody, Seat, ServingLoop};
+use ilp_loops::{Bells, KeepingAsker, KeepingAsks, Nobody, Seat, ServingLoop, keeping_pair};
 use ilp_settler::{Settler, Sweeper};
-use ilp_workers::{Clock, EngineLink, Keeper, Worker};
+use ilp_workers::{Clock, EngineLink, JournalKeeper, Keeper, Worker};
 use std::alloc::AllocError;
 use std::net::Net;
 use std::sync::Wait;
@@ -35,7 +35,25 @@ pub(crate) struct Turning<J: Naming, C: Clock + Drop, E: EngineLink + Drop, K: K
 pub(crate) struct Actors<J: Naming, C: Clock + Drop, E: EngineLink + Drop, K: Keeper<J> + Drop> {
     pub(crate) loops: Vec<ServingLoop<J, C, K>>,
     pub(crate) bells: Bells,
+    /// What keeps the journal for the loops, where they don't have that done themselves.
+    pub(crate) keeping: Option<Keeping<J, K>>,
     pub(crate) turning: Turning<J, C, E, K>,
+}
+
+/// What keeps the journal for the loops, and by what it hears that they ask.
+#[derive(Drop)]
+pub(crate) struct Keeping<J: Naming, K: Keeper<J> + Drop> {
+    pub(crate) keeper: JournalKeeper<J, K>,
+    pub(crate) asks: KeepingAsks,
+}
+
+/// How the journal is kept before senders are told.
+#[derive(Clone, Copy, Debug, PartialEq, Eq)]
+pub enum KeepingWay {
+    /// By each loop, which waits for it.
+    InLoops,
+    /// By a thread of its own, while the loops go on.
+    Beside,
 }
 
 // The actors whose links are made by `L`, and whose keepers are `K`.
@@ -52,6 +70,7 @@ pub(crate) fn actors_of<J: Naming, N: Wait + Net, L: Links, K: SharedKeeper<J> +
     shares: Vec<Share<J>>,
     links: &L,
     keeper: K,
+    way: KeepingWay,
 ) -> Result<ActorsOf<J, L, K>, AllocError>
     requires { 2 ≤ vec_len shares }
 {
@@ -65,7 +84,15 @@ pub(crate) fn actors_of<J: Naming, N: Wait + Net, L: Links, K: SharedKeeper<J> +
         pauses: Pauses::new(alloc, desk.config().peers())?,
     };
     let sweeper = Sweeper::new(alloc, sweepers, links.clock());
-    let (loops, bells) = new_loops(rt, desk, shares, links, &keeper)?;
+    let (asker, asks) = keeping_pair(alloc)?;
+    let (asker, keeping) = match way {
+        KeepingWay::InLoops => (None, None),
+        KeepingWay::Beside => {
+            let keeper = JournalKeeper::new(desk.receipt(rt), keeper.another());
+            (Some(asker), Some(Keeping { keeper, asks }))
+        }
+    };
+    let (loops, bells) = new_loops(rt, desk, shares, links, &keeper, asker)?;
     let watching = WatcherLinks {
         clock: links.clock(),
         keeper,
@@ -79,6 +106,7 @@ pub(crate) fn actors_of<J: Naming, N: Wait + Net, L: Links, K: SharedKeeper<J> +
     Ok(Actors {
         loops,
         bells,
+        keeping,
         turning,
     })
 }
@@ -89,6 +117,7 @@ fn new_loops<J: Naming, N: Wait + Net, L: Links, K: SharedKeeper<J> + Drop>(
     shares: Vec<Share<J>>,
     links: &L,
     keeper: &K,
+    asker: Option<KeepingAsker>,
 ) -> Result<(Vec<LoopOf<J, L, K>>, Bells), AllocError> {
     let alloc = desk.config().allocator();
     let mut loops = Vec::new(alloc);
@@ -98,7 +127,11 @@ fn new_loops<J: Naming, N: Wait + Net, L: Links, K: SharedKeeper<J> + Drop>(
             return Err(AllocError);
         };
         bells.add(waker)?;
-        loops.push(new_loop(rt, desk, seat, share, links, keeper.another())?)?;
+        let asker = match &asker {
+            Some(asker) => Some(asker.try_clone()?),
+            None => None,
+        };
+        loops.push(new_loop(rt, desk, seat, share, links, keeper.another(), asker)?)?;
     }
     Ok((loops, bells))
 }
@@ -110,11 +143,12 @@ fn new_loop<J: Naming, L: Links, K: Keeper<J> + Drop>(
     share: Share<J>,
     links: &L,
     keeper: K,
+    asker: Option<KeepingAsker>,
 ) -> Result<LoopOf<J, L, K>, AllocError> {
     let alloc = desk.config().allocator();
     let receipt = desk.receipt(rt);
     match Worker::new(alloc, share, receipt, links.clock(), Nobody, Nobody, keeper) {
-        Ok(worker) => match ServingLoop::new(alloc, seat, worker, links.clock()) {
+        Ok(worker) => match ServingLoop::new(alloc, seat, worker, links.clock(), asker) {
             Ok(own) => Ok(own),
             Err(_) => Err(AllocError),
         },

@@ -12,6 +12,7 @@
 
 mod accepting;
 mod actors;
+mod busy;
 mod fault;
 mod open_files;
 mod pauses;
@@ -21,5 +22,6 @@ mod threads;
 mod turns;
 mod watching;
 
+pub use actors::KeepingWay;
 pub use fault::Unprinted;
 pub use sides::run_desk;

@@ -2,7 +2,7 @@
 ghost use denote.Param.Send.{IsSend, IsSync};
 
 use crate::accepting::{Acceptor, accept_all};
-use crate::actors::{Turning, WatcherLinks};
+use crate::actors::{Keeping, Turning, WatcherLinks};
 use crate::fault::Unprinted;
 use crate::shutdown::{KeepRunning, Shutdown, shutdown_pair};
 use crate::turns::{PausedSettler, settle, sweep};
@@ -11,7 +11,7 @@ use crossbeam_channel::{Receiver, Sender, bounded};
 use ilp_desk::{Desk, End, Naming};
 use ilp_keeping::SharedKeeper;
 use ilp_links::Hurry;
-use ilp_loops::{Job, LOCAL_AT_ONCE, ServingLoop, Shared};
+use ilp_loops::{Job, LOCAL_AT_ONCE, ServingLoop, Shared, keep_for_loops};
 use ilp_notices::closing;
 use ilp_settler::Sweeper;
 use ilp_workers::{Clock, EngineLink, Keeper};
@@ -78,6 +78,22 @@ where
         Ok(thread) => Ok(thread),
         Err(_) => Err(Unprinted::Spawn),
     }
+}
+
+// Starts the thread that keeps the journal for the loops.
+fn start_keeping<'s, S, J, K, R>(
+    scope: &'s Scope<'s, S>,
+    shared: &Shared<'s, J, R>,
+    keeping: Keeping<J, K>,
+) -> Result<JoinHandle<()>, Unprinted>
+where
+    J: Naming + Send + Sync + 's,
+    K: Keeper<J> + Drop + Send + 's,
+    R: Wait + Sync + 's,
+{
+    let shared = shared.another();
+    let Keeping { keeper, asks } = keeping;
+    Ok(scope.spawn(move || keep_for_loops(shared, keeper, asks))?)
 }
 
 // Starts the thread of the sweeper.
@@ -178,11 +194,12 @@ where
     J: Naming + Send + Sync + 's,
     R: Threads + Wait + time::Clock + Sync + 's,
 {
-    let (rt, desk, places, bells) = (shared.rt, shared.desk, shared.places, shared.bells);
+    let rt = shared.rt;
     let Acceptors { peers, engines } = acceptors;
     let engine_jobs = jobs.clone()?;
-    let peer_thread = scope.spawn(move || accept_all(rt, desk, places, bells, peers, jobs))?;
-    match scope.spawn(move || accept_all(rt, desk, places, bells, engines, engine_jobs)) {
+    let (of_peers, of_engines) = (shared.another(), shared.another());
+    let peer_thread = scope.spawn(move || accept_all(of_peers, peers, jobs))?;
+    match scope.spawn(move || accept_all(of_engines, engines, engine_jobs)) {
         Ok(thread) => thread.join(rt),
         Err(_) => {
             shared.intakes.accept_no_more();
@@ -235,6 +252,8 @@ fn with_turns<J: Naming, R: Threads>(
 #[derive(Drop)]
 struct ActorThreads<J: Naming> {
     workers: Vec<JoinHandle<Option<End<J>>>>,
+    // What keeps the journal for them, which ends with the last of them.
+    keeping: Option<JoinHandle<()>>,
     turns: TurnThreads<J>,
     keep_running: KeepRunning,
     // Room for what they hand in.
@@ -245,6 +264,7 @@ struct ActorThreads<J: Naming> {
 #[derive(Drop)]
 pub(crate) struct Running<J: Naming, C: Clock + Drop, E: EngineLink + Drop, K: Keeper<J> + Drop> {
     pub(crate) loops: Vec<ServingLoop<J, C, K>>,
+    pub(crate) keeping: Option<Keeping<J, K>>,
     pub(crate) turning: Turning<J, C, E, K>,
 }
 
@@ -262,14 +282,23 @@ where
     K: SharedKeeper<J> + Drop + Send + 's,
     R: Net + Wait + time::Clock + Eprint + Sync + 's,
 {
-    let Running { loops, turning } = actors;
+    let Running {
+        loops,
+        keeping,
+        turning,
+    } = actors;
     let alloc = shared.desk.config().allocator();
     let room = Vec::with_capacity(alloc, loops.len().saturating_add(2))?;
     let workers = start_loops(scope, shared, loops, &jobs)?;
+    let keeping = match keeping {
+        Some(keeping) => Some(start_keeping(scope, shared, keeping)?),
+        None => None,
+    };
     let (keep_running, shutdown) = shutdown_pair(alloc)?;
     let turns = start_turns(scope, shared, turning, &shutdown)?;
     Ok(ActorThreads {
         workers,
+        keeping,
         turns,
         keep_running,
         room,
@@ -285,11 +314,15 @@ fn join_actors<J: Naming, R: Threads>(
 ) -> Result<Vec<End<J>>, Unprinted> {
     let ActorThreads {
         workers,
+        keeping,
         turns,
         keep_running,
         room,
     } = threads;
     let ends = ends_of(rt, workers, room);
+    if let Some(keeping) = keeping {
+        keeping.join(rt);
+    }
     hurry.tell();
     drop(keep_running);
     with_turns(rt, turns, ends?)

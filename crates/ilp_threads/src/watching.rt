@@ -123,7 +123,9 @@ impl<J: Naming, C: Clock + Drop, K: SharedKeeper<J> + Drop> Watcher<'_, J, C, K>
         if seconds == 0 {
             self.notices.work_goes_on();
         } else {
-            self.notices.work_waits(rt, self.desk.config(), seconds);
+            let in_flight = self.places.in_flight();
+            self.notices
+                .work_waits(rt, self.desk.config(), in_flight, seconds);
         }
     }
 

@@ -1,5 +1,9 @@
 -- A packet that is booked and whose sender is not answered yet, as contracts see it, and the journal that a keeper was handed.
-use Rattle.std.specs.Prelude.{ℕ, List, Option, Some, None, Result, Ok}
+use Rattle.std.specs.Prelude.{◌≡◌, ℕ, List, length, Option, Some, None, Result, Ok}
+use Rattle.ilp_journal.specs.Journal.{Entries}
+use Rattle.ilp_desk.specs.Desk.{PlainDesk}
+use Rattle.ilp_desk.specs.Session.{IsSeenSince}
+use Rattle.ilp_keeping.specs.Keeping.{ToKeeper, IsHanded}
 use Rattle.ilp_keeping.specs.declared.keeper.NotKept.{NotKept}
 use Rattle.ilp_replies.specs.declared.answer.Receipt.{Receipt}
 use Rattle.ilp_replies.specs.declared.rejects.ToldReject.{ToldReject}
@@ -30,3 +34,13 @@ handed_journal entries said = record { entries = entries; said = said }
 -- none was handed
 abbrev pub no_journal : PlainHandedJournal
 no_journal = handed_journal 0 (Ok tt)
+
+-- ---- a keeper for all workers
+
+-- A keeper of its own is shown the journal of some book of the desk, which goes on from what it had seen, and is handed that. What
+-- is known then is how many entries it had, and what the keeper said.
+pub record IsHandedFor (desk : PlainDesk) (seen : Entries) (told : Option (List ToKeeper)) (handed : PlainHandedJournal) (seen' : Entries) (told' : Option (List ToKeeper)) : Type 0 where
+  pub journal : Entries
+  pub shown : IsSeenSince desk seen journal
+  pub entries : handed.entries ≡ length journal
+  pub kept : IsHanded journal handed.said told told' seen'

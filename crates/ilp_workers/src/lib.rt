@@ -37,6 +37,8 @@
 //! - `finish` is `book`, then `keep` before a Fulfill, then `Booked::tell`. `keep` once serves all that
 //!   is booked by then: `tell` wants that the keeper was handed as many entries as the session of a
 //!   Fulfill left.
+//! - `JournalKeeper::keep` hands the journal of a desk to a keeper of its own, for all workers: it
+//!   has how many entries that journal had.
 //! - `pending` counts what waits; each call says how it changes. `into_end` wants that nothing waits.
 //!
 //! `forward` of a Prepare to `peer.settle` (`specs/Messaging.antt`):
@@ -81,6 +83,7 @@ mod arrivals;
 mod booked;
 mod crediting;
 mod halves;
+mod handing;
 mod in_flight;
 mod messaging;
 mod parts;
@@ -90,6 +93,7 @@ mod worker;
 pub use arrivals::BadPacket;
 pub use booked::{Booked, HandedJournal};
 pub use crediting::NotCredited;
+pub use handing::JournalKeeper;
 pub use ilp_keeping::{Forgetful, Keeper, NotKept};
 pub use ilp_link_traits::{Clock, EngineLink, EngineReply, LinkFault, Uplink};
 pub use ilp_replies::{
