@@ -1,6 +1,8 @@
 pub mod FieldLemmas
+pub mod BodyLemmas
 pub mod PeerLemmas
 pub mod TargetLemmas
 pub mod TokenLemmas
 pub mod LawLemmas
 pub mod Responses
+pub mod Outcomes

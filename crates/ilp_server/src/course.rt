@@ -1,11 +1,14 @@
 //! The first half of serving a request: all of it, where nobody outside is asked.
 ghost use Rattle.std.specs.Prelude.{◌≡◌};
 ghost use Rattle.ilp_book.specs.Configured.{IsKnown};
+ghost use Rattle.ilp_server.specs.Serving.{inquiry};
+ghost use Rattle.ilp_server.specs.Response.{IsToPacket};
+ghost use Rattle.ilp_server.specs.Course.{flight_of, BeginsPacket, BeginsMessage, BeginsInquiry, BeginsRequest};
 
 use crate::fields::sender_of;
 use crate::handled::ConnectionFault;
 use crate::response::Response;
-use crate::served::{Served, deed_of};
+use crate::served::Served;
 use crate::serving::{serve_report, serve_settlement};
 use crate::target::{Side, Target, target_of};
 use crate::unserved::{NotServed, unread};
@@ -36,6 +39,10 @@ pub enum Course {
 /// side of the peers, RFC 0038 at that of the engines). A packet is held, and waits with the worker
 /// until it is finished; a message is ready for whom it is handed to; all else is done. Nobody outside
 /// is waited for.
+///
+/// What is refused is answered with a status and an empty body, and leaves the flight as it was unless
+/// a packet, a credit or a message was tried. The copy of a Reject that a packet is answered at once
+/// takes memory: where that is denied the packet is answered 503.
 pub fn begin_request<
     J: Naming,
     C: Clock + Drop,
@@ -49,7 +56,10 @@ pub fn begin_request<
     side: Side,
     octets: &[u8],
     buffer: &mut Buffer,
-) -> Course {
+) -> Course
+    ensures begun { BeginsRequest J.desk side octets.now (flight_of flight.old.worker flight.old.waiting)
+        (flight_of flight.new.worker flight.new.waiting) result }
+{
     let alloc = desk.config().allocator();
     let mut source = octets;
     match read_request(alloc, &mut source, buffer) {
@@ -69,21 +79,22 @@ fn begin<J: Naming, C: Clock + Drop, U: Uplink + Drop, E: EngineLink + Drop, K: 
     desk: &Desk<J>,
     side: Side,
     request: &Request<'_>,
-) -> Course {
+) -> Course
+    ensures begun { BeginsInquiry J.desk
+        (inquiry side request.now.path.now request.now.headers request.now.body.now)
+        (flight_of flight.old.worker flight.old.waiting)
+        (flight_of flight.new.worker flight.new.waiting) result }
+{
     match target_of(desk.config(), side, request.path) {
         None => Course::Answered(Response::refusal(NotServed::UnknownTarget)),
         Some(Target::Packet) => begin_packet(rt, alloc, flight, desk, request),
-        Some(Target::Settlement { peer }) => Course::Answered(settled(serve_settlement(
-            rt,
-            alloc,
-            &mut flight.worker,
-            desk,
-            peer,
-            request,
-        ))),
+        Some(Target::Settlement { peer }) => {
+            let outcome = serve_settlement(rt, alloc, &mut flight.worker, desk, peer, request);
+            Course::Answered(Response::to(outcome))
+        }
         Some(Target::Message { peer }) => begin_message(flight, desk, peer, request.body),
-        Some(Target::Report) => Course::Answered(reported(serve_report(rt, alloc, desk))),
-        Some(Target::Close) => Course::Answered(Response::close()),
+        Some(Target::Report) => Course::Answered(Response::to(serve_report(rt, alloc, desk))),
+        Some(Target::Close) => Course::Answered(Response::to(Ok(Served::Close))),
     }
 }
 
@@ -100,7 +111,11 @@ fn begin_packet<
     flight: &mut Flight<J, C, U, E, K>,
     desk: &Desk<J>,
     request: &Request<'_>,
-) -> Course {
+) -> Course
+    ensures begun { BeginsPacket J.desk request.now.headers request.now.body.now
+        (flight_of flight.old.worker flight.old.waiting)
+        (flight_of flight.new.worker flight.new.waiting) result }
+{
     let Some(sender) = sender_of(desk.config(), &request.headers) else {
         return Course::Answered(Response::refusal(NotServed::UnknownSender));
     };
@@ -116,7 +131,9 @@ fn begin_packet<
 }
 
 // The sender of a packet is answered at once, with these octets.
-fn refused(alloc: Global, sender: u32, receipt: Receipt, reply: &[u8]) -> Response {
+fn refused(alloc: Global, sender: u32, receipt: Receipt, reply: &[u8]) -> Response
+    ensures { IsToPacket sender receipt.rejected reply.now result }
+{
     let mut octets = Octets::new(alloc);
     match octets.append(reply) {
         Ok(()) => Response::to_packet(sender, Answer { receipt, octets }),
@@ -131,28 +148,13 @@ fn begin_message<
     U: Uplink + Drop,
     E: EngineLink + Drop,
     K: Keeper<J> + Drop,
->(flight: &mut Flight<J, C, U, E, K>, desk: &Desk<J>, peer: u32, body: &[u8]) -> Course {
+>(flight: &mut Flight<J, C, U, E, K>, desk: &Desk<J>, peer: u32, body: &[u8]) -> Course
+    ensures begun { BeginsMessage J.desk peer body.now
+        (flight_of flight.old.worker flight.old.waiting)
+        (flight_of flight.new.worker flight.new.waiting) result }
+{
     match flight.worker.begin_message(desk, peer, body) {
         Ok(message) => Course::ToPeer(message),
         Err(fault) => Course::Answered(Response::refusal(NotServed::Message(fault))),
-    }
-}
-
-// The response to a settlement that was tried.
-fn settled(outcome: Result<Served, NotServed>) -> Response {
-    let deed = deed_of(&outcome);
-    match outcome {
-        Ok(Served::Settlement { text, .. }) => Response::to_settlement(text, deed),
-        Ok(_) => Response::refusal(NotServed::Memory),
-        Err(why) => Response::refusal(why),
-    }
-}
-
-// The response to a report that was asked for.
-fn reported(outcome: Result<Served, NotServed>) -> Response {
-    match outcome {
-        Ok(Served::Report(text)) => Response::report(text),
-        Ok(_) => Response::refusal(NotServed::Memory),
-        Err(why) => Response::refusal(why),
     }
 }

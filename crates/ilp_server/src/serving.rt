@@ -100,6 +100,7 @@ pub(crate) fn serve_settlement<
     ensures served { ServesSettlement J.desk peer request.now.headers request.now.body.now
         worker.old worker.new result }
     ensures pending { worker.new.pending ≡ worker.old.pending }
+    ensures actor { worker.new.share.actor ≡ worker.old.share.actor }
 {
     let Some(key) = key_of(&request.headers) else {
         return Err(NotServed::NoKey);
@@ -129,6 +130,7 @@ fn serve_payment<
     requires key { IsKey key.now }
     ensures served { ServesPayment J.desk peer key.now body.now worker.old worker.new result }
     ensures pending { worker.new.pending ≡ worker.old.pending }
+    ensures actor { worker.new.share.actor ≡ worker.old.share.actor }
 {
     let quantity = match Quantity::read(alloc, body) {
         Ok(quantity) => quantity,

@@ -1,5 +1,8 @@
 //! Whom a request is from and whom it is for, where serving it waits for somebody outside.
-ghost use Rattle.ilp_server.specs.Work.{IsWork, IsWorkFor};
+ghost use Rattle.std.specs.Prelude.{◌≡◌, ◌<◌, ◌≤◌, length, IfSome};
+ghost use Rattle.ilp_http.specs.Limits.{body_limit};
+ghost use Rattle.ilp_server.specs.Serving.{inquiry};
+ghost use Rattle.ilp_server.specs.Work.{engine_number, IsNumber, IsPacketFor, IsBetween, IsWorkFor, IsWork};
 
 use crate::fields::sender_of;
 use crate::target::{Side, Target, target_of};
@@ -32,7 +35,9 @@ pub fn work_of(
     side: Side,
     octets: &[u8],
     buffer: &mut Buffer,
-) -> Work {
+) -> Work
+    ensures { IsWork config.now side octets.now result }
+{
     let mut source = octets;
     match read_request(alloc, &mut source, buffer) {
         Ok(request) => work_for(config, side, &request),
@@ -41,45 +46,64 @@ pub fn work_of(
 }
 
 // What a request asks for.
-fn work_for(config: &Config, side: Side, request: &Request<'_>) -> Work {
-    match target_of(config, side, request.path) {
-        Some(Target::Packet) => match sender_of(config, &request.headers) {
-            Some(peer) => work_of_packet(config, peer, request.body),
-            None => Work::Local,
+fn work_for(config: &Config, side: Side, request: &Request<'_>) -> Work
+    requires short { length request.now.body.now ≤ body_limit }
+    ensures { IsWorkFor config.now
+        (inquiry side request.now.path.now request.now.headers request.now.body.now) result }
+{
+    match parties(config, side, request) {
+        Some((sender, receiver)) => Work::Remote {
+            passage: Passage {
+                sender,
+                receiver,
+                octets: request.body.len() as u32,
+            },
         },
-        Some(Target::Message { peer }) => {
-            let sender = engine_number(config, peer);
-            remote(sender, peer, request.body)
-        }
-        _ => Work::Local,
-    }
-}
-
-// What a packet of this peer asks for: it goes to the peer of its route, or to the engine of the one that
-// sent it. What has no route, or is no Prepare, is refused as it stands.
-fn work_of_packet(config: &Config, sender: u32, octets: &[u8]) -> Work {
-    let Ok(Packet::Prepare(prepare)) = Packet::read(octets) else {
-        return Work::Local;
-    };
-    if is_for_engine(&prepare) {
-        return remote(sender, engine_number(config, sender), octets);
-    }
-    match config.route(prepare.destination) {
-        Some(receiver) => remote(sender, receiver, octets),
         None => Work::Local,
     }
 }
 
-// The number of the engine of a peer.
-fn engine_number(config: &Config, peer: u32) -> u32 {
-    config.peers().saturating_add(peer)
+// The numbers of whom a request is from and of whom it is for, where serving it waits for somebody
+// outside.
+fn parties(config: &Config, side: Side, request: &Request<'_>) -> Option<(u32, u32)>
+    ensures between { IfSome result (λ found. IsBetween config.now
+        (inquiry side request.now.path.now request.now.headers request.now.body.now)
+        found.0 found.1) }
+    ensures numbers { IfSome result
+        (λ found. IsNumber config.now found.0 × IsNumber config.now found.1) }
+{
+    match target_of(config, side, request.path) {
+        Some(Target::Packet) => {
+            let sender = sender_of(config, &request.headers)?;
+            let receiver = receiver_of(config, sender, request.body)?;
+            Some((sender, receiver))
+        }
+        Some(Target::Message { peer }) => Some((engine_number(config, peer), peer)),
+        _ => None,
+    }
 }
 
-fn remote(sender: u32, receiver: u32, octets: &[u8]) -> Work {
-    let passage = Passage {
-        sender,
-        receiver,
-        octets: octets.len() as u32,
+// Whom a packet of this peer is for: the peer's engine here, or the peer of its route. What has no
+// route, or is no Prepare, is refused as it stands.
+fn receiver_of(config: &Config, sender: u32, octets: &[u8]) -> Option<u32>
+    requires known { sender < length config.now.peers }
+    ensures packet { IfSome result (λ receiver. IsPacketFor config.now sender octets.now receiver) }
+    ensures number { IfSome result (λ receiver. IsNumber config.now receiver) }
+{
+    let Ok(Packet::Prepare(prepare)) = Packet::read(octets) else {
+        return None;
     };
-    Work::Remote { passage }
+    if is_for_engine(&prepare) {
+        return Some(engine_number(config, sender));
+    }
+    let receiver = config.route(prepare.destination)?;
+    Some(receiver)
+}
+
+// The number of the engine of a peer.
+fn engine_number(config: &Config, peer: u32) -> u32
+    requires known { peer < length config.now.peers }
+    ensures { result ≡ engine_number config.now peer }
+{
+    config.peers() + peer
 }
