@@ -1,7 +1,7 @@
 //! Which connection is closed where more wait than may.
-ghost use Rattle.std.specs.Prelude.{◌≡◌, ◌<◌, ◌↔◌, List, [], length, position, IfSome, MatchOption};
-ghost use Rattle.ilp_flow.specs.Closing.{lingers, is_partial, IsOldest, HasNone, IsClosedNext, IsOfMost};
-ghost use Rattle.ilp_flow.specs.Fullest.{HasRoomFor, HasCounted, IsFullest, HasNoWhole, fuller};
+ghost use Rattle.std.specs.Prelude.{◌≡◌, ◌↔◌, [], position, IfSome, MatchOption};
+ghost use Rattle.ilp_flow.specs.Closing.{lingers, is_partial, IsClosedNext, IsOfMost};
+ghost use Rattle.ilp_flow.specs.Fullest.{HasRoomFor, HasCounted, HasNoWhole, fuller};
 
 use crate::waiter::Waiter;
 

@@ -1,8 +1,8 @@
 //! How many packets and messages are in flight, whose they are, and who begins next.
-ghost use Rattle.std.specs.Prelude.{◌≡◌, ◌^◌, ◌/◌, ◌<◌, ◌≤◌, ◌+◌, ◌↔◌, IsTrue, List, [], ◌∷◌, ◌++◌, length, IfOk, MatchBool};
+ghost use Rattle.std.specs.Prelude.{◌≡◌, ◌/◌, ◌<◌, ◌≤◌, ◌+◌, ◌↔◌, IsTrue, List, [], ◌∷◌, ◌++◌, length, IfOk, MatchBool};
+ghost use Rattle.std.specs.Bool.{OnTrue, OnFalse};
 ghost use Rattle.ilp_flow.specs.declared.passage.Passage.{Passage};
 ghost use Rattle.ilp_flow.specs.Flow.{room_of, MayBegin, BeginsNext};
-ghost use Rattle.std.specs.Bool.{OnTrue, OnFalse};
 ghost use Rattle.ilp_flow.specs.Counts.{limit_of, IsFor, IsKnownTo, AreKnownTo, HasCounts, KeepsLimits, Begins, with_one, without_one, sooner};
 
 use crate::passage::Passage;
