@@ -16,9 +16,7 @@ use ilp_desk::{Desk, Naming};
 use ilp_flight::{Flight, NoStart, Started};
 use ilp_http::{Buffer, Request, read_request};
 use ilp_oer::Octets;
-use ilp_workers::{
-    Answer, Clock, EngineLink, EngineMessage, Keeper, PeerMessage, Receipt, Uplink,
-};
+use ilp_workers::{Answer, Clock, EngineLink, EngineMessage, Keeper, PeerMessage, Receipt, Uplink};
 use std::alloc::Global;
 use std::sync::Wait;
 
@@ -74,13 +72,7 @@ pub fn begin_request<
 }
 
 // Begins to serve a request that was read.
-fn begin<
-    J: Naming,
-    C: Clock + Drop,
-    U: Uplink + Drop,
-    E: EngineLink + Drop,
-    K: Keeper<J> + Drop,
->(
+fn begin<J: Naming, C: Clock + Drop, U: Uplink + Drop, E: EngineLink + Drop, K: Keeper<J> + Drop>(
     rt: &impl Wait,
     alloc: Global,
     flight: &mut Flight<J, C, U, E, K>,
@@ -98,11 +90,14 @@ fn begin<
         Some(Target::Packet) => begin_packet(rt, alloc, flight, desk, request),
         Some(Target::Settlement { peer }) => {
             let outcome = serve_settlement(rt, alloc, &mut flight.worker, desk, peer, request);
-            Course::Answered(Response::to(outcome))
+            Course::Answered(Response::to_outcome(outcome))
         }
         Some(Target::Message { peer }) => begin_message(flight, desk, peer, request.body),
-        Some(Target::Report) => Course::Answered(Response::to(serve_report(rt, alloc, desk))),
-        Some(Target::Close) => Course::Answered(Response::to(Ok(Served::Close))),
+        Some(Target::Report) => {
+            let report = serve_report(rt, alloc, desk);
+            Course::Answered(Response::to_outcome(report))
+        }
+        Some(Target::Close) => Course::Answered(Response::to_outcome(Ok(Served::Close))),
     }
 }
 
