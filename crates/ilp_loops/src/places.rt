@@ -1,5 +1,5 @@
 //! How many connections of each kind the loops have at once, and whose turn it is.
-ghost use Rattle.ilp_flow.specs.Counts.{AreKnownTo};
+ghost use Rattle.ilp_flow.specs.Counts.{IsKnownTo, AreKnownTo};
 
 use crate::jobs::LOCAL_AT_ONCE;
 use ilp_flow::{Flow, Passage};
@@ -53,11 +53,20 @@ impl Remote {
         for (place, work) in ready.iter().enumerate() {
             if let Work::Remote { passage } = *work {
                 if flow.knows(passage) {
-                    let _ = self.passages.push(passage);
-                    let _ = self.places.push(place);
+                    self.add(flow, passage, place);
                 }
             }
         }
+    }
+
+    // Adds one that stands at this place.
+    fn add(&mut self, flow: &Flow, passage: Passage, place: usize)
+        requires known { IsKnownTo flow.now passage }
+        requires others { AreKnownTo flow.now self.old.passages.items }
+        ensures { AreKnownTo flow.now self.new.passages.items }
+    {
+        let _ = self.passages.push(passage);
+        let _ = self.places.push(place);
     }
 }
 

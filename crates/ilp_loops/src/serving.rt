@@ -1,4 +1,5 @@
 //! What a loop does for the connections that it serves.
+ghost use Rattle.std.specs.Prelude.{◌≡◌};
 
 use crate::deeds::{count_reject, tell_deed};
 use crate::guest::{Guest, Stage, Written};
@@ -154,7 +155,8 @@ impl<J: Naming, C: Clock + Drop, K: Keeper<J> + Drop> Serving<J, C, K> {
         key: usize,
     ) -> Stage<J> {
         let (late, began) = self.times(shared);
-        let call = match self.flight.waiting.get(key) {
+        let flight = &self.flight;
+        let call = match flight.waiting.get(key) {
             Some(pending) => {
                 let prepare = pending.prepare();
                 let held = prepare.held;
@@ -193,10 +195,10 @@ impl<J: Naming, C: Clock + Drop, K: Keeper<J> + Drop> Serving<J, C, K> {
         place: usize,
         now: Duration,
     ) {
-        let Some(guest) = self.guests.get_mut(place) else {
+        let stage = self.take_stage(place);
+        if let Stage::Over = stage {
             return;
-        };
-        let stage = mem::replace(&mut guest.stage, Stage::Over);
+        }
         self.go_on_from(shared, registry, place, stage, now);
     }
 
@@ -226,7 +228,7 @@ impl<J: Naming, C: Clock + Drop, K: Keeper<J> + Drop> Serving<J, C, K> {
                 response,
                 taken,
                 until,
-            } => self.go_on_writing(shared, registry, place, response, taken, until),
+            } => self.go_on_writing(shared, registry, place, response, taken, until, now),
             other => other,
         };
         self.keep_stage(place, stage);
@@ -235,7 +237,7 @@ impl<J: Naming, C: Clock + Drop, K: Keeper<J> + Drop> Serving<J, C, K> {
     // Keeps how far a connection is.
     fn keep_stage(&mut self, place: usize, stage: Stage<J>) {
         if let Some(due) = stage.due() {
-            self.due = Some(self.due.unwrap_or(due).min(due));
+            self.look_by(due);
         }
         match &stage {
             Stage::Booked { .. } => {
@@ -261,7 +263,8 @@ impl<J: Naming, C: Clock + Drop, K: Keeper<J> + Drop> Serving<J, C, K> {
         call: Call,
     ) -> Stage<J> {
         let mut call = call;
-        let came = match self.flight.waiting.get(key) {
+        let flight = &self.flight;
+        let came = match flight.waiting.get(key) {
             Some(pending) => call.go_on(
                 &shared.outside(),
                 registry,
@@ -330,10 +333,14 @@ impl<J: Naming, C: Clock + Drop, K: Keeper<J> + Drop> Serving<J, C, K> {
         response: Response,
         taken: usize,
         until: Duration,
+        now: Duration,
     ) -> Stage<J> {
         let Some(guest) = self.guests.get_mut(place) else {
             return Stage::Over;
         };
+        if until <= now {
+            return Stage::Over;
+        }
         let is_stranger = response.status() == Status::Unauthorized;
         let address = if is_stranger { guest.address() } else { None };
         match guest.write(registry, Token(place), &response, taken) {
@@ -363,24 +370,46 @@ impl<J: Naming, C: Clock + Drop, K: Keeper<J> + Drop> Serving<J, C, K> {
         registry: &Registry,
         now: Duration,
     ) {
-        match self.due {
-            Some(due) if due <= now => {}
-            _ => return,
+        if !self.is_due(now) {
+            return;
         }
         self.due = None;
         for place in 0..self.guests.capacity() {
-            let Some(guest) = self.guests.get_mut(place) else {
-                continue;
-            };
-            match guest.stage.due() {
+            match self.due_at(place) {
                 Some(due) if due <= now => {
-                    let stage = mem::replace(&mut guest.stage, Stage::Over);
+                    let stage = self.take_stage(place);
                     let stage = self.unless_late(shared, stage, now);
                     self.go_on_from(shared, registry, place, stage, now);
                 }
-                Some(due) => self.due = Some(self.due.unwrap_or(due).min(due)),
+                Some(due) => self.look_by(due),
                 None => {}
             }
+        }
+    }
+
+    // Whether one of them may have to be looked at by now.
+    fn is_due(&self, now: Duration) -> bool {
+        match self.due {
+            Some(due) => due <= now,
+            None => false,
+        }
+    }
+
+    // By when the connection at this place is to be looked at, if one is there.
+    fn due_at(&self, place: usize) -> Option<Duration> {
+        self.guests.get(place)?.stage.due()
+    }
+
+    // Some connection is to be looked at by then.
+    fn look_by(&mut self, due: Duration) {
+        self.due = Some(self.due.unwrap_or(due).min(due));
+    }
+
+    // Takes out how far the connection at this place is; it is over where there is none.
+    fn take_stage(&mut self, place: usize) -> Stage<J> {
+        match self.guests.get_mut(place) {
+            Some(guest) => mem::replace(&mut guest.stage, Stage::Over),
+            None => Stage::Over,
         }
     }
 
@@ -393,16 +422,24 @@ impl<J: Naming, C: Clock + Drop, K: Keeper<J> + Drop> Serving<J, C, K> {
     ) -> Stage<J> {
         let outside = shared.outside();
         match stage {
-            Stage::Packet { sender, key, call } if call.give_up(&outside, now) => {
-                self.book(shared, sender, key, None)
+            Stage::Packet { sender, key, call } => {
+                if call.give_up(&outside, now) {
+                    return self.book(shared, sender, key, None);
+                }
+                Stage::Packet { sender, key, call }
             }
-            Stage::ToEngine { message, call } if call.give_up(&outside, now) => {
-                answered_message(shared, message, None, now)
+            Stage::ToEngine { message, call } => {
+                if call.give_up(&outside, now) {
+                    return answered_message(shared, message, None, now);
+                }
+                Stage::ToEngine { message, call }
             }
-            Stage::ToPeer { message: _, call } if call.give_up(&outside, now) => {
-                answered_peer(shared, None, now)
+            Stage::ToPeer { message, call } => {
+                if call.give_up(&outside, now) {
+                    return answered_peer(shared, None, now);
+                }
+                Stage::ToPeer { message, call }
             }
-            Stage::Responds { until, .. } if until <= now => Stage::Over,
             other => other,
         }
     }
@@ -474,14 +511,8 @@ impl<J: Naming, C: Clock + Drop, K: Keeper<J> + Drop> Serving<J, C, K> {
             let Some(guest) = self.guests.get_mut(place) else {
                 continue;
             };
-            let stage = match mem::replace(&mut guest.stage, Stage::Over) {
-                Stage::Booked { sender, booked } if booked.behind() <= handed.entries() => {
-                    let response = Response::to_packet(sender, booked.tell(handed));
-                    Stage::responds(response, now)
-                }
-                other => other,
-            };
-            guest.stage = stage;
+            let stage = mem::replace(&mut guest.stage, Stage::Over);
+            guest.stage = behind(stage, handed, now);
         }
     }
 
@@ -503,7 +534,7 @@ impl<J: Naming, C: Clock + Drop, K: Keeper<J> + Drop> Serving<J, C, K> {
             if let Stage::Booked { .. } = guest.stage {
                 if let Some(slot) = self.booked.get_mut(left) {
                     *slot = place;
-                    left += 1;
+                    left = left.saturating_add(1);
                 }
                 continue;
             }
@@ -514,6 +545,21 @@ impl<J: Naming, C: Clock + Drop, K: Keeper<J> + Drop> Serving<J, C, K> {
             self.go_on_from(shared, registry, place, stage, now);
         }
         self.booked.truncate(left);
+    }
+}
+
+// What comes next of a connection behind this journal: the sender of a packet that is booked is answered,
+// where the journal has it.
+fn behind<J: Naming>(stage: Stage<J>, handed: &HandedJournal<J>, now: Duration) -> Stage<J> {
+    match stage {
+        Stage::Booked { sender, booked } => {
+            if booked.behind() > handed.entries() {
+                return Stage::Booked { sender, booked };
+            }
+            let response = Response::to_packet(sender, booked.tell(handed));
+            Stage::responds(response, now)
+        }
+        other => other,
     }
 }
 

@@ -1,4 +1,5 @@
 //! What a worker's thread does: turn after turn it takes in what has come, and serves it.
+ghost use Rattle.std.specs.Prelude.{◌≡◌};
 
 use crate::jobs::Job;
 use crate::keeping::KeepingAsker;

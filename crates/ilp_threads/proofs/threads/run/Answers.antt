@@ -14,10 +14,8 @@ scoped-requires g c =
         search sendable depth 20,
         search sendable depth 20,
         search sendable depth 20,
-        search sendable depth 20,
       ),
       (
-        search sendable depth 20,
         search sendable depth 20,
         search sendable depth 20,
         search sendable depth 20,

@@ -14,20 +14,16 @@ scope-requires g c =
           (
             param_send _ _ (arg_send _ yes _ asked.4),
             (
-              param_send _ _ (arg_send _ yes _ asked.5),
+              param_sync _ _ (arg_sync _ yes _ asked.1),
               (
-                param_sync _ _ (arg_sync _ yes _ asked.1),
+                param_sync _ _ (arg_sync _ yes _ asked.5),
                 (
-                  param_sync _ _ (arg_sync _ yes _ asked.6),
-                  (
-                    search sendable depth 20,
-                    search sendable depth 20,
-                    search sendable depth 20,
-                    search sendable depth 20,
-                    search sendable depth 20,
-                    search sendable depth 20,
-                    search sendable depth 20,
-                  ),
+                  search sendable depth 20,
+                  search sendable depth 20,
+                  search sendable depth 20,
+                  search sendable depth 20,
+                  search sendable depth 20,
+                  search sendable depth 20,
                 ),
               ),
             ),
