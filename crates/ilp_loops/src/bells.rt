@@ -8,6 +8,8 @@ use std::sync::atomic::{AtomicBool, Ordering};
 #[derive(Drop)]
 pub struct Bells {
     bells: Vec<Bell>,
+    // Whether no job comes any more.
+    over: AtomicBool,
 }
 
 // Of one loop.
@@ -22,6 +24,7 @@ impl Bells {
     pub fn new(alloc: Global) -> Bells {
         Bells {
             bells: Vec::new(alloc),
+            over: AtomicBool::new(false),
         }
     }
 
@@ -51,6 +54,17 @@ impl Bells {
                 let _ = bell.waker.wake();
             }
         }
+    }
+
+    /// No job comes any more: wakes all loops that rest, and keeps the others from resting for that.
+    pub fn ring_out(&self) {
+        self.over.store(true, Ordering::SeqCst);
+        self.ring_all();
+    }
+
+    // Whether no job comes any more.
+    pub(crate) fn are_rung_out(&self) -> bool {
+        self.over.load(Ordering::SeqCst)
     }
 
     // The loop of this number rests from now on, until it is woken or wakes.

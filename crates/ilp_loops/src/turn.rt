@@ -138,7 +138,8 @@ impl<J: Naming, C: Clock + Drop, K: Keeper<J> + Drop> ServingLoop<J, C, K> {
             None => None,
         };
         shared.bells.rest(self.seat.number);
-        let comes = !jobs.is_empty() || self.serving.is_ripe(shared);
+        let ends = self.open && shared.bells.are_rung_out();
+        let comes = ends || !jobs.is_empty() || self.serving.is_ripe(shared);
         let left = if comes { Some(Duration::ZERO) } else { left };
         if self.seat.poll.poll(&mut self.seat.events, left).is_err() {
             thread::sleep(shared.rt, Duration::from_millis(REST_MS));

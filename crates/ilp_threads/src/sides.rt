@@ -146,7 +146,7 @@ fn run_between<J, R, L, K>(
 ) -> Result<Vec<End<J>>, Unprinted>
 where
     J: Naming + Send + Sync,
-    R: Net + Threads + Wait + Clock + Eprint + Sync,
+    R: Net<Listener = TcpListener, Stream = TcpStream> + Threads + Wait + Clock + Eprint + Sync,
     L: Links,
     K: SharedKeeper<J> + Drop + Send,
     requires { 2 ≤ vec_len shares }

@@ -16,7 +16,7 @@ use ilp_notices::closing;
 use ilp_settler::Sweeper;
 use ilp_workers::{Clock, EngineLink, Keeper};
 use std::io::Eprint;
-use std::net::Net;
+use std::net::{Net, TcpListener, TcpStream};
 use std::sync::Wait;
 use std::thread::{JoinHandle, Scope, Threads};
 use std::{thread, time};
@@ -47,7 +47,7 @@ where
     J: Naming + Send + Sync + 's,
     C: Clock + Drop + Send + 's,
     K: Keeper<J> + Drop + Send + 's,
-    R: Net + Wait + time::Clock + Eprint + Sync + 's,
+    R: Net<Listener = TcpListener, Stream = TcpStream> + Wait + time::Clock + Eprint + Sync + 's,
 {
     let mut threads = Vec::new(shared.desk.config().allocator());
     for own in loops {
@@ -70,7 +70,7 @@ where
     J: Naming + Send + Sync + 's,
     C: Clock + Drop + Send + 's,
     K: Keeper<J> + Drop + Send + 's,
-    R: Net + Wait + time::Clock + Eprint + Sync + 's,
+    R: Net<Listener = TcpListener, Stream = TcpStream> + Wait + time::Clock + Eprint + Sync + 's,
 {
     let jobs = jobs.clone()?;
     let shared = shared.another();
@@ -203,6 +203,7 @@ where
         Ok(thread) => thread.join(rt),
         Err(_) => {
             shared.intakes.accept_no_more();
+            peer_thread.join(rt);
             return Err(Unprinted::Spawn);
         }
     }
@@ -280,7 +281,7 @@ where
     C: Clock + Drop + Send + 's,
     E: EngineLink + Drop + Send + 's,
     K: SharedKeeper<J> + Drop + Send + 's,
-    R: Net + Wait + time::Clock + Eprint + Sync + 's,
+    R: Net<Listener = TcpListener, Stream = TcpStream> + Wait + time::Clock + Eprint + Sync + 's,
 {
     let Running {
         loops,
@@ -343,7 +344,12 @@ where
     C: Clock + Drop + Send,
     E: EngineLink + Drop + Send,
     K: SharedKeeper<J> + Drop + Send,
-    R: Net + Threads + Wait + time::Clock + Eprint + Sync,
+    R: Net<Listener = TcpListener, Stream = TcpStream>
+        + Threads
+        + Wait
+        + time::Clock
+        + Eprint
+        + Sync,
 {
     let config = shared.desk.config();
     // As many as there are places at most, so that no intake waits for a loop.
@@ -355,10 +361,17 @@ where
         move |scope| -> Result<Vec<End<J>>, Unprinted>
             requires { IsSend J.row × IsSync J.row × IsSend C.row × IsSend E.row × IsSend K.row × IsSync R.row }
         {
-            let threads = start_actors(scope, &shared, actors, jobs)?;
+            let threads = match start_actors(scope, &shared, actors, jobs) {
+                Ok(threads) => threads,
+                Err(fault) => {
+                    drop(sender);
+                    shared.bells.ring_out();
+                    return Err(fault);
+                }
+            };
             let accepted = accept_at_both(scope, &shared, acceptors, sender);
             // No job comes any more.
-            shared.bells.ring_all();
+            shared.bells.ring_out();
             if accepted.is_err() {
                 hurry.tell();
             }
