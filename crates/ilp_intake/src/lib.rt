@@ -1,6 +1,6 @@
 //! Taking in connections: they are accepted and read without waiting, and given on once what they
 //! ask for has come whole and is admitted. So a client that is idle or slow, or one whose like are
-//! being served already, takes up a place here, and no worker.
+//! being served already, takes up a place here alone.
 //!
 //! # What is proved
 //!
