@@ -103,6 +103,13 @@ impl<K: Copy> Connections<K> {
         self.waiting.len() + self.lingering.len() == self.most
     }
 
+    // Whether there are fewer than may be.
+    fn has_room(&self) -> bool
+        ensures { IsTrue result → vec_len self.now.waiting + vec_len self.now.lingering < self.now.most }
+    {
+        !self.is_full()
+    }
+
     /// Adds a connection that was accepted at this time, and reads it: mostly its request has come
     /// by then, and no event need tell of it. Where there are as many as may be, one of them is closed.
     /// The added one is closed where want of memory refuses it.
@@ -115,7 +122,7 @@ impl<K: Copy> Connections<K> {
         if self.is_full() {
             self.close_one(admission);
         }
-        if self.is_full() {
+        if !self.has_room() {
             return;
         }
         let alloc = *self.waiting.allocator();

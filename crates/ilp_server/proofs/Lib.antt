@@ -5,4 +5,3 @@ pub mod TargetLemmas
 pub mod TokenLemmas
 pub mod LawLemmas
 pub mod Responses
-pub mod Outcomes

@@ -1,7 +1,5 @@
 -- Whom a request is from and whom it is for, where serving it may wait for somebody outside.
 use Rattle.std.specs.Prelude.{◌≡◌, ◌⊎◌, ℕ, ◌+◌, ◌*◌, ◌<◌, List, length, Some, ⊤, codes}
-use Rattle.http_header.specs.FieldValue.{FieldValue}
-use Rattle.http_header.specs.HeaderMap.{Entries}
 use Rattle.ilp_packet.specs.Packet.{PlainPrepare, prepare, Spells}
 use Rattle.ilp_lookup.specs.Route.{IsRoute}
 use Rattle.ilp_accounts.specs.Configuration.{Configuration}

@@ -90,11 +90,14 @@ fn begin<J: Naming, C: Clock + Drop, U: Uplink + Drop, E: EngineLink + Drop, K: 
         Some(Target::Packet) => begin_packet(rt, alloc, flight, desk, request),
         Some(Target::Settlement { peer }) => {
             let outcome = serve_settlement(rt, alloc, &mut flight.worker, desk, peer, request);
-            Course::Answered(Response::to(outcome))
+            Course::Answered(Response::to_outcome(outcome))
         }
         Some(Target::Message { peer }) => begin_message(flight, desk, peer, request.body),
-        Some(Target::Report) => Course::Answered(Response::to(serve_report(rt, alloc, desk))),
-        Some(Target::Close) => Course::Answered(Response::to(Ok(Served::Close))),
+        Some(Target::Report) => {
+            let report = serve_report(rt, alloc, desk);
+            Course::Answered(Response::to_outcome(report))
+        }
+        Some(Target::Close) => Course::Answered(Response::to_outcome(Ok(Served::Close))),
     }
 }
 

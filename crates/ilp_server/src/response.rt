@@ -1,5 +1,6 @@
 //! A response that is to be written.
-ghost use Rattle.std.specs.Prelude.{◌≡◌, is_err, option_map, OnOk, OnErr, if◌then◌else◌};
+ghost use Rattle.std.specs.Prelude.{◌≡◌, is_err, OnOk, OnErr, if◌then◌else◌};
+ghost use Rattle.std.specs.Option.{option_copied};
 ghost use Rattle.std.specs.Io.KnownBytes.{Appends};
 ghost use Rattle.ilp_io.specs.Counts.{CountsUp};
 ghost use Rattle.ilp_io.specs.Writing.{AppendsProperPrefix};
@@ -95,7 +96,7 @@ impl Response {
     }
 
     /// The response to what became of a request for neither a packet nor a message.
-    pub(crate) fn to(outcome: Result<Served, NotServed>) -> Response
+    pub(crate) fn to_outcome(outcome: Result<Served, NotServed>) -> Response
         requires { NeedsNoWorker outcome }
         ensures { (worker : PlainWorker) → result ≡ response_to worker outcome }
     {
@@ -143,9 +144,9 @@ impl Response {
     /// What an engine is answered whose message a peer was handed: what the peer's engine answered, by
     /// the octets that came, if any did. Where memory for that is denied it is answered 503.
     pub fn to_message(alloc: Global, came: Option<&[u8]>) -> Response
-        ensures { IsToMessage (peer_answer_of (option_map (λ octets. octets.now) came)) result }
+        ensures { IsToMessage (peer_answer_of (option_copied came.entry)) result }
     {
-        let Some(answer) = came.and_then(peer_answer_in) else {
+        let Some(answer) = answer_in(came) else {
             return Response::refusal(NotServed::Message(MessageFault::NoAnswer));
         };
         let mut body = Octets::new(alloc);
@@ -160,6 +161,13 @@ impl Response {
             Err(_) => Response::refusal(NotServed::Memory),
         }
     }
+}
+
+// What a peer's engine answered, by the octets that came, if any did.
+fn answer_in(came: Option<&[u8]>) -> Option<&[u8]>
+    ensures { option_copied result ≡ peer_answer_of (option_copied came.entry) }
+{
+    peer_answer_in(came?)
 }
 
 impl Body {
