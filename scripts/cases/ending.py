@@ -95,7 +95,7 @@ def end_beside_a_silent_peer(laboratory: Laboratory) -> None:
 def close_beside_waiting_packets(laboratory: Laboratory) -> None:
     """A close is answered and nobody is accepted any more, though packets wait for places. What has not
     begun after the longest hold and ten seconds is closed unanswered, and nothing of it is booked."""
-    program = laboratory.serve(never_answers, workers=4, max_hold_ms=int(HOLD * 1000))
+    program = laboratory.serve(never_answers, in_flight=4, max_hold_ms=int(HOLD * 1000))
     links = [laboratory.connect(program.setup.peers_port) for _ in range(20)]
     for link in links:
         link.sendall(packet_request(program, soon(1, milliseconds=60_000)))

@@ -147,6 +147,12 @@ def raise_own_limit() -> None:
     resource.setrlimit(resource.RLIMIT_NOFILE, (most, most))
 
 
+def own_limit() -> int:
+    """How many descriptors this process, and a program that it starts, may have."""
+    _, most = resource.getrlimit(resource.RLIMIT_NOFILE)
+    return most
+
+
 def is_program(path: Path) -> bool:
     """Whether a path names something that can be run."""
     return path.is_file() and os.access(path, os.X_OK)
