@@ -9,8 +9,9 @@ Each case has a configuration, ports and tokens of its own, runs `connector serv
 on 127.0.0.1, and is told as `ok` or by what differed from the rules (docs/PROTOCOL.md,
 docs/OPERATING.md). At its end each line on standard error is to have one of the forms of
 scripts/cases/lines.py. The exit status is 1 where one differs, and 2 where the arguments are not
-understood. Without names all cases are played, which takes some eight minutes. It needs Linux, Python
-3.11, at least 1,512 open files, and for some cases a C compiler, and shares nothing with the crates.
+understood. Without names all cases are played, which takes some ten minutes. It needs Linux, Python
+3.11, at least 12,288 open files (with 18,460 a case has all of its 4,096 packets in flight), and for some cases
+a C compiler, and shares nothing with the crates.
 """
 import signal
 import sys

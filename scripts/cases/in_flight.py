@@ -7,13 +7,16 @@ from cases.crowds import Answer, Crowd, Hall, octet_by_octet, room_for
 from cases.disks import Disk
 from cases.ending import MARGIN, await_nobody_accepted
 from cases.journals import Kept
-from cases.laboratory import AT_ONCE, END, Laboratory, close, expect_end, packet_request, post_close, send_packet
+from cases.laboratory import (AT_ONCE, END, Laboratory, close, credit, expect_end, packet_request, post_close,
+                              send_packet)
 from cases.log_faults import AGAIN, await_fulfilled
-from cases.messages import HERE, bearer, post, request, response, seconds_since, soon
+from cases.messages import HERE, bearer, created, post, request, response, seconds_since, soon
 from cases.operating import own_limit
 from cases.program import Program, Setup, numbers_in, secret
-from cases.stand_ins import FULFILLS, free_port
+from cases.stand_ins import FULFILLS, engine_of, free_port
 from cases.telling import files_wanted, in_flight_by
+from cases.telling_of_the_book import rejects_told
+from connections import ANSWER, MESSAGE, quantity
 from packets import reject
 from scenes import FULFILL, R00, T01, fulfill
 
@@ -244,6 +247,34 @@ def turned_away(laboratory: Laboratory) -> None:
     expect("what all of them are answered", {one.answer for one in [first, hers, *waiting]}, {response(200, FULFILL)})
     expect("how many had a turn before carol", sum((one.ended or 0.0) < (hers.ended or 0.0) for one in waiting), 0)
     close_beside_carol(program)
+    expect("the Rejects that lines tell of", rejects_told(program, "alice"), {"T03": 41})
+
+
+@case
+def turned_away_messages(laboratory: Laboratory) -> None:
+    """So are messages of an engine, by 503; what waits for nobody is served at that side all the same."""
+    bob = Hall(laboratory)
+    program = laboratory.serve(bob.port, engine_of(), levels=False, in_flight=2, max_hold_ms=LONG)
+    crowd, port = Crowd(laboratory), program.setup.engines_port
+    message = request("/accounts/bob/messages", body=MESSAGE)
+    first = crowd.send(port, message)
+    bob.await_count(1)
+    waiting = crowd.send_all(port, [message] * 1024)
+    for _ in range(10):
+        newest = waiting.pop()
+        waiting.append(crowd.send(port, message))
+        crowd.await_ended([newest], 5.0)
+        expect("what the newest is answered", newest.answer, response(503))
+    newest = waiting.pop()
+    expect("a credit", credit(program, 7), created(quantity(7, 2)))
+    crowd.await_ended([newest], 5.0)
+    expect("what the newest is answered beside a credit", newest.answer, response(503))
+    crowd.look()
+    expect("how many others had an end", [one for one in [first, *waiting] if one.ended is not None], [])
+    bob.speak(response(200, fulfill(data=ANSWER)))
+    crowd.await_ended([first, *waiting], 30.0)
+    expect("what they are answered", {one.answer for one in [first, *waiting]}, {response(201, ANSWER)})
+    close(program, bob=7)
 
 
 @case
