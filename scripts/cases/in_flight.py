@@ -84,6 +84,14 @@ def expect_healthy(program: Program, count: int) -> None:
         expect_that(f"packet {number} to alice took {took:.3f} seconds", took < HEALTHY)
 
 
+def await_accepted(program: Program, connections: int, within: float = 20.0) -> None:
+    """Waits until the connector has so many connections, of peers and to peers."""
+    end = time.monotonic() + within
+    while (found := program.descriptors()) < connections:
+        expect_that(f"it has {found} open files, and {connections} connections", time.monotonic() < end)
+        time.sleep(0.02)
+
+
 # ---- a peer that is silent, slow, or gone
 
 @case
@@ -97,6 +105,7 @@ def nobody_is_held_up(laboratory: Laboratory) -> None:
         crowd.send(port, packet_request(program, soon(1, milliseconds=LONG)))
         crowd.send(port, packet_of(carol, soon(1, milliseconds=LONG)))
     bob.await_count(HALF)
+    await_accepted(program, len(crowd.clients) + HALF)
     expect_healthy(program, 100)
     expect("how many packets bob has", len(bob.bodies), HALF)
     crowd.look()
