@@ -2,6 +2,16 @@
 
 use crate::helping::is_help;
 
+/// The words that the program is started with: a command, and what it is about.
+#[derive(Drop)]
+pub(crate) struct Words {
+    pub(crate) command: String,
+    pub(crate) first: Option<String>,
+    pub(crate) second: Option<String>,
+    pub(crate) third: Option<String>,
+    pub(crate) fourth: Option<String>,
+}
+
 /// A command and what it is about.
 #[derive(Clone, Copy)]
 pub(crate) enum Asked<'w> {
@@ -22,27 +32,29 @@ pub(crate) enum Asked<'w> {
     Follows(&'w str, &'w str, &'w str, &'w str),
 }
 
-/// What the words ask for that the program is started with: a command, and what it is about. None where they are
-/// no command.
-pub(crate) fn asked(words: &[String]) -> Option<Asked<'_>> {
-    match words {
-        [command] => asked_alone(command.as_str()),
-        [command, argument] => asked_of(command.as_str(), argument.as_str()),
-        [command, config, journal] => {
-            asked_with_journal(command.as_str(), config.as_str(), journal.as_str())
-        }
-        [command, config, journal, next] if command.as_str() == "new-period" => Some(
-            Asked::NewPeriod(config.as_str(), journal.as_str(), Some(next.as_str())),
-        ),
-        [command, config, ended, next, journal] if command.as_str() == "follows" => Some(
-            Asked::Follows(
-                config.as_str(),
-                ended.as_str(),
-                next.as_str(),
-                journal.as_str(),
+impl Words {
+    /// What these words ask for; none where they are no command.
+    pub(crate) fn asked(&self) -> Option<Asked<'_>> {
+        let command = self.command.as_str();
+        match (&self.first, &self.second, &self.third, &self.fourth) {
+            (None, ..) => asked_alone(command),
+            (Some(argument), None, ..) => asked_of(command, argument.as_str()),
+            (Some(config), Some(journal), None, _) => {
+                asked_with_journal(command, config.as_str(), journal.as_str())
+            }
+            (Some(config), Some(journal), Some(next), None) if command == "new-period" => Some(
+                Asked::NewPeriod(config.as_str(), journal.as_str(), Some(next.as_str())),
             ),
-        ),
-        _ => None,
+            (Some(config), Some(ended), Some(next), Some(journal)) if command == "follows" => {
+                Some(Asked::Follows(
+                    config.as_str(),
+                    ended.as_str(),
+                    next.as_str(),
+                    journal.as_str(),
+                ))
+            }
+            _ => None,
+        }
     }
 }
 

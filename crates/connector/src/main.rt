@@ -11,7 +11,7 @@ mod helping;
 mod replaying;
 mod streams;
 
-use asking::{Asked, asked};
+use asking::{Asked, Words};
 use checking::{run_check, run_check_journal};
 use helping::{USAGE, run_help, run_version};
 use ilp_described::{describe_packet, reject_words};
@@ -19,7 +19,6 @@ use ilp_new_period::{follows, new_period};
 use ilp_refusals::Refusal;
 use ilp_starting::{Host, PlacesFiles, Refused, RunFault, serve};
 use replaying::run_replay;
-use std::alloc::AllocError;
 use std::env;
 use std::fs::File;
 use std::io::ErrorKind;
@@ -56,29 +55,40 @@ fn main(rt: HostRuntime) -> ExitCode {
 }
 
 // The words that the program is started with.
-fn given_words<R: Runtime + AllocGlobal>(rt: &R) -> Result<Vec<String>, Exit> {
-    let args = match env::args(rt) {
-        Ok(args) => args,
+fn given_words<R: Runtime + AllocGlobal>(rt: &R) -> Result<Words, Exit> {
+    let mut words = match env::args(rt) {
+        Ok(args) => args.skip(1),
         Err(error) if error.kind() == ErrorKind::OutOfMemory => {
             return Err(Exit::from(Refusal::Memory));
         }
         Err(_) => return Err(Exit::Misused),
     };
-    match args.skip(1).collect(rt.alloc()) {
-        Ok(words) => Ok(words),
-        Err(AllocError) => Err(Exit::from(Refusal::Memory)),
+    let Some(command) = words.next() else {
+        return Err(Exit::Misused);
+    };
+    let (first, second) = (words.next(), words.next());
+    let (third, fourth) = (words.next(), words.next());
+    match words.next() {
+        None => Ok(Words {
+            command,
+            first,
+            second,
+            third,
+            fourth,
+        }),
+        Some(_) => Err(Exit::Misused),
     }
 }
 
 // Runs what the words ask for.
-fn run<R>(rt: &R, words: &[String]) -> Exit
+fn run<R>(rt: &R, words: &Words) -> Exit
 where
     R: Host
         + Files<File = File>
         + PlacesFiles<File = File>
         + Net<Listener = TcpListener, Stream = TcpStream>,
 {
-    match asked(words) {
+    match words.asked() {
         Some(asked) => run_asked(rt, asked),
         None => Exit::Misused,
     }
