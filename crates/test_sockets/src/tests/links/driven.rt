@@ -38,8 +38,13 @@ impl<'a, R: Net + Clock + Eprint> Driven<'a, R> {
     fn drive(&mut self, call: Call, packet: &[u8]) -> Option<Octets> {
         let mut call = call;
         for _ in 0..TURNS {
-            let (registry, buffer) = (self.poll.registry(), &mut self.buffer);
-            match call.go_on(&self.outside, registry, Token(0), packet, buffer) {
+            match call.go_on(
+                &self.outside,
+                self.poll.registry(),
+                Token(0),
+                packet,
+                &mut self.buffer,
+            ) {
                 Came::Over(came) => return came,
                 Came::NotYet => {}
             }
