@@ -54,7 +54,8 @@ impl<'a, R: Net + Clock + Eprint> Driven<'a, R> {
             }
             let left = call.due().saturating_sub(now);
             self.poll.poll(&mut self.events, Some(left)).ok()?;
-            if call.give_up(&self.outside, self.now()) {
+            let now = self.now();
+            if call.give_up(&self.outside, now) {
                 return None;
             }
         }
