@@ -30,7 +30,7 @@ use Rattle.ilp_server.specs.declared.course.Course.TheVariants.{Answered, Packet
 use Rattle.ilp_server.specs.Targets.{AsksFor}
 use Rattle.ilp_server.specs.Fields.{values_in, IsFrom}
 use Rattle.ilp_server.specs.Statuses.{unread}
-use Rattle.ilp_server.specs.Serving.{Inquiry, inquiry, ServesTarget}
+use Rattle.ilp_server.specs.Serving.{Inquiry, inquiry, ServesTarget, Serves}
 use Rattle.ilp_server.specs.Response.{PlainResponse, response_to, refusal, IsToPacket}
 
 -- a worker, and what it began that waits
@@ -119,3 +119,10 @@ IsBegunBy desk side (Err fault) before after course = (course ≡ course_of_unre
 abbrev pub BeginsRequest : PlainDesk → Side → List ℕ → PlainFlight → PlainFlight → Course → Type 0
 BeginsRequest desk side octets before after course =
     (request : Result Request RequestFault) × IsAnswer octets request × IsBegunBy desk side request before after course
+
+-- ---- both halves
+
+-- The worker serves the request as a whole, and this is the response to what it made of it.
+abbrev pub IsServedAs : PlainDesk → Inquiry → PlainWorker → PlainWorker → PlainResponse → Type 0
+IsServedAs desk i before after r =
+    (outcome : Result Served NotServed) × Serves desk i before after outcome × (r ≡ response_to after outcome)

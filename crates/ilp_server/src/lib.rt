@@ -41,7 +41,9 @@
 //!   receiver. Both numbers are below twice the count of peers, and the octets are those of the body.
 //!   Of octets that it tells as local nothing is said.
 //! - `laws`: in a valid configuration a path asks for at most one thing at a side, and a request is
-//!   from at most one peer.
+//!   from at most one peer. A packet that `begin_request` has wait, that the next peer was handed and
+//!   that the worker finished was served as `answer_connection` serves it, and `to_packet` is that
+//!   response; so was a message for the engine here that was handed it and answered.
 //! - `NotServed` is the table of statuses of what is not served (`specs/Statuses.antt`); `unread`
 //!   says what becomes of a connection without a request.
 #![tactic(auto)]
