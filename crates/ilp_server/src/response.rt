@@ -31,7 +31,7 @@ pub struct Response {
 
 // What a response has behind its head.
 #[derive(Drop)]
-pub(crate) enum Body {
+enum Body {
     Nothing,
     Octets(Octets),
     Text(Vec<u8>),
