@@ -11,6 +11,7 @@
 //!   octets, in whatever pieces they came (`specs/Request.antt`, `specs/Answer.antt`).
 //! - `read_request` answers `Failed` just where a read failed, `TooManyReads` only after 4,096
 //!   reads of which none failed, `Memory` only where there is a request.
+//! - `request_in` answers the same of octets in memory, with no fault of a read.
 //! - `look_at` says by the same definitions whether octets so far begin with a request, begin one,
 //!   or are refused whatever follows. In a head, no request is whole before a line feed comes; in a
 //!   body it says with how many octets one is. It takes no memory.
@@ -49,7 +50,7 @@ pub use laws::{
 pub use limits::{BODY_LIMIT, BUFFER_LENGTH, FIELD_LIMIT, HEAD_LIMIT, MOST_READS};
 pub use outgoing::{Outgoing, OwnField};
 pub use refusal::{Refusal, RequestFault};
-pub use request::{Request, read_request};
+pub use request::{Request, read_request, request_in};
 pub use response::{Response, ResponseFault, read_response};
 pub use status::{Kind, Status};
 pub use writing::{write_request, write_response};

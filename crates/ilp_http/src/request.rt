@@ -6,7 +6,7 @@ ghost use Rattle.ilp_io.specs.Pulls.{PullsWhile};
 ghost use Rattle.ilp_http.specs.Limits.{most_reads};
 ghost use Rattle.ilp_http.specs.Request.{EndsEarly};
 ghost use Rattle.ilp_http.specs.Layout.{IsLayoutOf};
-ghost use Rattle.ilp_http.specs.Answer.{IsAnswer, AnswersInTime, IsFaultOf, HasPartsOf, failed_reads};
+ghost use Rattle.ilp_http.specs.Answer.{IsAnswer, AnswersInTime, IsFaultOf, IsOfNoRead, HasPartsOf, failed_reads};
 
 use crate::buffer::{Buffer, ROOM};
 use crate::examination::{Finding, Layout, examine};
@@ -126,5 +126,24 @@ pub fn read_request<'b, S: Source>(
     match request_at(alloc, &buffer.octets[..filled], &spans, &layout) {
         Ok(request) => Ok(request),
         Err(AllocError) => Err(RequestFault::Memory),
+    }
+}
+
+/// The request that octets in memory begin with: what `read_request` answers of an input that ends
+/// behind them, without a read. So a fault is a refusal of the octets, or memory for the fields was
+/// denied.
+pub fn request_in(alloc: Global, octets: &[u8]) -> Result<Request<'_>, RequestFault>
+    ensures answer { IsAnswer octets.now result }
+    ensures unread { IfErr result IsOfNoRead }
+{
+    let mut spans = [EMPTY_HEADER_SPAN; FIELD_LIMIT];
+    match examine(octets, &mut spans) {
+        Finding::Whole(layout) => match request_at(alloc, octets, &spans, &layout) {
+            Ok(request) => Ok(request),
+            Err(AllocError) => Err(RequestFault::Memory),
+        },
+        Finding::InHead => Err(RequestFault::Refused(Refusal::BadRequest)),
+        Finding::InBody { .. } => Err(RequestFault::Refused(Refusal::BadRequest)),
+        Finding::Refused(refusal) => Err(RequestFault::Refused(refusal)),
     }
 }

@@ -100,7 +100,6 @@ impl<J: Naming, C: Clock + Drop, K: Keeper<J> + Drop> Serving<J, C, K> {
             shared.desk,
             side,
             octets.as_slice(),
-            &mut self.buffer,
         );
         let stage = self.begin(shared, course, now);
         self.go_on_from(shared, registry, place, stage, now);

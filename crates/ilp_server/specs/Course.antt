@@ -1,9 +1,9 @@
 -- The first half of serving a connection: what is begun of the request that its octets begin with.
-use Rattle.std.specs.Prelude.{◌≡◌, ◌⊎◌, ℕ, List, codes, Result, Ok, Err}
+use Rattle.std.specs.Prelude.{◌≡◌, ◌⊎◌, ℕ, List, codes, Result, Ok, Err, IfErr}
 use Rattle.http_header.specs.FieldValue.{FieldValue}
 use Rattle.http_header.specs.HeaderMap.{Entries}
 use Rattle.slab.specs.Slab.{Slab}
-use Rattle.ilp_http.specs.Answer.{IsAnswer}
+use Rattle.ilp_http.specs.Answer.{IsAnswer, IsOfNoRead}
 use Rattle.ilp_http.specs.declared.refusal.RequestFault.{RequestFault}
 use Rattle.ilp_http.specs.declared.request.Request.{Request}
 use Rattle.ilp_desk.specs.Desk.{PlainDesk}
@@ -115,10 +115,11 @@ IsBegunBy desk side (Ok request) before after course =
     BeginsInquiry desk (inquiry side request.path.now request.headers request.body.now) before after course
 IsBegunBy desk side (Err fault) before after course = (course ≡ course_of_unread (unread fault)) × (after ≡ before)
 
--- What the octets are read as is begun.
+-- What the octets are is begun. They lie in memory: no read fails.
 abbrev pub BeginsRequest : PlainDesk → Side → List ℕ → PlainFlight → PlainFlight → Course → Type 0
 BeginsRequest desk side octets before after course =
-    (request : Result Request RequestFault) × IsAnswer octets request × IsBegunBy desk side request before after course
+    (request : Result Request RequestFault)
+    × IsAnswer octets request × IfErr request IsOfNoRead × IsBegunBy desk side request before after course
 
 -- ---- both halves
 

@@ -14,7 +14,7 @@ use crate::target::{Side, Target, target_of};
 use crate::unserved::{NotServed, unread};
 use ilp_desk::{Desk, Naming};
 use ilp_flight::{Flight, NoStart, Started};
-use ilp_http::{Buffer, Request, read_request};
+use ilp_http::{Request, request_in};
 use ilp_oer::Octets;
 use ilp_workers::{Answer, Clock, EngineLink, EngineMessage, Keeper, PeerMessage, Receipt, Uplink};
 use std::alloc::Global;
@@ -31,7 +31,7 @@ pub enum Course {
     ToEngine(EngineMessage),
     /// A peer is to be handed a message of the engine here.
     ToPeer(PeerMessage),
-    /// Nothing is written.
+    /// Nothing is written, since memory for the fields of the request was denied.
     Unanswered(ConnectionFault),
 }
 
@@ -55,14 +55,12 @@ pub fn begin_request<
     desk: &Desk<J>,
     side: Side,
     octets: &[u8],
-    buffer: &mut Buffer,
 ) -> Course
     ensures begun { BeginsRequest J.desk side octets.now (flight_of flight.old.worker flight.old.waiting)
         (flight_of flight.new.worker flight.new.waiting) result }
 {
     let alloc = desk.config().allocator();
-    let mut source = octets;
-    match read_request(alloc, &mut source, buffer) {
+    match request_in(alloc, octets) {
         Ok(request) => begin(rt, alloc, flight, desk, side, &request),
         Err(fault) => match unread(fault) {
             Ok(why) => Course::Answered(Response::refusal(why)),

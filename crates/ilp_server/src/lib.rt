@@ -31,7 +31,8 @@
 //!   `Flight::begin` does, from the token's peer: it waits under that key, or the engine here is to be
 //!   asked, or it is answered by the worker's octets, or by 503 where memory for their copy is denied.
 //!   A message is made ready for the path's peer. Settlements, reports and closes are served whole, as
-//!   above, and what waited still waits. Not said: that octets in memory are read without a fault.
+//!   above, and what waited still waits. Octets that begin with a request are
+//!   left unanswered only where memory for their fields is denied.
 //! - A `Response` (`specs/Response.antt`) is written as `answer_connection` writes. `to_packet` is the
 //!   answer's octets with the deed that the sender is told its Reject; `to_message` is what the peer's
 //!   engine answered, 503 where memory for it is denied, and 502 where it answered nothing.

@@ -8,7 +8,7 @@ use crate::fields::sender_of;
 use crate::target::{Side, Target, target_of};
 use ilp_accounts::Config;
 use ilp_flow::Passage;
-use ilp_http::{Buffer, Request, read_request};
+use ilp_http::{Request, request_in};
 use ilp_packet::Packet;
 use ilp_replies::is_for_engine;
 use std::alloc::Global;
@@ -28,18 +28,11 @@ pub enum Work {
 ///
 /// It reads them as `begin_request` does, and serves nothing. They count as local where memory for
 /// their fields is denied: they are answered without waiting for anybody, if they are refused then
-/// too. The buffer's content is of no use afterwards.
-pub fn work_of(
-    alloc: Global,
-    config: &Config,
-    side: Side,
-    octets: &[u8],
-    buffer: &mut Buffer,
-) -> Work
+/// too.
+pub fn work_of(alloc: Global, config: &Config, side: Side, octets: &[u8]) -> Work
     ensures { IsWork config.now side octets.now result }
 {
-    let mut source = octets;
-    match read_request(alloc, &mut source, buffer) {
+    match request_in(alloc, octets) {
         Ok(request) => work_for(config, side, &request),
         Err(_) => Work::Local,
     }

@@ -4,7 +4,6 @@ use crate::busy::Busy;
 use crossbeam_channel::Sender;
 use ilp_accounts::Config;
 use ilp_desk::Naming;
-use ilp_http::Buffer;
 use ilp_intake::{Admission, Intake};
 use ilp_loops::{Job, Places, Shared};
 use ilp_notices::Notices;
@@ -19,8 +18,6 @@ use std::time::Clock;
 pub(crate) struct Acceptor {
     pub(crate) side: Side,
     pub(crate) intake: Intake<Work>,
-    /// Room for a request, by which it is found out what that asks for.
-    pub(crate) buffer: Buffer,
     /// What is told whoever is turned away.
     pub(crate) busy: Busy,
 }
@@ -32,7 +29,6 @@ struct Placing<'a, R> {
     config: &'a Config,
     places: &'a Places,
     side: Side,
-    buffer: Buffer,
     busy: Busy,
     notices: &'a Notices,
 }
@@ -42,13 +38,7 @@ impl<R: Wait + Clock> Admission for Placing<'_, R> {
 
     fn kind_of(&mut self, octets: &[u8]) -> Work {
         let config = self.config;
-        work_of(
-            config.allocator(),
-            config,
-            self.side,
-            octets,
-            &mut self.buffer,
-        )
+        work_of(config.allocator(), config, self.side, octets)
     }
 
     fn admit(&mut self, ready: &[Work]) -> Option<usize> {
@@ -95,7 +85,6 @@ pub(crate) fn accept_all<J: Naming, R: Wait + Clock>(
     let Acceptor {
         side,
         mut intake,
-        buffer,
         busy,
     } = acceptor;
     let rt = shared.rt;
@@ -104,7 +93,6 @@ pub(crate) fn accept_all<J: Naming, R: Wait + Clock>(
         config: shared.desk.config(),
         places: shared.places,
         side,
-        buffer,
         busy,
         notices: shared.notices,
     };

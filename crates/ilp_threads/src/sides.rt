@@ -9,7 +9,6 @@ use crate::open_files::{in_flight_by, open_files, waiting_by, wanted};
 use crate::threads::{Acceptors, Running, run};
 use ilp_accounts::Config;
 use ilp_desk::{Desk, End, Naming, Share};
-use ilp_http::Buffer;
 use ilp_intake::{Intake, IntakeHandle, MOST_WAITING, listen};
 use ilp_keeping::SharedKeeper;
 use ilp_links::Links;
@@ -77,7 +76,6 @@ where
     R: Net<Listener = TcpListener, Stream = TcpStream> + Clock + Eprint,
 {
     let alloc = config.allocator();
-    let buffer = Buffer::new(alloc)?;
     let busy = Busy::new(alloc, config)?;
     let after = ending_after(config.max_hold_ms());
     let opened = match listen(rt, place) {
@@ -89,7 +87,6 @@ where
             Acceptor {
                 side,
                 intake,
-                buffer,
                 busy,
             },
             handle,
