@@ -27,8 +27,8 @@ const LOOK: Token = Token(usize::MAX - 2);
 ///
 /// What no clause can say, since the system holds it: connections are accepted and read without
 /// waiting for any one client, nor for whoever takes them; at most so many wait as it was made for,
-/// and past that one is closed; where the system has no descriptor for one more, the oldest goes whose
-/// request has not come whole; each has 10 seconds in all for its request, and is closed without an answer then; and its octets take 81,920
+/// and past that, or where the system has no descriptor for one more, the oldest goes; each has 10
+/// seconds in all for its request, and is closed without an answer then; and its octets take 81,920
 /// of memory at most, and none while nothing came. One that was answered although more of its request
 /// may come is read for a second more and to 1 MiB, which takes no memory, and counts among those that
 /// wait.
@@ -91,8 +91,7 @@ enum Backlog {
 
 impl<K: Copy> Intake<K> {
     /// The intake of a listening socket, and what reaches it. So many connections wait at most, of
-    /// which each has a descriptor: at least 1 and at most `MOST_WAITING`, whatever is asked for. Their
-    /// senders' numbers are not above the last. Once
+    /// which each has a descriptor: at least 1 and at most `MOST_WAITING`, whatever is asked for. Once
     /// it is closed, connections are given on for so long at most. Where memory is denied the error's
     /// kind is `OutOfMemory`.
     pub fn new(
@@ -100,7 +99,6 @@ impl<K: Copy> Intake<K> {
         alloc: Global,
         listener: Listener,
         most: usize,
-        last: u32,
         ending: Duration,
     ) -> io::Result<(Intake<K>, IntakeHandle)> {
         let mut listener = listener;
@@ -117,7 +115,7 @@ impl<K: Copy> Intake<K> {
             events: Events::with_capacity(alloc, MOST_EVENTS)?,
             listener: Some(listener),
             backlog: Backlog::Empty,
-            connections: Connections::new(alloc, most, last)?,
+            connections: Connections::new(alloc, most)?,
             returned,
             ending,
             watch: Watch::new(),

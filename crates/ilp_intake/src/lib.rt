@@ -11,7 +11,6 @@
 #![tactic(auto)]
 
 mod admission;
-mod closing;
 mod connection;
 mod connections;
 mod incoming;

@@ -1,8 +1,8 @@
 //! How many connections wait, and for how long.
 
 /// How many connections wait at an intake at most, those that linger among them. When one more comes,
-/// one is closed: the one that lingers longest; else the one that has waited longest for its request;
-/// else the newest of the sender with most.
+/// one that lingers is closed, or else the one that has waited longest for its request, without an
+/// answer.
 pub const MOST_WAITING: usize = 1_024;
 
 /// How long a request may take to come, in milliseconds from the moment at which its connection was

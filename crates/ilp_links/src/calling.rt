@@ -3,7 +3,7 @@
 use crate::hurry::{HurriedReader, Hurry};
 use crate::no_answer::NoAnswer;
 use crate::time_left::{instant_after, left_until};
-use crate::timed::TimedWriter;
+use crate::timed::{TimedReader, TimedWriter};
 use ilp_client::post;
 use ilp_http::{Buffer, Outgoing, Response};
 use std::io;
@@ -17,8 +17,26 @@ const CONNECT_MS: u64 = 1_000;
 
 /// Sends a request over a connection of its own, which is closed after, and reads the response. All
 /// of it ends in so many milliseconds, and connecting in a second of them. A place is `IP:PORT`: no
-/// name is looked up, which could take any time. Once the connector ends, the response is waited for a
-/// second more at most.
+/// name is looked up, which could take any time.
+pub(crate) fn call<'b, R: Net<Stream = TcpStream> + Clock>(
+    rt: &R,
+    place: &str,
+    milliseconds: u64,
+    head: &Outgoing<'_>,
+    body: &[u8],
+    buffer: &'b mut Buffer,
+) -> Result<Response<'b>, NoAnswer> {
+    let (address, until) = destination(rt, place, milliseconds)?;
+    let stream = match connect(rt, address, until) {
+        Ok(stream) => stream,
+        Err(error) => return Err(NoAnswer::NotReached(error.kind())),
+    };
+    let mut source = TimedReader::new(rt, &stream, until);
+    exchange(rt, &stream, &mut source, until, head, body, buffer)
+}
+
+/// Sends a request as `call` does. Once the connector ends, the response is waited for a second more at
+/// most.
 pub(crate) fn call_hurried<'b, R: Net<Stream = TcpStream> + Clock>(
     rt: &R,
     place: &str,

@@ -39,9 +39,8 @@ impl Hurry {
     }
 }
 
-/// Reads of what an engine answers. They all end by one moment: what is left of the time is set before
-/// each, so that an engine that drips octets gains none. Once the connector begins to end, they end within
-/// a second of that.
+/// Reads of what an engine answers. They all end by one moment, as those of `TimedReader`; and once the
+/// connector begins to end, within a second of that.
 #[derive(Drop)]
 pub(crate) struct HurriedReader<'s, R> {
     rt: &'s R,

@@ -1,5 +1,5 @@
 //! The links of a running connector: its clock, and the ways over TCP by which the actors of a desk
-//! reach peers and settlement engines. A `Call` waits for nobody; an `EngineWay` does.
+//! reach peers and settlement engines.
 //!
 //! What a socket gives or takes, and how long that takes, no clause can say: it stands in the
 //! comments, and `test_sockets` tests it over real sockets.
@@ -14,23 +14,20 @@
 //! - `SystemClock` gives the whole milliseconds of its time.
 #![tactic(auto)]
 
-mod call;
 mod calling;
 mod engine_way;
-mod exchange;
 mod hurry;
 mod links;
 mod no_answer;
-mod resumed;
+mod peer_link;
 mod system_clock;
 mod time_left;
 mod timed;
 
-pub use call::{Call, Came, Outside};
 pub use engine_way::EngineWay;
 pub use hurry::Hurry;
 pub use links::{Links, TcpLinks};
-pub use resumed::Resumed;
+pub use peer_link::PeerLink;
 pub use system_clock::SystemClock;
 pub use time_left::instant_after;
-pub use timed::TimedWriter;
+pub use timed::{TimedReader, TimedWriter};

@@ -2,8 +2,9 @@
 
 use crate::engine_way::EngineWay;
 use crate::hurry::Hurry;
+use crate::peer_link::PeerLink;
 use ilp_accounts::Config;
-use ilp_link_traits::{Clock, EngineLink};
+use ilp_link_traits::{Clock, EngineLink, Uplink};
 use ilp_notices::Notices;
 use std::alloc::AllocError;
 use std::io::Eprint;
@@ -15,11 +16,17 @@ pub trait Links {
     /// An actor's clock.
     type Clock: Clock + Drop + Send;
 
+    /// An actor's way to the peers.
+    type Uplink: Uplink + Drop + Send;
+
     /// An actor's way to the settlement engines.
     type Engine: EngineLink + Drop + Send;
 
     /// A clock.
     fn clock(&self) -> Self::Clock;
+
+    /// A way to the peers. `AllocError` tells that memory is short.
+    fn uplink(&self) -> Result<Self::Uplink, AllocError>;
 
     /// A way to the settlement engines. `AllocError` tells that memory is short.
     fn engine(&self) -> Result<Self::Engine, AllocError>;
@@ -44,8 +51,8 @@ pub struct TcpLinks<'c, R: Copy, C: Clock + Copy> {
 }
 
 impl<'c, R: Copy, C: Clock + Copy> TcpLinks<'c, R, C> {
-    /// The links of a connector with this configuration. By `hurry` those to engines are told that the
-    /// connector ends.
+    /// The links of a connector with this configuration. Each uplink finds by its clock how long is
+    /// left until a deadline, and by `hurry` those to engines are told that the connector ends.
     pub fn new(
         rt: R,
         config: &'c Config,
@@ -70,10 +77,16 @@ impl<
 > Links for TcpLinks<'c, R, C> {
     type Clock = C;
 
+    type Uplink = PeerLink<'c, R, C>;
+
     type Engine = EngineWay<'c, R>;
 
     fn clock(&self) -> C {
         self.clock
+    }
+
+    fn uplink(&self) -> Result<PeerLink<'c, R, C>, AllocError> {
+        PeerLink::new(self.rt, self.config, self.clock, self.notices)
     }
 
     fn engine(&self) -> Result<EngineWay<'c, R>, AllocError> {

@@ -1,5 +1,4 @@
 pub mod FieldLemmas
-pub mod BodyLemmas
 pub mod PeerLemmas
 pub mod TargetLemmas
 pub mod TokenLemmas

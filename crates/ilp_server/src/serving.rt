@@ -1,5 +1,4 @@
 //! Serving a request that was read, by what its target asks for.
-ghost use Rattle.std.specs.Prelude.{◌≡◌};
 ghost use Rattle.ilp_journal.specs.Keys.{IsKey};
 ghost use Rattle.ilp_book.specs.Configured.{IsKnown};
 ghost use Rattle.ilp_server.specs.Serving.{inquiry, Serves, ServesPacket, ServesSettlement, ServesPayment, ServesMessage, ServesReport};
@@ -25,7 +24,7 @@ pub(crate) fn serve<
     U: Uplink + Drop,
     E: EngineLink + Drop,
     K: Keeper<J> + Drop,
-    A: Allocator + Copy,
+    A: Allocator,
 >(
     rt: &impl Wait,
     alloc: Global,
@@ -34,9 +33,8 @@ pub(crate) fn serve<
     side: Side,
     request: &Request<'_>,
 ) -> Result<Served, NotServed>
-    ensures served { Serves J.desk (inquiry side request.now.path.now request.now.headers request.now.body.now)
+    ensures { Serves J.desk (inquiry side request.now.path.now request.now.headers request.now.body.now)
         worker.old worker.new result }
-    ensures pending { worker.new.pending ≡ worker.old.pending }
 {
     match target_of(desk.config(), side, request.path) {
         None => Err(NotServed::UnknownTarget),
@@ -57,16 +55,15 @@ fn serve_packet<
     U: Uplink + Drop,
     E: EngineLink + Drop,
     K: Keeper<J> + Drop,
-    A: Allocator + Copy,
+    A: Allocator,
 >(
     rt: &impl Wait,
     worker: &mut Worker<J, C, U, E, K, A>,
     desk: &Desk<J>,
     request: &Request<'_>,
 ) -> Result<Served, NotServed>
-    ensures served { ServesPacket J.desk request.now.headers request.now.body.now
+    ensures { ServesPacket J.desk request.now.headers request.now.body.now
         worker.old worker.new result }
-    ensures pending { worker.new.pending ≡ worker.old.pending }
 {
     let Some(peer) = sender_of(desk.config(), &request.headers) else {
         return Err(NotServed::UnknownSender);
@@ -81,13 +78,13 @@ fn serve_packet<
 }
 
 // Credits the body as a settlement of the peer, under the key that the request gives.
-pub(crate) fn serve_settlement<
+fn serve_settlement<
     J: Naming,
     C: Clock + Drop,
     U: Uplink + Drop,
     E: EngineLink + Drop,
     K: Keeper<J> + Drop,
-    A: Allocator + Copy,
+    A: Allocator,
 >(
     rt: &impl Wait,
     alloc: Global,
@@ -97,10 +94,8 @@ pub(crate) fn serve_settlement<
     request: &Request<'_>,
 ) -> Result<Served, NotServed>
     requires known { IsKnown J.desk.config peer }
-    ensures served { ServesSettlement J.desk peer request.now.headers request.now.body.now
+    ensures { ServesSettlement J.desk peer request.now.headers request.now.body.now
         worker.old worker.new result }
-    ensures pending { worker.new.pending ≡ worker.old.pending }
-    ensures actor { worker.new.share.actor ≡ worker.old.share.actor }
 {
     let Some(key) = key_of(&request.headers) else {
         return Err(NotServed::NoKey);
@@ -116,7 +111,7 @@ fn serve_payment<
     U: Uplink + Drop,
     E: EngineLink + Drop,
     K: Keeper<J> + Drop,
-    A: Allocator + Copy,
+    A: Allocator,
 >(
     rt: &impl Wait,
     alloc: Global,
@@ -128,9 +123,7 @@ fn serve_payment<
 ) -> Result<Served, NotServed>
     requires known { IsKnown J.desk.config peer }
     requires key { IsKey key.now }
-    ensures served { ServesPayment J.desk peer key.now body.now worker.old worker.new result }
-    ensures pending { worker.new.pending ≡ worker.old.pending }
-    ensures actor { worker.new.share.actor ≡ worker.old.share.actor }
+    ensures { ServesPayment J.desk peer key.now body.now worker.old worker.new result }
 {
     let quantity = match Quantity::read(alloc, body) {
         Ok(quantity) => quantity,
@@ -163,15 +156,14 @@ fn serve_message<
     U: Uplink + Drop,
     E: EngineLink + Drop,
     K: Keeper<J> + Drop,
-    A: Allocator + Copy,
+    A: Allocator,
 >(
     worker: &mut Worker<J, C, U, E, K, A>,
     desk: &Desk<J>,
     peer: u32,
     body: &[u8],
 ) -> Result<Served, NotServed>
-    ensures served { ServesMessage J.desk peer body.now worker.old worker.new result }
-    ensures pending { worker.new.pending ≡ worker.old.pending }
+    ensures { ServesMessage J.desk peer body.now worker.old worker.new result }
 {
     match worker.message(desk, peer, body) {
         Ok(()) => Ok(Served::Message),
@@ -180,7 +172,7 @@ fn serve_message<
 }
 
 // Tells the balances. The copy of the book is made under its lock, and written without it.
-pub(crate) fn serve_report<J: Naming>(
+fn serve_report<J: Naming>(
     rt: &impl Wait,
     alloc: Global,
     desk: &Desk<J>,

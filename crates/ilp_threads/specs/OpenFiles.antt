@@ -1,21 +1,16 @@
--- How many connections may wait and how many packets may be in flight, by how many files may be open.
+-- How many connections may wait, by how many files may be open.
 use Rattle.std.specs.Prelude.{ℕ, ◌+◌, ◌-◌, ◌*◌, ◌/◌, min, max}
 use Rattle.ilp_intake.specs.declared.limits.TheConstants.{MOST_WAITING}
 use Rattle.ilp_threads.specs.declared.open_files.TheConstants.{OWN, OF_A_WORKER}
 
--- the open files that are kept for all but connections, beside so many workers
+-- the open files that are kept for all but connections that wait, beside so many workers
 abbrev pub kept : ℕ → ℕ
 kept workers = OWN + OF_A_WORKER * workers
 
--- The open files with which as many connections wait at both sides as may, and so many packets and messages are in flight: each of
--- those has a connection on both sides.
-abbrev pub wanted : ℕ → ℕ → ℕ
-wanted workers in_flight = kept workers + 2 * MOST_WAITING + 2 * in_flight
+-- the open files with which as many connections wait at both sides as may
+abbrev pub wanted : ℕ → ℕ
+wanted workers = kept workers + 2 * MOST_WAITING
 
--- how many connections may wait at each side: an eighth of what is left, within the limits
+-- how many connections may wait at each side: half of what is left, within the limits
 abbrev pub waiting_by : ℕ → ℕ → ℕ
-waiting_by limit workers = max (min ((limit - kept workers) / 8) MOST_WAITING) 1
-
--- how many may be in flight, of so many that are asked for: half of what is left beside those that wait at both sides
-abbrev pub in_flight_by : ℕ → ℕ → ℕ → ℕ
-in_flight_by limit workers asked = max (min ((limit - kept workers - 2 * waiting_by limit workers) / 2) asked) 1
+waiting_by limit workers = max (min ((limit - kept workers) / 2) MOST_WAITING) 1

@@ -4,14 +4,26 @@ ghost use Rattle.std.specs.Prelude.{◌≤◌, vec_len};
 use crate::pauses::Pauses;
 use crate::turns::PausedSettler;
 use ilp_desk::{Desk, JournalReceipt, Naming, Share};
+use ilp_http::Buffer;
 use ilp_keeping::SharedKeeper;
 use ilp_links::Links;
-use ilp_loops::{Bells, KeepingAsker, KeepingAsks, Nobody, Seat, ServingLoop, keeping_pair};
 use ilp_settler::{Settler, Sweeper};
-use ilp_workers::{Clock, EngineLink, JournalKeeper, Keeper, Worker};
+use ilp_workers::{Clock, EngineLink, Keeper, Uplink, Worker};
 use std::alloc::AllocError;
-use std::net::Net;
 use std::sync::Wait;
+
+/// A worker, and the buffer into which it reads requests.
+#[derive(Drop)]
+pub(crate) struct Responder<
+    J: Naming,
+    C: Clock + Drop,
+    U: Uplink + Drop,
+    E: EngineLink + Drop,
+    K: Keeper<J> + Drop,
+> {
+    pub(crate) worker: Worker<J, C, U, E, K>,
+    pub(crate) buffer: Buffer,
+}
 
 /// What the watcher is given: a clock, a keeper, and what was seen of the journal.
 #[derive(Drop)]
@@ -30,47 +42,45 @@ pub(crate) struct Turning<J: Naming, C: Clock + Drop, E: EngineLink + Drop, K: K
     pub(crate) watching: WatcherLinks<J, C, K>,
 }
 
-/// The actors of a desk, with all the memory that they are given, and what wakes the workers' loops.
+/// The actors of a desk, with all the memory that they are given.
 #[derive(Drop)]
-pub(crate) struct Actors<J: Naming, C: Clock + Drop, E: EngineLink + Drop, K: Keeper<J> + Drop> {
-    pub(crate) loops: Vec<ServingLoop<J, C, K>>,
-    pub(crate) bells: Bells,
-    /// What keeps the journal for the loops, where they don't have that done themselves.
-    pub(crate) keeping: Option<Keeping<J, K>>,
+pub(crate) struct Actors<
+    J: Naming,
+    C: Clock + Drop,
+    U: Uplink + Drop,
+    E: EngineLink + Drop,
+    K: Keeper<J> + Drop,
+> {
+    pub(crate) responders: Vec<Responder<J, C, U, E, K>>,
     pub(crate) turning: Turning<J, C, E, K>,
 }
 
-/// What keeps the journal for the loops, and by what it hears that they ask.
-#[derive(Drop)]
-pub(crate) struct Keeping<J: Naming, K: Keeper<J> + Drop> {
-    pub(crate) keeper: JournalKeeper<J, K>,
-    pub(crate) asks: KeepingAsks,
-}
-
-/// How the journal is kept before senders are told.
-#[derive(Clone, Copy, Debug, PartialEq, Eq)]
-pub enum KeepingWay {
-    /// By each loop, which waits for it.
-    InLoops,
-    /// By a thread of its own, while the loops go on.
-    Beside,
-}
-
 // The actors whose links are made by `L`, and whose keepers are `K`.
-type ActorsOf<J, L, K> = Actors<J, <L as Links>::Clock, <L as Links>::Engine, K>;
+type ActorsOf<J, L, K> = Actors<
+    J,
+    <L as Links>::Clock,
+    <L as Links>::Uplink,
+    <L as Links>::Engine,
+    K,
+>;
 
-// A worker's loop whose clock is made by `L`.
-type LoopOf<J, L, K> = ServingLoop<J, <L as Links>::Clock, K>;
+// A worker whose links are made by `L`, with its buffer.
+type ResponderOf<J, L, K> = Responder<
+    J,
+    <L as Links>::Clock,
+    <L as Links>::Uplink,
+    <L as Links>::Engine,
+    K,
+>;
 
 /// The actors whose shares these are, the settler's last and the sweeper's before it. Each has a keeper of
-/// its own of the same journal. It is refused where memory is denied, or what a loop waits with.
-pub(crate) fn actors_of<J: Naming, N: Wait + Net, L: Links, K: SharedKeeper<J> + Drop>(
-    rt: &N,
+/// its own of the same journal. It is refused where memory is denied.
+pub(crate) fn actors_of<J: Naming, L: Links, K: SharedKeeper<J> + Drop>(
+    rt: &impl Wait,
     desk: &Desk<J>,
     shares: Vec<Share<J>>,
     links: &L,
     keeper: K,
-    way: KeepingWay,
 ) -> Result<ActorsOf<J, L, K>, AllocError>
     requires { 2 ≤ vec_len shares }
 {
@@ -84,15 +94,7 @@ pub(crate) fn actors_of<J: Naming, N: Wait + Net, L: Links, K: SharedKeeper<J> +
         pauses: Pauses::new(alloc, desk.config().peers())?,
     };
     let sweeper = Sweeper::new(alloc, sweepers, links.clock());
-    let (asker, asks) = keeping_pair(alloc)?;
-    let (asker, keeping) = match way {
-        KeepingWay::InLoops => (None, None),
-        KeepingWay::Beside => {
-            let keeper = JournalKeeper::new(desk.receipt(rt), keeper.another());
-            (Some(asker), Some(Keeping { keeper, asks }))
-        }
-    };
-    let (loops, bells) = new_loops(rt, desk, shares, links, &keeper, asker)?;
+    let responders = new_responders(rt, desk, shares, links, &keeper)?;
     let watching = WatcherLinks {
         clock: links.clock(),
         keeper,
@@ -104,54 +106,39 @@ pub(crate) fn actors_of<J: Naming, N: Wait + Net, L: Links, K: SharedKeeper<J> +
         watching,
     };
     Ok(Actors {
-        loops,
-        bells,
-        keeping,
+        responders,
         turning,
     })
 }
 
-fn new_loops<J: Naming, N: Wait + Net, L: Links, K: SharedKeeper<J> + Drop>(
-    rt: &N,
+fn new_responders<J: Naming, L: Links, K: SharedKeeper<J> + Drop>(
+    rt: &impl Wait,
     desk: &Desk<J>,
     shares: Vec<Share<J>>,
     links: &L,
     keeper: &K,
-    asker: Option<KeepingAsker>,
-) -> Result<(Vec<LoopOf<J, L, K>>, Bells), AllocError> {
-    let alloc = desk.config().allocator();
-    let mut loops = Vec::new(alloc);
-    let mut bells = Bells::new(alloc);
-    for (number, share) in shares.into_iter().enumerate() {
-        let Ok((seat, waker)) = Seat::new(rt, alloc, number) else {
-            return Err(AllocError);
-        };
-        bells.add(waker)?;
-        let asker = match &asker {
-            Some(asker) => Some(asker.try_clone()?),
-            None => None,
-        };
-        loops.push(new_loop(rt, desk, seat, share, links, keeper.another(), asker)?)?;
+) -> Result<Vec<ResponderOf<J, L, K>>, AllocError> {
+    let mut responders = Vec::new(desk.config().allocator());
+    for share in shares {
+        responders.push(new_responder(rt, desk, share, links, keeper.another())?)?;
     }
-    Ok((loops, bells))
+    Ok(responders)
 }
 
-fn new_loop<J: Naming, L: Links, K: Keeper<J> + Drop>(
+fn new_responder<J: Naming, L: Links, K: Keeper<J> + Drop>(
     rt: &impl Wait,
     desk: &Desk<J>,
-    seat: Seat,
     share: Share<J>,
     links: &L,
     keeper: K,
-    asker: Option<KeepingAsker>,
-) -> Result<LoopOf<J, L, K>, AllocError> {
+) -> Result<ResponderOf<J, L, K>, AllocError> {
     let alloc = desk.config().allocator();
+    let buffer = Buffer::new(alloc)?;
+    let uplink = links.uplink()?;
+    let engine = links.engine()?;
     let receipt = desk.receipt(rt);
-    match Worker::new(alloc, share, receipt, links.clock(), Nobody, Nobody, keeper) {
-        Ok(worker) => match ServingLoop::new(alloc, seat, worker, links.clock(), asker) {
-            Ok(own) => Ok(own),
-            Err(_) => Err(AllocError),
-        },
+    match Worker::new(alloc, share, receipt, links.clock(), uplink, engine, keeper) {
+        Ok(worker) => Ok(Responder { worker, buffer }),
         Err(_) => Err(AllocError),
     }
 }

@@ -12,16 +12,18 @@
 
 mod accepting;
 mod actors;
-mod busy;
+mod deeds;
 mod fault;
+mod intakes;
 mod open_files;
 mod pauses;
+mod places;
+mod responding;
 mod shutdown;
 mod sides;
 mod threads;
 mod turns;
 mod watching;
 
-pub use actors::KeepingWay;
 pub use fault::Unprinted;
 pub use sides::run_desk;

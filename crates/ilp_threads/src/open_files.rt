@@ -1,4 +1,4 @@
-//! How many files the process may have open, and what may wait and be in flight by that.
+//! How many files the process may have open, and how many connections may wait by that.
 ghost use Rattle.std.specs.Prelude.{◌≡◌, ◌+◌, ◌-◌, ◌*◌, ◌/◌, ◌<◌, ◌^◌, min, max};
 ghost use Rattle.ilp_intake.specs.declared.limits.TheConstants.{MOST_WAITING};
 ghost use Rattle.ilp_threads.specs.OpenFiles as files;
@@ -19,8 +19,8 @@ const LABEL: &str = "Max open files";
 // settler's connection; and some to spare.
 const OWN: u64 = 20;
 
-// What a worker's loop waits with, and what wakes it.
-const OF_A_WORKER: u64 = 2;
+// A worker's client, its peer or engine, and a client that waits for the worker.
+const OF_A_WORKER: u64 = 3;
 
 /// How many files the process may have open at once. None where the system does not say, or memory for
 /// its text is denied.
@@ -41,35 +41,25 @@ fn limit_in(text: &str) -> Option<u64> {
     None
 }
 
-/// How many open files are kept for all but connections, where there are so many workers.
+/// How many open files are kept for all but the connections that wait, where there are so many workers.
 fn kept(workers: u32) -> u64
     ensures { result ≡ files.kept workers }
 {
     OWN + OF_A_WORKER * u64::from(workers)
 }
 
-/// How many files a connector has open at most, with so many workers and so many packets in flight.
-pub(crate) fn wanted(workers: u32, in_flight: u32) -> u64
-    ensures { result ≡ files.wanted workers in_flight }
+/// How many files a connector with so many workers has open at most.
+pub(crate) fn wanted(workers: u32) -> u64
+    ensures { result ≡ files.wanted workers }
 {
-    kept(workers) + 2 * MOST_WAITING as u64 + 2 * u64::from(in_flight)
+    kept(workers) + 2 * MOST_WAITING as u64
 }
 
-/// How many connections may wait at each side, where so many files may be open: an eighth of what is left
+/// How many connections may wait at each side, where so many files may be open: half of what is left
 /// beside those that are kept, and at least one.
 pub(crate) fn waiting_by(limit: u64, workers: u32) -> usize
     ensures { result ≡ files.waiting_by limit workers }
 {
-    let part = limit.saturating_sub(kept(workers)) / 8;
-    part.min(MOST_WAITING as u64).max(1) as usize
-}
-
-/// How many packets and messages may be in flight, of so many that are asked for, where so many files may
-/// be open: half of what is left beside those that are kept and connections that wait, and at least one.
-pub(crate) fn in_flight_by(limit: u64, workers: u32, asked: u32) -> u32
-    ensures { result ≡ files.in_flight_by limit workers asked }
-{
-    let waiting = 2 * waiting_by(limit, workers) as u64;
-    let left = limit.saturating_sub(kept(workers)).saturating_sub(waiting);
-    (left / 2).min(u64::from(asked)).max(1) as u32
+    let half = limit.saturating_sub(kept(workers)) / 2;
+    half.min(MOST_WAITING as u64).max(1) as usize
 }

@@ -1,22 +1,23 @@
 //! The threads of a running connector.
 ghost use denote.Param.Send.{IsSend, IsSync};
 
-use crate::accepting::{Acceptor, accept_all};
-use crate::actors::{Keeping, Turning, WatcherLinks};
+use crate::accepting::{Acceptor, Job, accept_all};
+use crate::actors::{Actors, Responder, Turning, WatcherLinks};
 use crate::fault::Unprinted;
+use crate::intakes::Intakes;
+use crate::places::Places;
+use crate::responding::serve_connections;
 use crate::shutdown::{KeepRunning, Shutdown, shutdown_pair};
 use crate::turns::{PausedSettler, settle, sweep};
-use crate::watching::{Watcher, watch};
+use crate::watching::{Seen, Watcher, watch};
 use crossbeam_channel::{Receiver, Sender, bounded};
 use ilp_desk::{Desk, End, Naming};
 use ilp_keeping::SharedKeeper;
 use ilp_links::Hurry;
-use ilp_loops::{Job, LOCAL_AT_ONCE, ServingLoop, Shared, keep_for_loops};
-use ilp_notices::closing;
+use ilp_notices::{Notices, closing};
 use ilp_settler::Sweeper;
-use ilp_workers::{Clock, EngineLink, Keeper};
+use ilp_workers::{Clock, EngineLink, Keeper, Uplink};
 use std::io::Eprint;
-use std::net::{Net, TcpListener, TcpStream};
 use std::sync::Wait;
 use std::thread::{JoinHandle, Scope, Threads};
 use std::{thread, time};
@@ -28,6 +29,31 @@ pub(crate) struct Acceptors {
     pub(crate) engines: Acceptor,
 }
 
+/// What the threads of a connector work on.
+#[derive(Drop)]
+pub(crate) struct Shared<'a, J: Naming, R> {
+    pub(crate) rt: &'a R,
+    pub(crate) desk: &'a Desk<J>,
+    pub(crate) places: &'a Places,
+    pub(crate) intakes: &'a Intakes,
+    pub(crate) notices: &'a Notices,
+    pub(crate) seen: &'a Seen,
+}
+
+impl<'a, J: Naming, R> Shared<'a, J, R> {
+    // The same, for another thread.
+    fn another(&self) -> Shared<'a, J, R> {
+        Shared {
+            rt: self.rt,
+            desk: self.desk,
+            places: self.places,
+            intakes: self.intakes,
+            notices: self.notices,
+            seen: self.seen,
+        }
+    }
+}
+
 // The threads of the sweeper, the settler and the watcher.
 #[derive(Drop)]
 struct TurnThreads<J: Naming> {
@@ -36,22 +62,24 @@ struct TurnThreads<J: Naming> {
     watching: JoinHandle<()>,
 }
 
-// Starts a thread for each worker's loop.
-fn start_loops<'s, S, J, C, K, R>(
+// Starts a thread for each worker.
+fn start_workers<'s, S, J, C, U, E, K, R>(
     scope: &'s Scope<'s, S>,
     shared: &Shared<'s, J, R>,
-    loops: Vec<ServingLoop<J, C, K>>,
+    responders: Vec<Responder<J, C, U, E, K>>,
     jobs: &Receiver<Job>,
-) -> Result<Vec<JoinHandle<Option<End<J>>>>, Unprinted>
+) -> Result<Vec<JoinHandle<End<J>>>, Unprinted>
 where
     J: Naming + Send + Sync + 's,
     C: Clock + Drop + Send + 's,
+    U: Uplink + Drop + Send + 's,
+    E: EngineLink + Drop + Send + 's,
     K: Keeper<J> + Drop + Send + 's,
-    R: Net<Listener = TcpListener, Stream = TcpStream> + Wait + time::Clock + Eprint + Sync + 's,
+    R: Wait + time::Clock + Eprint + Sync + 's,
 {
     let mut threads = Vec::new(shared.desk.config().allocator());
-    for own in loops {
-        let thread = start_loop(scope, shared, own, jobs)?;
+    for responder in responders {
+        let thread = start_worker(scope, shared, responder, jobs)?;
         if threads.push(thread).is_err() {
             return Err(Unprinted::Memory);
         }
@@ -59,41 +87,27 @@ where
     Ok(threads)
 }
 
-// Starts the thread of a worker's loop.
-fn start_loop<'s, S, J, C, K, R>(
+// Starts the thread of a worker.
+fn start_worker<'s, S, J, C, U, E, K, R>(
     scope: &'s Scope<'s, S>,
     shared: &Shared<'s, J, R>,
-    own: ServingLoop<J, C, K>,
+    responder: Responder<J, C, U, E, K>,
     jobs: &Receiver<Job>,
-) -> Result<JoinHandle<Option<End<J>>>, Unprinted>
+) -> Result<JoinHandle<End<J>>, Unprinted>
 where
     J: Naming + Send + Sync + 's,
     C: Clock + Drop + Send + 's,
+    U: Uplink + Drop + Send + 's,
+    E: EngineLink + Drop + Send + 's,
     K: Keeper<J> + Drop + Send + 's,
-    R: Net<Listener = TcpListener, Stream = TcpStream> + Wait + time::Clock + Eprint + Sync + 's,
+    R: Wait + time::Clock + Eprint + Sync + 's,
 {
     let jobs = jobs.clone()?;
     let shared = shared.another();
-    match scope.spawn(move || own.run(shared, jobs)) {
+    match scope.spawn(move || serve_connections(shared, responder, jobs)) {
         Ok(thread) => Ok(thread),
         Err(_) => Err(Unprinted::Spawn),
     }
-}
-
-// Starts the thread that keeps the journal for the loops.
-fn start_keeping<'s, S, J, K, R>(
-    scope: &'s Scope<'s, S>,
-    shared: &Shared<'s, J, R>,
-    keeping: Keeping<J, K>,
-) -> Result<JoinHandle<()>, Unprinted>
-where
-    J: Naming + Send + Sync + 's,
-    K: Keeper<J> + Drop + Send + 's,
-    R: Wait + Sync + 's,
-{
-    let shared = shared.another();
-    let Keeping { keeper, asks } = keeping;
-    Ok(scope.spawn(move || keep_for_loops(shared, keeper, asks))?)
 }
 
 // Starts the thread of the sweeper.
@@ -194,16 +208,14 @@ where
     J: Naming + Send + Sync + 's,
     R: Threads + Wait + time::Clock + Sync + 's,
 {
-    let rt = shared.rt;
+    let (rt, desk, places) = (shared.rt, shared.desk, shared.places);
     let Acceptors { peers, engines } = acceptors;
     let engine_jobs = jobs.clone()?;
-    let (of_peers, of_engines) = (shared.another(), shared.another());
-    let peer_thread = scope.spawn(move || accept_all(of_peers, peers, jobs))?;
-    match scope.spawn(move || accept_all(of_engines, engines, engine_jobs)) {
+    let peer_thread = scope.spawn(move || accept_all(rt, desk, places, peers, jobs))?;
+    match scope.spawn(move || accept_all(rt, desk, places, engines, engine_jobs)) {
         Ok(thread) => thread.join(rt),
         Err(_) => {
             shared.intakes.accept_no_more();
-            peer_thread.join(rt);
             return Err(Unprinted::Spawn);
         }
     }
@@ -214,15 +226,12 @@ where
 // What the workers hand in.
 fn ends_of<J: Naming, R: Threads>(
     rt: &R,
-    threads: Vec<JoinHandle<Option<End<J>>>>,
+    threads: Vec<JoinHandle<End<J>>>,
     room: Vec<End<J>>,
 ) -> Result<Vec<End<J>>, Unprinted> {
     let mut ends = room;
     for thread in threads {
-        let Some(end) = thread.join(rt) else {
-            continue;
-        };
-        if ends.push(end).is_err() {
+        if ends.push(thread.join(rt)).is_err() {
             return Err(Unprinted::Memory);
         }
     }
@@ -252,54 +261,39 @@ fn with_turns<J: Naming, R: Threads>(
 // The threads of the actors, and what keeps the sweeper and the settler running.
 #[derive(Drop)]
 struct ActorThreads<J: Naming> {
-    workers: Vec<JoinHandle<Option<End<J>>>>,
-    // What keeps the journal for them, which ends with the last of them.
-    keeping: Option<JoinHandle<()>>,
+    workers: Vec<JoinHandle<End<J>>>,
     turns: TurnThreads<J>,
     keep_running: KeepRunning,
     // Room for what they hand in.
     room: Vec<End<J>>,
 }
 
-/// The actors that run, each in a thread.
-#[derive(Drop)]
-pub(crate) struct Running<J: Naming, C: Clock + Drop, E: EngineLink + Drop, K: Keeper<J> + Drop> {
-    pub(crate) loops: Vec<ServingLoop<J, C, K>>,
-    pub(crate) keeping: Option<Keeping<J, K>>,
-    pub(crate) turning: Turning<J, C, E, K>,
-}
-
-// Starts the threads of all actors. The loops serve the jobs that are sent.
-fn start_actors<'s, S, J, C, E, K, R>(
+// Starts the threads of all actors. The workers serve the jobs that are sent.
+fn start_actors<'s, S, J, C, U, E, K, R>(
     scope: &'s Scope<'s, S>,
     shared: &Shared<'s, J, R>,
-    actors: Running<J, C, E, K>,
+    actors: Actors<J, C, U, E, K>,
     jobs: Receiver<Job>,
 ) -> Result<ActorThreads<J>, Unprinted>
 where
     J: Naming + Send + Sync + 's,
     C: Clock + Drop + Send + 's,
+    U: Uplink + Drop + Send + 's,
     E: EngineLink + Drop + Send + 's,
     K: SharedKeeper<J> + Drop + Send + 's,
-    R: Net<Listener = TcpListener, Stream = TcpStream> + Wait + time::Clock + Eprint + Sync + 's,
+    R: Wait + time::Clock + Eprint + Sync + 's,
 {
-    let Running {
-        loops,
-        keeping,
+    let Actors {
+        responders,
         turning,
     } = actors;
     let alloc = shared.desk.config().allocator();
-    let room = Vec::with_capacity(alloc, loops.len().saturating_add(2))?;
-    let workers = start_loops(scope, shared, loops, &jobs)?;
-    let keeping = match keeping {
-        Some(keeping) => Some(start_keeping(scope, shared, keeping)?),
-        None => None,
-    };
+    let room = Vec::with_capacity(alloc, responders.len().saturating_add(2))?;
+    let workers = start_workers(scope, shared, responders, &jobs)?;
     let (keep_running, shutdown) = shutdown_pair(alloc)?;
     let turns = start_turns(scope, shared, turning, &shutdown)?;
     Ok(ActorThreads {
         workers,
-        keeping,
         turns,
         keep_running,
         room,
@@ -315,15 +309,11 @@ fn join_actors<J: Naming, R: Threads>(
 ) -> Result<Vec<End<J>>, Unprinted> {
     let ActorThreads {
         workers,
-        keeping,
         turns,
         keep_running,
         room,
     } = threads;
     let ends = ends_of(rt, workers, room);
-    if let Some(keeping) = keeping {
-        keeping.join(rt);
-    }
     hurry.tell();
     drop(keep_running);
     with_turns(rt, turns, ends?)
@@ -333,45 +323,31 @@ fn join_actors<J: Naming, R: Threads>(
 /// is answered, and gives what they hand in. Where a thread can't be started those that run are ended
 /// and joined: workers end once all senders of jobs are dropped, the sweeper and the settler once
 /// `KeepRunning` is, and an intake once it is closed.
-pub(crate) fn run<J, C, E, K, R>(
+pub(crate) fn run<J, C, U, E, K, R>(
     shared: Shared<'_, J, R>,
-    actors: Running<J, C, E, K>,
+    actors: Actors<J, C, U, E, K>,
     acceptors: Acceptors,
     hurry: &Hurry,
 ) -> Result<Vec<End<J>>, Unprinted>
 where
     J: Naming + Send + Sync,
     C: Clock + Drop + Send,
+    U: Uplink + Drop + Send,
     E: EngineLink + Drop + Send,
     K: SharedKeeper<J> + Drop + Send,
-    R: Net<Listener = TcpListener, Stream = TcpStream>
-        + Threads
-        + Wait
-        + time::Clock
-        + Eprint
-        + Sync,
+    R: Threads + Wait + time::Clock + Eprint + Sync,
 {
-    let config = shared.desk.config();
-    // As many as there are places at most, so that no intake waits for a loop.
-    let most = LOCAL_AT_ONCE.saturating_add(config.in_flight() as usize);
-    let (sender, jobs) = bounded(config.allocator(), most)?;
+    let alloc = shared.desk.config().allocator();
+    // As many as there are places at most, so that no intake waits for a worker.
+    let (sender, jobs) = bounded(alloc, actors.responders.len().saturating_mul(2))?;
     thread::scope(
         thread::scope_env(),
         shared.rt,
         move |scope| -> Result<Vec<End<J>>, Unprinted>
-            requires { IsSend J.row × IsSync J.row × IsSend C.row × IsSend E.row × IsSend K.row × IsSync R.row }
+            requires { IsSend J.row × IsSync J.row × IsSend C.row × IsSend U.row × IsSend E.row × IsSend K.row × IsSync R.row }
         {
-            let threads = match start_actors(scope, &shared, actors, jobs) {
-                Ok(threads) => threads,
-                Err(fault) => {
-                    drop(sender);
-                    shared.bells.ring_out();
-                    return Err(fault);
-                }
-            };
+            let threads = start_actors(scope, &shared, actors, jobs)?;
             let accepted = accept_at_both(scope, &shared, acceptors, sender);
-            // No job comes any more.
-            shared.bells.ring_out();
             if accepted.is_err() {
                 hurry.tell();
             }

@@ -2,9 +2,9 @@
 
 use crate::pauses::Pauses;
 use crate::shutdown::Shutdown;
+use crate::threads::Shared;
 use ilp_book::AskFault;
 use ilp_desk::{Desk, End, Naming};
-use ilp_loops::Shared;
 use ilp_settler::{Settler, Sweeper, Turn};
 use ilp_workers::{Clock, EngineLink, EngineReply, Keeper};
 use std::io::Eprint;

@@ -35,6 +35,7 @@ pub(crate) fn tell_top(examined: Examined<'_>, told: &mut Vec<Warning>) -> Resul
         is_shared(listen, engine_listen),
         Warning::SharedListen,
     )?;
+    tell(examined, told, config.workers() == 1, Warning::OneWorker)?;
     tell(
         examined,
         told,

@@ -1,6 +1,10 @@
+pub mod Rejecting
 pub mod Sessions
 pub mod Sending
-pub mod Booking
-pub mod Halving
+pub mod Passing
+pub mod Outcomes
+pub mod Standing
+pub mod Behind
 pub mod CreditSessions
 pub mod EngineMessages
+pub mod CreditBehind

@@ -1,5 +1,4 @@
 //! The end of a desk whose worker and settler have taken their steps.
-ghost use Rattle.std.specs.Prelude.{◌≡◌};
 
 use super::Given;
 use super::answering::answer_each;
@@ -85,9 +84,7 @@ fn end_of_answers<J: Naming, C: Clock + Drop, U: Uplink + Drop, E: EngineLink + 
     desk: &Desk<J>,
     worker: Worker<J, C, U, E, Forgetful>,
     given: &Given<'_>,
-) -> End<J>
-    requires idle { worker.pending ≡ 0 }
-{
+) -> End<J> {
     let mut worker = worker;
     let _ = answer_each(rt, desk, &mut worker, given);
     worker.into_end()

@@ -1,5 +1,4 @@
 //! One packet of alice: what bob is handed, what alice is answered, and what is booked.
-ghost use Rattle.std.specs.Prelude.{◌≡◌};
 
 use super::Given;
 use crate::links::bob::Bob;
@@ -58,7 +57,7 @@ pub(crate) fn print_forward<J: Naming, C: Clock + Drop, U: Uplink + Drop>(
 }
 
 /// Prints what a worker answers alice for a packet, and what it books.
-pub(crate) fn print_answer<J: Naming, C: Clock + Drop, U: Uplink + Drop, A: Allocator + Copy>(
+pub(crate) fn print_answer<J: Naming, C: Clock + Drop, U: Uplink + Drop, A: Allocator>(
     rt: &(impl Print + Wait),
     desk: &Desk<J>,
     worker: &mut Worker<J, C, U, NoEngine, Forgetful, A>,
@@ -96,9 +95,7 @@ pub(crate) fn forward<J: Naming, C: Clock + Drop, U: Uplink + Drop>(
     desk: &Desk<J>,
     from: u32,
     packet: &[u8],
-) -> Option<Receipt>
-    ensures pending { worker.new.pending ≡ worker.old.pending }
-{
+) -> Option<Receipt> {
     if from < desk.config().peers() {
         worker.forward(rt, desk, from, packet).ok()
     } else {

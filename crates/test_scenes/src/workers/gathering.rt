@@ -1,5 +1,4 @@
 //! The end of a desk: what its actors hand back, and what is gathered of it.
-ghost use Rattle.std.specs.Prelude.{◌≡◌};
 
 use super::Given;
 use super::forwards::forward;
@@ -150,9 +149,7 @@ fn end_after<J: Naming, U: Uplink + Drop>(
     desk: &Desk<J>,
     worker: Worker<J, Still, U, NoEngine, Forgetful>,
     packet: &[u8],
-) -> End<J>
-    requires idle { worker.pending ≡ 0 }
-{
+) -> End<J> {
     let mut worker = worker;
     let _ = forward(rt, &mut worker, desk, ALICE, packet);
     worker.into_end()

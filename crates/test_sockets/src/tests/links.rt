@@ -2,7 +2,6 @@
 //! `docs/PROTOCOL.md`, written out by hand.
 
 mod calls;
-mod driven;
 mod events;
 mod hearing;
 mod lines;
@@ -12,10 +11,9 @@ mod stand_in;
 use super::sockets::accept;
 use super::{FULFILL, START, Still};
 use calls::{Scene, answer_of, reply_of};
-use driven::Driven;
 use hearing::{At, Hearing};
 use ilp_link_traits::{Clock, EngineLink, EngineReply, ReplyKind, Uplink};
-use ilp_links::{Links, Outside, SystemClock, TcpLinks, TimedWriter, instant_after};
+use ilp_links::{Links, SystemClock, TcpLinks, TimedReader, TimedWriter, instant_after};
 use stage::{Play, stage};
 use stand_in::Does;
 use std::alloc::Global;
@@ -135,12 +133,13 @@ where
     R: Threads + std::time::Clock + Abort + Copy + Sync,
     H: Net<Stream = TcpStream> + std::time::Clock + Eprint + Sync,
 {
-    let outside = Outside {
-        rt: hearing,
-        config: scene.config,
-        notices: scene.notices,
-    };
-    let mut link = Driven::new(outside, scene.alloc)?;
+    let mut link = TcpLinks::new(
+        hearing,
+        scene.config,
+        Still,
+        scene.notices,
+        scene.hurry,
+    ).uplink()?;
     send_to_alice(scene, &mut link)
 }
 
@@ -191,12 +190,13 @@ where
     R: Abort,
     H: Net<Stream = TcpStream> + std::time::Clock + Eprint + Sync,
 {
-    let outside = Outside {
-        rt: hearing,
-        config: scene.config,
-        notices: scene.notices,
-    };
-    let mut link = Driven::new(outside, scene.alloc)?;
+    let mut link = TcpLinks::new(
+        hearing,
+        scene.config,
+        Still,
+        scene.notices,
+        scene.hurry,
+    ).uplink()?;
     send_to_nobody(scene.rt, scene.alloc, &mut link);
     Ok(())
 }
@@ -321,6 +321,17 @@ fn write_until_closed<R: std::time::Clock + Abort>(rt: &R, stream: &TcpStream) -
     Err(io::Error::from(ErrorKind::Other))
 }
 
+// A read has what is left of the time, and none when that is over.
+fn read_until_late<R: std::time::Clock + Abort>(rt: &R, stream: &TcpStream) -> io::Result<()> {
+    let mut source = TimedReader::new(rt, stream, instant_after(rt, Duration::from_millis(50))?);
+    let mut room = [0; 8];
+    let first = source.read(&mut room);
+    assert!(rt; first.is_err_and(|error| error.kind() == ErrorKind::WouldBlock));
+    let second = source.read(&mut room);
+    assert!(rt; second.is_err_and(|error| error.kind() == ErrorKind::TimedOut));
+    Ok(())
+}
+
 // The other side of a connection is open, and then closed.
 fn read_and_write<R: std::time::Clock + Abort>(
     rt: &R,
@@ -328,6 +339,7 @@ fn read_and_write<R: std::time::Clock + Abort>(
     stream: &TcpStream,
 ) -> io::Result<()> {
     let theirs = accept(rt, listener)?;
+    read_until_late(rt, stream)?;
     drop(theirs);
     write_until_closed(rt, stream)
 }

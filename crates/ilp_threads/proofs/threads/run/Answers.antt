@@ -14,8 +14,10 @@ scoped-requires g c =
         search sendable depth 20,
         search sendable depth 20,
         search sendable depth 20,
+        search sendable depth 20,
       ),
       (
+        search sendable depth 20,
         search sendable depth 20,
         search sendable depth 20,
         search sendable depth 20,

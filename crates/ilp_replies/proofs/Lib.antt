@@ -1,2 +1,0 @@
-pub mod Rejecting
-pub mod EngineMessages

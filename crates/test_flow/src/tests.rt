@@ -1,5 +1,0 @@
-//! What is in flight and who is closed, each beside a plain model.
-
-mod closing;
-mod flights;
-mod plain;
