@@ -9,22 +9,24 @@ Each case has a configuration, ports and tokens of its own, runs `connector serv
 on 127.0.0.1, and is told as `ok` or by what differed from the rules (docs/PROTOCOL.md,
 docs/OPERATING.md). At its end each line on standard error is to have one of the forms of
 scripts/cases/lines.py. The exit status is 1 where one differs, and 2 where the arguments are not
-understood. Without names all cases are played, which takes some eight minutes. It needs Linux, Python
-3.11, at least 1,512 open files, and for some cases a C compiler, and shares nothing with the crates.
+understood. Without names all cases are played, which takes some ten minutes. It needs Linux, Python
+3.11, at least 12,288 open files (with 18,460 a case has all of its 4,096 packets in flight), and for some cases
+a C compiler, and shares nothing with the crates.
 """
 import signal
 import sys
 import time
 from pathlib import Path
 
-from cases import (bodies, clients, commands, conversations, ending, engines, journal_files, journal_texts, journals, links,
-                   log_faults, logs, operating, pages, periods, remembered, strangers, telling, telling_of_the_book, waiting)
+from cases import (bodies, clients, commands, conversations, ending, engines, in_flight, journal_files, journal_texts,
+                   journals, links, log_faults, logs, operating, pages, periods, remembered, strangers, telling,
+                   telling_of_the_book, waiting)
 from cases.case import CASES, Case, Differs
 from cases.laboratory import Laboratory
 
 # Each of them lists its cases as it is read.
 PARTS = (commands, pages, conversations, links, engines, clients, strangers, bodies, operating, journals, journal_files,
-         journal_texts, logs, log_faults, periods, remembered, telling, telling_of_the_book, waiting, ending)
+         journal_texts, logs, log_faults, periods, remembered, telling, telling_of_the_book, waiting, in_flight, ending)
 
 # In seconds; the longest case takes a minute and some.
 MOST_OF_A_CASE = 90

@@ -1,12 +1,13 @@
 """What is loaded by wrk in the benchmark of a log: the connector with and without one, nginx, and plain Rust."""
+import contextlib
 import os
 import re
 import resource
 import sys
 import tempfile
 import time
-import urllib.request
-from dataclasses import dataclass, replace
+from collections.abc import Iterator
+from dataclasses import dataclass
 from pathlib import Path
 
 TOP = Path(__file__).resolve().parent.parent.parent
@@ -16,7 +17,7 @@ from cases.program import Setup
 from serve import Bench, Server, free_port, processes_of
 
 SECONDS = int(os.environ.get("SECONDS", "4"))
-WORKERS = int(os.environ.get("WORKERS", "64"))
+WORKERS = int(os.environ.get("WORKERS", "4"))
 
 # The greatest limit of a journal; the octets of the two lines of a packet in its log, and less than any have.
 MOST, OCTETS, LEAST = 16_777_216, 216, 200
@@ -58,72 +59,65 @@ def sync_time(folder: Path) -> float:
     return sorted(times)[SYNCS // 2]
 
 
-def fulfilled_by(server: Server) -> int:
-    """How many packets a connector has fulfilled."""
-    with urllib.request.urlopen(f"http://127.0.0.1:{server.engines}/report", b"") as report:
-        return int(re.findall(rb"(?m)^fulfilled +(\d+)$", report.read())[0])
+@dataclass
+class Running:
+    """A server that runs, and the file in which it keeps a line of each packet, if it does."""
+
+    server: Server
+    log: Path | None = None
+
+    def length(self) -> int:
+        """How many octets the file has."""
+        return self.log.stat().st_size if self.log is not None else 0
 
 
 class Servers:
-    """The servers, each under a load of so many connections beside a peer of its own that answers at once."""
+    """The servers, each of the connectors with a peer of its own that answers at once."""
 
     def __init__(self, bench: Bench, disk: Path) -> None:
         self.bench, self.disk = bench, disk
 
-    def run_connector(self, bob: int, journal: Path | None, sync: str):
-        """A connector, with this journal if there is one."""
-        setup = Setup(bob=bob, token="a-token", least=-2**63, top={"workers": WORKERS, "journal": MOST, "sync": sync})
-        path = self.bench.folder / "connector.toml"
-        path.write_text(setup.text())
-        words = [self.bench.connector, "serve", str(path)] + ([str(journal)] if journal else [])
-        return self.bench.run("connector", words, setup.peers_port, setup.engines_port)
+    @contextlib.contextmanager
+    def connector(self, name: str, place: Path | None, sync: str = "group") -> Iterator[Running]:
+        """A connector under this name, with a journal in a new folder at a place, if there is one."""
+        with contextlib.ExitStack() as stack:
+            folder = Path(stack.enter_context(tempfile.TemporaryDirectory(dir=place)))
+            peer = stack.enter_context(self.bench.run_peer(0))
+            setup = Setup(bob=peer.port, token="a-token", least=-2**63,
+                          top={"workers": WORKERS, "journal": MOST, "sync": sync})
+            configuration = folder / "connector.toml"
+            configuration.write_text(setup.text())
+            words = [self.bench.connector, "serve", str(configuration)]
+            words += [str(folder / "journal")] if place is not None else []
+            server = stack.enter_context(self.bench.run(name, words, setup.peers_port, setup.engines_port))
+            yield Running(server, folder / "journal.log" if place is not None else None)
 
-    def load(self, server: Server, connections: int) -> Figures:
-        """What wrk measures, behind a second without a measure."""
-        self.bench.load(server, connections, 1)
-        before = written_by(server.process.pid)
-        found = self.bench.load(server, connections, SECONDS)
-        written = (written_by(server.process.pid) - before) / max(1.0, found.rate * SECONDS)
-        return Figures(found.rate, found.half, found.most, found.failed, written=written)
-
-    def load_connector(self, server: Server, connections: int) -> Figures:
-        """The same, once it serves. Each packet that is answered and not fulfilled has failed too."""
-        replace(server, port=server.engines).await_listening()
-        before = fulfilled_by(server)
-        figures = self.load(server, connections)
-        fulfilled = fulfilled_by(server) - before
-        figures.failed += max(0, int(figures.rate * SECONDS) - fulfilled)
-        return figures
-
-    def without(self, connections: int) -> Figures:
-        """A connector without a journal."""
-        with self.bench.run_peer(0) as peer, self.run_connector(peer.port, None, "group") as server:
-            return self.load_connector(server, connections)
-
-    def logged(self, connections: int, place: Path, sync: str) -> Figures:
-        """A connector with a journal in a new folder at a place. Where the log has not the entries of each packet,
-        all have failed."""
-        with tempfile.TemporaryDirectory(dir=place) as folder, self.bench.run_peer(0) as peer, \
-                self.run_connector(peer.port, journal := Path(folder, "journal"), sync) as server:
-            figures = self.load_connector(server, connections)
-            fulfilled = fulfilled_by(server)
-            figures.octets = journal.with_name("journal.log").stat().st_size / max(1, fulfilled)
-            figures.failed += fulfilled if figures.octets < LEAST else 0
-            return figures
-
-    def nginx(self, connections: int) -> Figures:
+    @contextlib.contextmanager
+    def nginx(self) -> Iterator[Running]:
         """nginx as a proxy, which keeps nothing."""
-        with self.bench.run_peer(0) as peer, self.bench.run_nginx(peer.port, 0) as server:
-            return self.load(server, connections)
+        with self.bench.run_peer(0) as peer, self.bench.run_nginx(peer.port) as server:
+            yield Running(server)
 
-    def rust(self, connections: int) -> Figures:
+    @contextlib.contextmanager
+    def rust(self, connections: int) -> Iterator[Running]:
         """Plain Rust (appending.rs), which asks no peer and keeps a line of each request."""
         with tempfile.TemporaryDirectory(dir=self.disk) as folder:
-            port = free_port()
-            words = [self.bench.rust, str(port), str(connections), str(Path(folder, "log")), str(OCTETS)]
+            port, log = free_port(), Path(folder, "log")
+            words = [self.bench.rust, str(port), str(connections), str(log), str(OCTETS)]
             with self.bench.run("rust", words, port) as server:
-                figures = self.load(server, connections)
-        figures.octets = OCTETS
+                yield Running(server, log)
+
+    def load(self, running: Running, connections: int) -> Figures:
+        """What wrk measures of a server in a second. Where its file has not a line of each packet, all have
+        failed."""
+        pid, length = running.server.process.pid, running.length()
+        before = written_by(pid)
+        found = self.bench.load(running.server, connections, 1)
+        packets = max(1.0, found.rate)
+        figures = Figures(found.rate, found.half, found.most, found.failed, written=(written_by(pid) - before) / packets)
+        if running.log is not None:
+            figures.octets = (running.length() - length) / packets
+            figures.failed += int(packets) if figures.octets < LEAST else 0
         return figures
 
 

@@ -89,9 +89,9 @@ def client_that_does_not_read(laboratory: Laboratory) -> None:
 
 
 @case
-def waiting_for_a_worker(laboratory: Laboratory) -> None:
-    """A whole request that waits for the one worker longer than 10 seconds is answered."""
-    program = laboratory.serve(answers_packet(FULFILL, after=6.0), workers=1)
+def waiting_for_its_turn(laboratory: Laboratory) -> None:
+    """A whole request that waits for its turn longer than 10 seconds is answered."""
+    program = laboratory.serve(answers_packet(FULFILL, after=6.0), in_flight=1)
     with ThreadPoolExecutor(3) as pool:
         replies = list(pool.map(lambda _: send_packet(program, soon(1), 30.0), "abc"))
     expect("three packets", replies, [response(200, FULFILL)] * 3)

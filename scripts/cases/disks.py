@@ -9,23 +9,32 @@ from typing import Self
 from cases.case import expect_that
 from cases.laboratory import Laboratory
 
-SOURCE = Path(__file__).with_name("disk.c")
+
+def library_of(name: str, folder: Path) -> Path | None:
+    """What stands in this file of C here, as a library in the folder that a program preloads, where there is a C
+    compiler."""
+    if shutil.which("cc") is None:
+        return None
+    library = folder / f"{name}.so"
+    subprocess.run(["cc", "-O1", "-shared", "-fPIC", "-o", library, Path(__file__).with_name(name)], check=True)
+    return library
 
 
 class Disk:
     """A library that a program preloads (disk.c), and the files by which it tells and is told."""
 
-    def __init__(self, folder: Path) -> None:
-        self.library = folder / "disk.so"
+    def __init__(self, folder: Path, library: Path) -> None:
+        self.library = library
         self.told = folder / "told"
         # The disk is so while these are there.
         self.busy, self.broken, self.full = folder / "busy", folder / "broken", folder / "full"
-        subprocess.run(["cc", "-O1", "-shared", "-fPIC", "-o", self.library, SOURCE], check=True)
 
     @classmethod
     def of(cls, laboratory: Laboratory) -> Self | None:
         """One for a case, where there is a C compiler."""
-        return cls(laboratory.folder()) if shutil.which("cc") is not None else None
+        folder = laboratory.folder()
+        library = library_of("disk.c", folder)
+        return cls(folder, library) if library is not None else None
 
     def environment(self) -> dict[str, str]:
         """What has a program find this disk."""

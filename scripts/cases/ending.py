@@ -6,6 +6,7 @@ import time
 from concurrent.futures import ThreadPoolExecutor
 
 from cases.case import case, expect, expect_that, expect_within
+from cases.disks import library_of
 from cases.laboratory import (AT_ONCE, END, Laboratory, close, credit, expect_end, expect_served,
                               packet_request, post_close, send_packet)
 from cases.lines import KEPT_OPEN, MORE, split_report
@@ -24,6 +25,9 @@ HOLD = 2.0
 MARGIN = 10.0
 RESPONSE = 10.0
 CALL = 10.0
+
+# In seconds: what a connection takes to close for slow_close.c.
+SLOW = 2.0
 
 
 def expect_end_since(program: Program, start: float, most: float, alice: int = 0,
@@ -95,7 +99,7 @@ def end_beside_a_silent_peer(laboratory: Laboratory) -> None:
 def close_beside_waiting_packets(laboratory: Laboratory) -> None:
     """A close is answered and nobody is accepted any more, though packets wait for places. What has not
     begun after the longest hold and ten seconds is closed unanswered, and nothing of it is booked."""
-    program = laboratory.serve(never_answers, workers=4, max_hold_ms=int(HOLD * 1000))
+    program = laboratory.serve(never_answers, in_flight=4, max_hold_ms=int(HOLD * 1000))
     links = [laboratory.connect(program.setup.peers_port) for _ in range(20)]
     for link in links:
         link.sendall(packet_request(program, soon(1, milliseconds=60_000)))
@@ -217,6 +221,25 @@ def two_closes(laboratory: Laboratory) -> None:
     expect_that(f"what closes were answered: {told}", response(200) in told)
     expect_that(f"what closes were answered: {told}", told <= {response(200), b""})
     expect_end(program, alice=0, bob=0)
+
+
+@case
+def end_beside_a_slow_worker(laboratory: Laboratory) -> None:
+    """A worker that is busy while the last connections are taken in hears of the end all the same, here one that
+    takes two seconds to close the connection of the close. This is left out where there is no C compiler."""
+    folder = laboratory.folder()
+    if (library := library_of("slow_close.c", folder)) is None:
+        return
+    slow = folder / "slow"
+    program = laboratory.run(Program(laboratory.binary, laboratory.folder(), Setup(),
+                                     environment={"LD_PRELOAD": str(library), "SLOW_CLOSE": str(slow)}))
+    program.await_listening()
+    link = laboratory.connect(program.setup.engines_port)
+    slow.touch()
+    link.sendall(request("/close"))
+    start = time.monotonic()
+    expect("/close", read_to_end(link, SLOW + END), response(200))
+    expect_end_since(program, start, SLOW + END)
 
 
 # ---- engines

@@ -167,3 +167,23 @@ def engine_that_refuses(laboratory: Laboratory) -> None:
     expect("how often the account was asked for", len(engine.of(ACCOUNTS)), 1)
     close(program, alice=200, bob=200)
     expect("bob's settlements", len(engine.of(SETTLEMENTS)), 6)
+
+
+@case
+def engine_that_hangs_beside_another(laboratory: Laboratory) -> None:
+    """Beside an engine that says nothing of an account, or of a settlement, another peer's is asked at
+    once, again and again."""
+    for silent in (engine_of(account=never_answers), engine_of(never_answers)):
+        engine, other = laboratory.stand_in(silent), laboratory.stand_in(engine_of())
+        setup = Setup(engine=engine.port, engine_of_alice=other.port, top={"settle_ms": 20})
+        program = laboratory.start(setup)
+        program.await_listening()
+        expect("a credit", credit(program, 1000), created(quantity(1000, 2)))
+        engine.await_count(ACCOUNTS, 1)
+        start = time.monotonic()
+        count = pay_alice_in_turns(program, other, start + 3.0)
+        program.await_told(r"info settlement \d+ with alice of 800: confirmed", count=count)
+        expect("how often the silent one was asked for the account", len(engine.of(ACCOUNTS)), 1)
+        expect_that("it was asked for one settlement at most", len(engine.of(SETTLEMENTS)) <= 1)
+        post_close(program)
+        expect("the exit status", program.end(2.5), 0)

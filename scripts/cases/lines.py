@@ -23,6 +23,7 @@ EARLY, TARDY = 0.1, 1.5
 NAME = r"[a-z0-9_-]{1,16}"
 PLACE = r"\S{1,64}"
 SECONDS = r"(1 second|\d+ seconds)"
+SIZES = r"\d+ workers, \d+ in flight with \d+ octets"
 WAIT = rf"\d+ (waits? )?for (peer|the engine of) {NAME}"
 MORE = r"( \(([1-9]\d*) more since the last line\))?"
 # The hold of a packet that a peer may have fulfilled all the same.
@@ -67,8 +68,7 @@ WARNING = "warn configuration: "
 
 # Each line has one of these forms, level and text.
 FORMS = [re.compile(form) for form in (
-    rf"info listening at {PLACE} for peers and at {PLACE} for engines: \d+ workers?, \d+ peers?, .+",
-    r"warn one worker: .+",
+    rf"info listening at {PLACE} for peers and at {PLACE} for engines: {SIZES}, \d+ peers?, .+",
     r"warn open files: \d+ at most, and this configuration may need \d+: set ulimit -n \d+",
     r"error can't listen at .+: .+",
     r"error a thread can't be started",
@@ -86,8 +86,8 @@ FORMS = [re.compile(form) for form in (
     rf"{QUANTITY}: see which one its engine means{MORE}",
     rf"warn wrong tokens: (1 request|\d+ requests) got 401(, \d+ from {PLACE})?",
     rf"info rejects to {NAME}: .+",
-    rf"warn work waits for a worker, for {SECONDS} now: of \d+ workers? {WAIT}(, {WAIT})*{MORE}",
-    rf"info no work waits for a worker any more, after {SECONDS}",
+    rf"warn work waits for its turn, for {SECONDS} now: of \d+ in flight {WAIT}(, {WAIT})*{MORE}",
+    rf"info no work waits for its turn any more, after {SECONDS}",
     r"warn journal: \d+ of \d+ entries, (8\d|9[0-4]) percent",
     r"error journal: \d+ of \d+ entries, (9[5-9]|100) percent",
     r"error journal: full, with \d+ of \d+ entries: packets get T03, and credits 503",

@@ -55,6 +55,8 @@ def address_of_no_place(laboratory: Laboratory) -> None:
 def configuration_that_is_refused(laboratory: Laboratory) -> None:
     """A configuration that isn't there, or has a fault, is told as `check` tells it, without a time."""
     rows = [(laboratory.start(Setup(top={"workers": 0})), "refused 23 BadValue workers\n"),
+            (laboratory.start(Setup(top={"in_flight": 0})), "refused 23 BadValue in_flight\n"),
+            (laboratory.start(Setup(top={"in_flight": 65_537})), "refused 23 BadValue in_flight\n"),
             (laboratory.start(Setup(top={"sync": "of"})), "refused 23 BadValue sync\n"),
             (laboratory.start(Setup(), argument="/nowhere"), "refused 20 ConfigUnread\n")]
     for program, told in rows:
@@ -145,6 +147,12 @@ def raise_own_limit() -> None:
     """Gives this process as many descriptors as it may have: cases open more than a thousand."""
     _, most = resource.getrlimit(resource.RLIMIT_NOFILE)
     resource.setrlimit(resource.RLIMIT_NOFILE, (most, most))
+
+
+def own_limit() -> int:
+    """How many descriptors this process, and a program that it starts, may have."""
+    _, most = resource.getrlimit(resource.RLIMIT_NOFILE)
+    return most
 
 
 def is_program(path: Path) -> bool:

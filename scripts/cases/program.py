@@ -14,7 +14,7 @@ from cases.lines import OF_ANOTHER_TEXT, WARNING, Line, check_lines, read_lines
 from cases.messages import HERE, connect
 from cases.stand_ins import free_port
 
-DESCRIPTORS = 4096
+DESCRIPTORS = 12_288
 
 # In octets: the stack of each thread where a program has room for so many threads alone, and its room for
 # all else, which is less than a stack.

@@ -15,9 +15,12 @@ from cases.stand_ins import (ACCEPTS, FULFILLS, answers, answers_packet, engine_
 from connections import ANSWER, MESSAGE, quantity
 from scenes import F99, FULFILL, R00, T01, fulfill
 
-# How many files a program of so many workers may need: two sides whose connections wait, three for
-# each worker, and some more.
-WAITING_FILES, FILES_OF_A_WORKER, MORE_FILES = 2 * 1024, 3, 20
+# How many may be in flight, where nothing else is said, and how many connections may wait at a side.
+IN_FLIGHT, WAITING = 4096, 1024
+
+# How many files a program has for each worker, for each that waits, as there are two sides, or is in flight, and for
+# all else: of this, one for each of two peers.
+FILES_OF_A_WORKER, FILES_OF_EACH, MORE_FILES = 2, 2, 22
 
 # In seconds: a line that is no answer to a request comes so much later at most, with what this machine
 # may take beside other work.
@@ -43,36 +46,42 @@ def line_at_the_start(laboratory: Laboratory) -> None:
     expect("the lines", [line.said for line in program.lines()],
            [NO_JOURNAL,
             f"info listening at {setup.listen} for peers and at {setup.engine_listen} for engines: "
-            f"37 workers, 2 peers, alice without an engine, bob with the engine at "
+            f"37 workers, {IN_FLIGHT} in flight with {8192 * IN_FLIGHT} octets, 2 peers, alice without an engine, bob with the engine at "
             f"{HERE}:{setup.engine}",
             f'info credit 2 of bob: 1, key "{setup.key}"',
             "info closing: no connection is accepted any more"])
 
 
-@case
-def one_worker(laboratory: Laboratory) -> None:
-    """Where there is one worker alone, a line says once what that means."""
-    program = laboratory.serve(FULFILLS, workers=1)
-    expect("a packet", send_packet(program, soon(1)), response(200, FULFILL))
-    close(program, alice=-1, bob=1)
-    expect("how many lines say so", len(program.told("warn one worker: .+")), 1)
+def files_wanted(workers: int, in_flight: int) -> int:
+    """How many open files a program may need."""
+    return MORE_FILES + FILES_OF_A_WORKER * workers + FILES_OF_EACH * (WAITING + in_flight)
+
+
+def in_flight_by(limit: int, workers: int, asked: int) -> int:
+    """How many may be in flight, of so many that are asked for, with so many open files."""
+    left = max(0, limit - MORE_FILES - FILES_OF_A_WORKER * workers)
+    waiting = max(1, min(WAITING, left // 8))
+    return max(1, min(asked, (left - FILES_OF_EACH * waiting) // FILES_OF_EACH))
 
 
 @case
 def limit_of_open_files(laboratory: Laboratory) -> None:
     """A limit that is lower than what the configuration may need is told, and by how much; the first
-    lines are those of the start all the same."""
-    for workers in (4, 64):
-        wanted = WAITING_FILES + FILES_OF_A_WORKER * workers + MORE_FILES
-        for limit in (wanted - 1, wanted):
-            program = laboratory.serve(FULFILLS, descriptors=limit, workers=workers)
+    lines are those of the start all the same, and say how many are in flight by that."""
+    for workers, in_flight in ((4, IN_FLIGHT), (64, IN_FLIGHT), (4, 100), (1, 1)):
+        wanted = files_wanted(workers, in_flight)
+        for limit in (256, wanted - 1, wanted):
+            program = laboratory.serve(FULFILLS, descriptors=limit, workers=workers, in_flight=in_flight)
             expect_served(program)
             close(program)
             lines = [line.said for line in program.lines()]
+            what = f"{workers} workers, {in_flight} in flight, {limit} open files"
+            fewer = in_flight_by(limit, workers, in_flight)
+            expect_that(f"{what}: the start is told as {lines[1]!r}, and {fewer} are in flight",
+                        f" {workers} workers, {fewer} in flight with {8192 * max(16, fewer)} octets, " in lines[1])
             told = [f"warn open files: {limit} at most, and this configuration may need {wanted}: "
                     f"set ulimit -n {wanted}"] if limit < wanted else []
-            expect(f"{workers} workers, {limit} open files: the lines between the first and the last",
-                   lines[2:-1], told)
+            expect(f"{what}: the lines between the first and the last", lines[2:-1], told)
 
 
 # ---- peers and engines
@@ -228,12 +237,12 @@ def lines_of_an_engine_that_is_not_reached(laboratory: Laboratory) -> None:
 
 @case
 def work_that_waits(laboratory: Laboratory) -> None:
-    """Work that waits for a worker is told after a second, with what the workers wait for, and so is
-    that none waits any more."""
+    """Work that waits for its turn is told after a second, with what is waited for, and so is that none
+    waits any more."""
     slow = 5.0
     message = answers(response(200, ANSWER), after=slow)
     program = laboratory.serve(answers_packet(FULFILL, after=slow), engine_of(message=message),
-                               levels=False, workers=4)
+                               levels=False, in_flight=4)
     setup = program.setup
     body = soon(0, MESSAGE, b"peer.settle")
     with ThreadPoolExecutor(4) as pool:
@@ -244,11 +253,11 @@ def work_that_waits(laboratory: Laboratory) -> None:
                                         for _ in range(3)]
         laboratory.bob.await_count("/ilp", 2)
         said = program.await_told(
-            r"warn work waits for a worker, for \d+ seconds? now: of 4 workers 2 wait for peer bob, "
+            r"warn work waits for its turn, for \d+ seconds? now: of 4 in flight 2 wait for peer bob, "
             "1 (waits )?for the engine of bob", within=1.0 + TOLD_WITHIN)[0]
         expect("the message", messages.result(), response(200, fulfill(data=ANSWER)))
         expect("three packets", [one.result() for one in packets], [response(200, FULFILL)] * 3)
-    over = program.await_told(r"info no work waits for a worker any more, after [2-9] seconds",
+    over = program.await_told(r"info no work waits for its turn any more, after [2-9] seconds",
                               within=TOLD_WITHIN)[0]
     expect_within("seconds between the lines", over.moment - said.moment, 0.0, slow + TOLD_WITHIN)
     close(program, alice=-3, bob=3)

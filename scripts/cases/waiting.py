@@ -30,7 +30,7 @@ def flood_to_a_silent_peer(laboratory: Laboratory) -> None:
     so is another sender's packet."""
     alice = laboratory.stand_in(FULFILLS)
     bob = laboratory.stand_in(never_answers)
-    setup = Setup(alice=alice.port, bob=bob.port, top={"workers": 4, "max_hold_ms": 20_000})
+    setup = Setup(alice=alice.port, bob=bob.port, top={"in_flight": 4, "max_hold_ms": 20_000})
     program = laboratory.start(setup)
     program.await_listening()
     for _ in range(40):
@@ -55,9 +55,9 @@ def flood_to_a_silent_peer(laboratory: Laboratory) -> None:
 
 
 @case
-def half_of_the_workers(laboratory: Laboratory) -> None:
-    """One sender's packets have half of the workers, and no more, however many there are."""
-    program = laboratory.serve(never_answers, workers=9, max_hold_ms=20_000)
+def half_of_what_is_in_flight(laboratory: Laboratory) -> None:
+    """One sender's packets have half of what may be in flight, and no more, however many there are."""
+    program = laboratory.serve(never_answers, in_flight=9, max_hold_ms=20_000)
     for _ in range(20):
         link = laboratory.connect(program.setup.peers_port)
         link.sendall(packet_request(program, soon(1)))
@@ -73,7 +73,7 @@ def senders_take_turns(laboratory: Laboratory) -> None:
     before."""
     slow = answers_packet(FULFILL, after=0.3)
     alice, bob = laboratory.stand_in(slow), laboratory.stand_in(slow)
-    setup = Setup(alice=alice.port, bob=bob.port, top={"workers": 2})
+    setup = Setup(alice=alice.port, bob=bob.port, top={"in_flight": 1})
     program = laboratory.start(setup)
     program.await_listening()
     ended: list[str] = []

@@ -25,6 +25,7 @@ pub record PlainSettings : Type 0 where
   pub sweep_ms : ℕ
   pub settle_ms : ℕ
   pub sync : LogSync
+  pub in_flight : ℕ
 
 -- a peer; amounts in units of its asset
 pub record PlainPeer : Type 0 where
@@ -81,6 +82,7 @@ settings_of t = record {
   sweep_ms = unwrap_or (natural_in field.SweepMs t) 100;
   settle_ms = unwrap_or (natural_in field.SettleMs t) 1000;
   sync = sync_of (unwrap_or (text_in field.Sync t) (codes "group"));
+  in_flight = unwrap_or (natural_in field.InFlight t) 4096;
 }
 
 -- the elements of the arrays

@@ -19,6 +19,9 @@ most_routes = 4096
 abbrev pub most_workers : ℕ
 most_workers = 64
 
+abbrev pub most_in_flight : ℕ
+most_in_flight = 65536
+
 -- the entries of a journal: a hold and its answer at least
 abbrev pub least_journal : ℕ
 least_journal = 2

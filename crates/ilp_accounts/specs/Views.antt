@@ -23,6 +23,7 @@ plain_settings text s = record {
   sweep_ms = s.sweep_ms;
   settle_ms = s.settle_ms;
   sync = s.sync;
+  in_flight = s.in_flight;
 }
 
 abbrev pub plain_arrays : Arrays → PlainArrays

@@ -228,6 +228,13 @@ impl Config {
         self.settings.sync
     }
 
+    /// How many packets and messages may wait for peers and engines at once: 1 to 65536.
+    pub fn in_flight(&self) -> u32
+        ensures { result ≡ self.now.settings.in_flight }
+    {
+        self.settings.in_flight
+    }
+
     /// The assets and their prices.
     pub fn assets(&self) -> &AssetTable
         ensures value { result.now ≡ self.now.table }

@@ -40,6 +40,7 @@ pub(crate) struct Settings<T> {
     pub(crate) sweep_ms: u32,
     pub(crate) settle_ms: u32,
     pub(crate) sync: LogSync,
+    pub(crate) in_flight: u32,
 }
 
 /// Reads the top fields.
@@ -65,6 +66,7 @@ pub(crate) fn settings_of(table: &Table) -> Result<Settings<&str>, ConfigFault>
     let sweep_ms = defaulted_number(table, Field::SweepMs, 1, MINUTE_MS, 100)?;
     let settle_ms = defaulted_number(table, Field::SettleMs, 1, MINUTE_MS, 1_000)?;
     let sync = defaulted_text(table, Field::Sync, Form::Sync, "group")?;
+    let in_flight = defaulted_number(table, Field::InFlight, 1, 65_536, 4_096)?;
     Ok(Settings {
         address,
         run,
@@ -78,6 +80,7 @@ pub(crate) fn settings_of(table: &Table) -> Result<Settings<&str>, ConfigFault>
         sweep_ms,
         settle_ms,
         sync: sync_of(sync),
+        in_flight,
     })
 }
 
@@ -110,6 +113,7 @@ impl Settings<&str> {
             sweep_ms: self.sweep_ms,
             settle_ms: self.settle_ms,
             sync: self.sync,
+            in_flight: self.in_flight,
         })
     }
 }
@@ -132,6 +136,7 @@ impl Settings<String> {
             sweep_ms: self.sweep_ms,
             settle_ms: self.settle_ms,
             sync: self.sync,
+            in_flight: self.in_flight,
         }
     }
 }

@@ -53,7 +53,7 @@ settlement_key_in desk n = settlement_key_at desk.config desk.period desk.openin
 
 -- a configuration of nothing
 abbrev pub nothing : Configuration
-nothing = record { settings = record { address = []; run = []; listen = []; engine_listen = []; path = []; workers = 0; journal = 0; window_ms = 0; max_hold_ms = 0; sweep_ms = 0; settle_ms = 0; sync = Group }; table = record { assets = []; prices = [] }; peers = []; routes = [] }
+nothing = record { settings = record { address = []; run = []; listen = []; engine_listen = []; path = []; workers = 0; journal = 0; window_ms = 0; max_hold_ms = 0; sweep_ms = 0; settle_ms = 0; sync = Group; in_flight = 0 }; table = record { assets = []; prices = [] }; peers = []; routes = [] }
 
 -- what stands for the desk where none is named
 abbrev pub no_desk : PlainDesk

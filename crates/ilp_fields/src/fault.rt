@@ -24,6 +24,7 @@ pub enum Field {
     SweepMs,
     SettleMs,
     Sync,
+    InFlight,
     /// The array of assets, and a peer's asset.
     Asset,
     Price,
@@ -69,6 +70,7 @@ impl Field {
             Field::SweepMs => "sweep_ms",
             Field::SettleMs => "settle_ms",
             Field::Sync => "sync",
+            Field::InFlight => "in_flight",
             Field::Asset => "asset",
             Field::Price => "price",
             Field::Peer => "peer",

@@ -1,5 +1,7 @@
 //! Who decides which connections are given on.
 
+use mio::net::TcpStream;
+
 /// Decides which connections an intake gives on, and when.
 ///
 /// It is asked of all connections that are ready at once. So those of one kind can wait, for a worker
@@ -15,6 +17,14 @@ pub trait Admission {
     /// The place of the connection that is given on next, of those that are ready, which stand in the
     /// order in which they came; none where none may be given on now. It counts as given on then.
     fn admit(&mut self, ready: &[Self::Kind]) -> Option<usize>;
+
+    /// The number of whoever sent the request of a connection of this kind. Of many that wait, those of
+    /// one sender are closed first.
+    fn sender_of(&self, kind: Self::Kind) -> u32;
+
+    /// A connection of this kind is closed, since too many wait: its client is told where that can be
+    /// written without waiting.
+    fn turn_away(&mut self, kind: Self::Kind, stream: &TcpStream);
 
     /// A connection of this kind does not count as given on after all: it was lost.
     fn give_back(&mut self, kind: Self::Kind);

@@ -130,6 +130,13 @@ impl<K: Copy> Connection<K> {
         }
     }
 
+    /// Tells its client that it is closed, where its request has come whole.
+    pub(crate) fn turn_away<D: Admission<Kind = K>>(self, admission: &mut D) {
+        if let Stage::Ready { kind, refused: _ } = self.stage {
+            admission.turn_away(kind, &self.stream);
+        }
+    }
+
     /// The connection as it is given on. No event tells of it any more.
     pub(crate) fn into_ready(self, registry: &Registry, kind: K) -> io::Result<ReadyConnection<K>> {
         let Connection {

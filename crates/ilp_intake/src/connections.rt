@@ -3,6 +3,7 @@ ghost use Rattle.std.specs.Prelude.{◌≡◌, ◌+◌, ◌<◌, ◌≤◌, ◌�
 ghost use Rattle.ilp_intake.specs.declared.limits.TheConstants.{MOST_WAITING};
 
 use crate::admission::Admission;
+use crate::closing::Closing;
 use crate::connection::Connection;
 use crate::limits::MOST_WAITING;
 use crate::lingering::Lingering;
@@ -22,6 +23,7 @@ pub(crate) struct Connections<K> {
     waiting: Vec<Connection<K>>,
     lingering: Vec<Lingering>,
     ready: Ready<K>,
+    closing: Closing,
     most: usize,
     // The number of the next one.
     next: usize,
@@ -71,8 +73,9 @@ impl<K: Copy> Ready<K> {
 }
 
 impl<K: Copy> Connections<K> {
-    /// None yet. There will be so many at most, but one at least and `MOST_WAITING` at most.
-    pub(crate) fn new(alloc: Global, most: usize) -> Result<Connections<K>, AllocError>
+    /// None yet. There will be so many at most, but one at least and `MOST_WAITING` at most, of senders
+    /// whose numbers are not above the last.
+    pub(crate) fn new(alloc: Global, most: usize, last: u32) -> Result<Connections<K>, AllocError>
         ensures { IfOk result (λ connections. connections.most ≡ max 1 (min most MOST_WAITING)) }
     {
         let most = most.min(MOST_WAITING).max(1);
@@ -80,6 +83,7 @@ impl<K: Copy> Connections<K> {
             waiting: Vec::with_capacity(alloc, most)?,
             lingering: Vec::with_capacity(alloc, most)?,
             ready: Ready::new(alloc, most)?,
+            closing: Closing::new(alloc, most, last)?,
             most,
             next: 0,
             has_new: false,
@@ -99,18 +103,27 @@ impl<K: Copy> Connections<K> {
         self.waiting.len() + self.lingering.len() == self.most
     }
 
+    // Whether there are fewer than may be.
+    fn has_room(&self) -> bool
+        ensures { IsTrue result → vec_len self.now.waiting + vec_len self.now.lingering < self.now.most }
+    {
+        !self.is_full()
+    }
+
     /// Adds a connection that was accepted at this time, and reads it: mostly its request has come
-    /// by then, and no event need tell of it. Where there are as many as may be, one of them is closed:
-    /// one that could be missed, as `give_up_one` says, and else the first. The added one is closed
-    /// where want of memory refuses it.
+    /// by then, and no event need tell of it. Where there are as many as may be, one of them is closed.
+    /// The added one is closed where want of memory refuses it.
     pub(crate) fn add<D: Admission<Kind = K>>(
         &mut self,
         stream: TcpStream,
         now: Duration,
         admission: &mut D,
     ) {
-        if self.is_full() && !self.give_up_one() {
-            drop(self.waiting.remove(0));
+        if self.is_full() {
+            self.close_one(admission);
+        }
+        if !self.has_room() {
+            return;
         }
         let alloc = *self.waiting.allocator();
         let mut connection = Connection::new(alloc, self.next, stream, now);
@@ -118,6 +131,24 @@ impl<K: Copy> Connections<K> {
         self.next = self.next.wrapping_add(1);
         self.has_new = self.has_new || connection.is_waiting();
         let _ = self.waiting.push(connection);
+    }
+
+    // Closes one of them: one that lingers, else one whose request has not come whole, and else the newest of
+    // the sender with most.
+    fn close_one<D: Admission<Kind = K>>(&mut self, admission: &mut D) {
+        let lingering = self.lingering.len();
+        let waiting = self.waiting.as_slice();
+        let Some(chosen) = self.closing.choose(lingering, waiting, admission) else {
+            return;
+        };
+        if chosen < lingering {
+            drop(self.lingering.remove(chosen));
+            return;
+        }
+        let place = chosen - lingering;
+        if place < self.waiting.len() {
+            self.waiting.remove(place).turn_away(admission);
+        }
     }
 
     /// Has events tell of all whose request has not come whole. One of which the system refuses that is

@@ -2,7 +2,7 @@
 
 use crate::admission::Admission;
 use crate::connections::Connections;
-use crate::limits::{MOST_AT_ONCE, MOST_EVENTS, MOST_RETURNED, REST_MS};
+use crate::limits::{MOST_AT_ONCE, MOST_AT_THE_CLOSE, MOST_EVENTS, MOST_RETURNED, REST_MS};
 use crate::listener::{Listener, NotAccepted};
 use crate::ready::ReadyConnection;
 use crate::times::earlier;
@@ -27,8 +27,8 @@ const LOOK: Token = Token(usize::MAX - 2);
 ///
 /// What no clause can say, since the system holds it: connections are accepted and read without
 /// waiting for any one client, nor for whoever takes them; at most so many wait as it was made for,
-/// and past that, or where the system has no descriptor for one more, the oldest goes; each has 10
-/// seconds in all for its request, and is closed without an answer then; and its octets take 81,920
+/// and past that one is closed; where the system has no descriptor for one more, the oldest goes whose
+/// request has not come whole; each has 10 seconds in all for its request, and is closed without an answer then; and its octets take 81,920
 /// of memory at most, and none while nothing came. One that was answered although more of its request
 /// may come is read for a second more and to 1 MiB, which takes no memory, and counts among those that
 /// wait.
@@ -91,7 +91,8 @@ enum Backlog {
 
 impl<K: Copy> Intake<K> {
     /// The intake of a listening socket, and what reaches it. So many connections wait at most, of
-    /// which each has a descriptor: at least 1 and at most `MOST_WAITING`, whatever is asked for. Once
+    /// which each has a descriptor: at least 1 and at most `MOST_WAITING`, whatever is asked for. Their
+    /// senders' numbers are not above the last. Once
     /// it is closed, connections are given on for so long at most. Where memory is denied the error's
     /// kind is `OutOfMemory`.
     pub fn new(
@@ -99,6 +100,7 @@ impl<K: Copy> Intake<K> {
         alloc: Global,
         listener: Listener,
         most: usize,
+        last: u32,
         ending: Duration,
     ) -> io::Result<(Intake<K>, IntakeHandle)> {
         let mut listener = listener;
@@ -115,7 +117,7 @@ impl<K: Copy> Intake<K> {
             events: Events::with_capacity(alloc, MOST_EVENTS)?,
             listener: Some(listener),
             backlog: Backlog::Empty,
-            connections: Connections::new(alloc, most)?,
+            connections: Connections::new(alloc, most, last)?,
             returned,
             ending,
             watch: Watch::new(),
@@ -177,7 +179,12 @@ impl<K: Copy> Intake<K> {
         }
         // Connections that came before the close are accepted.
         if closing || self.backlog != Backlog::Empty {
-            self.accept_pending(now, admission);
+            let most = if closing {
+                MOST_AT_THE_CLOSE
+            } else {
+                MOST_AT_ONCE
+            };
+            self.accept_pending(now, admission, most);
         }
         if closing {
             self.listener = None;
@@ -215,18 +222,23 @@ impl<K: Copy> Intake<K> {
         }
     }
 
-    // Accepts the connections that wait at the listener, some of them where there are many.
+    // Accepts the connections that wait at the listener, so many of them at most.
     //
     // Where the system is short of descriptors it says so also while none waits. So a connection is
     // given up only for one that is known to wait, and else the listener's event tells whether one does.
-    fn accept_pending<D: Admission<Kind = K>>(&mut self, now: Duration, admission: &mut D) {
+    fn accept_pending<D: Admission<Kind = K>>(
+        &mut self,
+        now: Duration,
+        admission: &mut D,
+        most: usize,
+    ) {
         let Some(listener) = &mut self.listener else {
             return;
         };
         let registry = self.poll.registry();
         let mut one_waits = self.backlog != Backlog::Empty;
         self.backlog = Backlog::Empty;
-        for _ in 0..MOST_AT_ONCE {
+        for _ in 0..most {
             match listener.accept() {
                 Ok(stream) => {
                     self.connections.add(stream, now, admission);

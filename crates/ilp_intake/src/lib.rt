@@ -11,6 +11,7 @@
 #![tactic(auto)]
 
 mod admission;
+mod closing;
 mod connection;
 mod connections;
 mod incoming;

@@ -1,8 +1,8 @@
 //! How many connections wait, and for how long.
 
 /// How many connections wait at an intake at most, those that linger among them. When one more comes,
-/// one that lingers is closed, or else the one that has waited longest for its request, without an
-/// answer.
+/// one is closed: the one that lingers longest; else the one that has waited longest for its request;
+/// else the newest of the sender with most.
 pub const MOST_WAITING: usize = 1_024;
 
 /// How long a request may take to come, in milliseconds from the moment at which its connection was
@@ -22,9 +22,12 @@ pub const MOST_DROPPED: usize = 1_048_576;
 // How many connections may be on their way back to an intake.
 pub(crate) const MOST_RETURNED: usize = 128;
 
-// How many connections are accepted before others are read: as many as the system has wait at a
-// listening socket of std.
+// How many connections are accepted before others are read.
 pub(crate) const MOST_AT_ONCE: usize = 128;
+
+// How many are accepted at the close: as many as Linux has wait at a listening socket, where nobody
+// configured that.
+pub(crate) const MOST_AT_THE_CLOSE: usize = 4_096;
 
 // How many events are handled at once.
 pub(crate) const MOST_EVENTS: usize = 256;

@@ -2,9 +2,9 @@
 
 use mio::net::{TcpListener, TcpStream};
 use mio::{Interest, Registry, Token};
+use std::io;
 use std::io::ErrorKind;
 use std::net::{Net, SocketAddr};
-use std::{io, net};
 
 // Errors of the system by their numbers in Linux. It has no memory for a connection, no descriptor,
 // or no room in its buffers.
@@ -99,18 +99,13 @@ fn why_not(error: &io::Error) -> NotAccepted {
     }
 }
 
-/// Listens at an address of the form `IP:PORT`. It is refused where the text is of another form
-/// (`InvalidInput`), and where the system refuses it.
-pub fn listen<R: Net<Listener = net::TcpListener, Stream = net::TcpStream>>(
-    rt: &R,
-    place: &str,
-) -> io::Result<Listener> {
+/// Listens at an address of the form `IP:PORT`, where as many may wait as the system allows. It is refused
+/// where the text is of another form (`InvalidInput`), and where the system refuses it.
+pub fn listen(rt: &impl Net, place: &str) -> io::Result<Listener> {
     let Ok(address) = place.parse::<SocketAddr>() else {
         return Err(io::Error::from(ErrorKind::InvalidInput));
     };
-    let socket = net::TcpListener::bind(rt, address)?;
-    socket.set_nonblocking(true)?;
     Ok(Listener {
-        socket: TcpListener::from_std(socket),
+        socket: TcpListener::bind(rt, address)?,
     })
 }

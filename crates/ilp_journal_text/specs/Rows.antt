@@ -26,6 +26,7 @@ config = record {
     sweep_ms = 100;
     settle_ms = 1000;
     sync = Group;
+    in_flight = 4096;
   };
   table = record { assets = []; prices = [] };
   peers = named (codes "alice") ∷ named (codes "bob") ∷ [];

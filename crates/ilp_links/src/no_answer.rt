@@ -25,13 +25,16 @@ pub(crate) enum NoAnswer {
     /// A response came, whose status says that it is no answer.
     #[error("status {0}")]
     Status(u16),
+    /// Memory for what came was denied.
+    #[error("no memory for the answer")]
+    NoMemory,
 }
 
 impl NoAnswer {
     // Whether the peer may have got the packet, and have answered it.
     fn may_be_answered(self) -> bool {
         match self {
-            NoAnswer::Late | NoAnswer::NoResponse(_) => true,
+            NoAnswer::Late | NoAnswer::NoResponse(_) | NoAnswer::NoMemory => true,
             NoAnswer::NoPlace | NoAnswer::NotReached(_) | NoAnswer::Status(_) => false,
         }
     }

@@ -25,6 +25,7 @@ config = record {
     sweep_ms = 100;
     settle_ms = 1000;
     sync = Group;
+    in_flight = 4096;
   };
   table = record { assets = record { code = codes "USD"; scale = 2 } ∷ record { code = codes "XRP"; scale = 9 } ∷ []; prices = [] };
   peers = in_asset (codes "alice") 1 ∷ in_asset (codes "bob") 0 ∷ [];

@@ -54,7 +54,6 @@ pub use sent_hold::SentHold;
 pub use settlements::ToldQuantity;
 pub use shown_key::ShownKey;
 pub use starting::{
-    closing, configuration_warning, few_files, listening, no_thread, not_listening, one_worker,
-    report_follows,
+    closing, configuration_warning, few_files, listening, no_thread, not_listening, report_follows,
 };
 pub use unkept::log_incomplete;

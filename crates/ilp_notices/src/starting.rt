@@ -8,25 +8,20 @@ use std::io::{Eprint, ErrorKind};
 use std::time::Clock;
 use std::{fmt, io};
 
-/// Tells that the connector listens: where, with how many workers, and for which peers.
-pub fn listening<R: Clock + Eprint>(rt: &R, config: &Config) {
-    tell(rt, Level::Info, WhereAndWho(config));
+/// Tells that the connector listens: where, with how many workers, how many packets and messages may be
+/// in flight at once, with how many octets, and for which peers.
+pub fn listening<R: Clock + Eprint>(rt: &R, config: &Config, in_flight: u32, octets: u64) {
+    let text = WhereAndWho {
+        config,
+        in_flight,
+        octets,
+    };
+    tell(rt, Level::Info, text);
 }
 
 /// Tells of a thing in the configuration that is allowed and probably not meant.
 pub fn configuration_warning<R: Clock + Eprint>(rt: &R, what: &str) {
     tell(rt, Level::Warn, format_args!("configuration: {what}"));
-}
-
-/// Tells what one worker alone can't do, where there is only one.
-pub fn one_worker<R: Clock + Eprint>(rt: &R, config: &Config) {
-    if config.workers() == 1 {
-        tell(
-            rt,
-            Level::Warn,
-            "one worker: while it waits for a peer or an engine, settlements, reports and the close wait too",
-        );
-    }
 }
 
 /// Tells that an address can't be listened at, and why.
@@ -76,16 +71,24 @@ pub fn report_follows<R: Clock + Eprint>(rt: &R) {
 
 // The line on a connector that listens.
 #[derive(Clone, Copy)]
-struct WhereAndWho<'c>(&'c Config);
+struct WhereAndWho<'c> {
+    config: &'c Config,
+    in_flight: u32,
+    octets: u64,
+}
 
 impl Display for WhereAndWho<'_> {
     fn fmt<W: fmt::Write>(&self, f: &mut fmt::Formatter<W>) -> fmt::Result {
-        let config = self.0;
+        let WhereAndWho {
+            config,
+            in_flight,
+            octets,
+        } = *self;
         let (peers_at, engines_at) = (config.listen(), config.engine_listen());
         let (workers, peers) = (config.workers(), config.peers());
         write!(
             f,
-            "listening at {peers_at} for peers and at {engines_at} for engines: {workers} workers, {peers} peers"
+            "listening at {peers_at} for peers and at {engines_at} for engines: {workers} workers, {in_flight} in flight with {octets} octets, {peers} peers"
         )?;
         for peer in 0..config.peers() {
             write_peer(f, config, peer)?;

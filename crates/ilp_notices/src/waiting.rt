@@ -7,7 +7,7 @@ use std::fmt;
 use std::fmt::Display;
 use std::sync::atomic::{AtomicU64, Ordering};
 
-/// How many threads wait for one peer or one engine now. Threads share it by reference.
+/// How many packets and messages wait for one peer or one engine now. Threads share it by reference.
 #[derive(Drop)]
 pub(crate) struct Waiters {
     count: AtomicU64,
@@ -35,28 +35,28 @@ impl Waiters {
 }
 
 impl Notices {
-    /// Counts that this thread waits for a peer, until `peer_is_over`.
+    /// Counts that one more waits for a peer, until `peer_is_over`.
     pub fn waits_for_peer(&self, peer: u32) {
         if let Some(of_peer) = self.peers.get(peer as usize) {
             of_peer.wait_for_peer.add();
         }
     }
 
-    /// This thread, which told `waits_for_peer`, waits no more.
+    /// One for which `waits_for_peer` was told waits no more.
     pub fn peer_is_over(&self, peer: u32) {
         if let Some(of_peer) = self.peers.get(peer as usize) {
             of_peer.wait_for_peer.remove();
         }
     }
 
-    /// Counts that this thread waits for the engine of a peer, until `engine_is_over`.
+    /// Counts that one more waits for the engine of a peer, until `engine_is_over`.
     pub fn waits_for_engine(&self, peer: u32) {
         if let Some(of_peer) = self.peers.get(peer as usize) {
             of_peer.wait_for_engine.add();
         }
     }
 
-    /// This thread, which told `waits_for_engine`, waits no more.
+    /// One for which `waits_for_engine` was told waits no more.
     pub fn engine_is_over(&self, peer: u32) {
         if let Some(of_peer) = self.peers.get(peer as usize) {
             of_peer.wait_for_engine.remove();
@@ -64,19 +64,18 @@ impl Notices {
     }
 }
 
-/// Who waits for whom now, as `of 4 workers 2 wait for peer bob, 1 for the engine of alice`.
+/// Who waits for whom now, as `of 4 in flight 2 wait for peer bob, 1 for the engine of alice`.
 #[derive(Clone, Copy)]
 pub(crate) struct WhoWaits<'a> {
     pub(crate) notices: &'a Notices,
     pub(crate) config: &'a Config,
+    // How many may be in flight.
+    pub(crate) in_flight: u32,
 }
 
 impl Display for WhoWaits<'_> {
     fn fmt<W: fmt::Write>(&self, f: &mut fmt::Formatter<W>) -> fmt::Result {
-        match self.config.workers() {
-            1 => f.write_str("of 1 worker")?,
-            workers => write!(f, "of {workers} workers")?,
-        }
+        write!(f, "of {} in flight", self.in_flight)?;
         let begun = self.write_all(f, Whom::Peer, Begun::NotYet)?;
         match self.write_all(f, Whom::Engine, begun)? {
             Begun::NotYet => f.write_str(" none waits for a peer or an engine"),

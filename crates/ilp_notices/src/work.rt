@@ -1,4 +1,4 @@
-//! What is told where work waits for a worker, and of the clock.
+//! What is told where work waits for its turn, and of the clock.
 
 use crate::line::{Level, tell};
 use crate::notices::Notices;
@@ -31,7 +31,7 @@ impl WaitingWork {
     pub(crate) fn tell_over<R: Clock + Eprint>(&self, rt: &R) {
         if self.itself.over(rt).is_some() {
             let time = whole_seconds(self.seconds.load(Ordering::SeqCst));
-            let text = format_args!("no work waits for a worker any more, after {time}");
+            let text = format_args!("no work waits for its turn any more, after {time}");
             tell(rt, Level::Info, text);
         }
     }
@@ -42,8 +42,15 @@ fn whole_seconds(seconds: u64) -> Seconds {
 }
 
 impl Notices {
-    /// Tells that work has waited for a worker for so many seconds, and for whom the workers wait.
-    pub fn work_waits<R: Clock + Eprint>(&self, rt: &R, config: &Config, seconds: u64) {
+    /// Tells that work has waited for its turn for so many seconds, while so many packets and messages may
+    /// be in flight, and for whom those wait.
+    pub fn work_waits<R: Clock + Eprint>(
+        &self,
+        rt: &R,
+        config: &Config,
+        in_flight: u32,
+        seconds: u64,
+    ) {
         self.work.seconds.store(seconds, Ordering::SeqCst);
         let Some(left_out) = self.work.itself.failed(rt) else {
             return;
@@ -51,13 +58,14 @@ impl Notices {
         let who = WhoWaits {
             notices: self,
             config,
+            in_flight,
         };
         let time = whole_seconds(seconds);
-        let text = format_args!("work waits for a worker, for {time} now: {who}{left_out}");
+        let text = format_args!("work waits for its turn, for {time} now: {who}{left_out}");
         tell(rt, Level::Warn, text);
     }
 
-    /// Notes that no work waits for a worker.
+    /// Notes that no work waits for its turn.
     pub fn work_goes_on(&self) {
         self.work.itself.answered();
     }

@@ -12,7 +12,7 @@ ghost use Rattle.ilp_running.specs.Serving.{Refuses};
 use crate::fault::ServeFault;
 use crate::logging::{AckList, BegunLog, ClosedRun, RunningLog};
 use crate::printing::tell_report;
-use ilp_accounts::Config;
+use ilp_accounts::{Config, LogSync};
 use ilp_book::Book;
 use ilp_desk::{Closed, Desk, End, EntryList, LockedBook, Naming, Share, gather};
 use ilp_io::Sink;
@@ -22,7 +22,7 @@ use ilp_links::Links;
 use ilp_log::LogNaming;
 use ilp_log_keeper::{KeepingState, LogKeeper};
 use ilp_report::{Snapshot, print};
-use ilp_threads::{Unprinted, run_desk};
+use ilp_threads::{KeepingWay, Unprinted, run_desk};
 use std::io::Eprint;
 use std::marker::Brand;
 use std::net::{Net, TcpListener, TcpStream};
@@ -166,7 +166,7 @@ where
     };
     match log {
         None => {
-            let ends = run_desk(rt, &desk, shares, links, Forgetful);
+            let ends = run_desk(rt, &desk, shares, links, Forgetful, KeepingWay::InLoops);
             let book = close_desk(desk, ends)?.into_book();
             Ok(ClosedRun { book, log: None })
         }
@@ -206,9 +206,18 @@ where
 {
     let state = KeepingState::new();
     let keeper = LogKeeper::new(rt, &desk, &log.log, &state);
-    let ends = run_desk(rt, &desk, shares, links, keeper);
+    let way = keeping_way(desk.config());
+    let ends = run_desk(rt, &desk, shares, links, keeper, way);
     let book = close_desk(desk, ends)?;
     Ok(log.close(rt, book))
+}
+
+// Where nothing waits for the disk, each loop has the journal kept.
+fn keeping_way(config: &Config) -> KeepingWay {
+    match config.sync() {
+        LogSync::Group => KeepingWay::Beside,
+        LogSync::Off => KeepingWay::InLoops,
+    }
 }
 
 // Closes a desk whose actors handed these in.

@@ -1,4 +1,5 @@
 pub mod FieldLemmas
+pub mod BodyLemmas
 pub mod PeerLemmas
 pub mod TargetLemmas
 pub mod TokenLemmas

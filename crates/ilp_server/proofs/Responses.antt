@@ -1,25 +1,34 @@
 -- What is told of a response by how it was written.
-use Rattle.std.proofs.Common.{◌≡◌, ℕ, List, Option, Some, None, refl, sym, ap, ◌∙◌, subst, arith}
-use Rattle.std.specs.Prelude.{Result, Ok, Err}
+use Rattle.std.proofs.Common.{◌≡◌, ℕ, List, Bool, Option, Some, None, refl, sym, ap, ◌∙◌, subst, arith}
+use Rattle.std.specs.Prelude.{Result, Err}
+use Rattle.ilp_http.specs.Writing.{response_text}
+use Rattle.ilp_http.specs.declared.status.Kind.{Kind}
 use Rattle.ilp_io.specs.Counts.{CountsUp}
 use Rattle.ilp_http.specs.declared.status.Status.{Status}
-use Rattle.ilp_http.specs.declared.status.Status.TheVariants as status
 use Rattle.ilp_http.specs.declared.refusal.RequestFault.{RequestFault}
 use Rattle.ilp_http.specs.declared.refusal.RequestFault.TheVariants as request_fault
 use Rattle.ilp_workers.specs.Worker.{PlainWorker}
 use Rattle.ilp_server.specs.declared.unserved.NotServed.{NotServed}
 use Rattle.ilp_server.specs.declared.served.Served.{Served}
-use Rattle.ilp_server.specs.declared.served.Served.TheVariants as served
 use Rattle.ilp_server.specs.declared.handled.ConnectionFault.{ConnectionFault}
 use Rattle.ilp_server.specs.declared.handled.ConnectionFault.TheVariants as connection_fault
 use Rattle.ilp_server.specs.declared.handled.Deed.{Deed}
 use Rattle.ilp_server.specs.declared.handled.Deed.TheVariants.{Nothing}
 use Rattle.ilp_server.specs.declared.handled.Handled.{Handled}
 use Rattle.ilp_server.specs.declared.handled.Handled.TheVariants.{Done, Close, Fault}
-use Rattle.ilp_server.specs.Serving.{Reply, reply_to}
+use Rattle.ilp_server.specs.declared.response.Body.{Body}
+use Rattle.ilp_server.specs.Serving.{Reply, reply, reply_to}
+use Rattle.ilp_server.specs.Response.{PlainResponse, response, octets_in}
 use Rattle.ilp_server.specs.Statuses.{unread}
 use Rattle.ilp_server.specs.Deeds.{deed_of}
-use Rattle.ilp_server.specs.Connection.{told_of, IsSentWith, IsWritten, failed_writes_of}
+use Rattle.ilp_server.specs.Connection.{response_octets, told_of, IsSentWith, IsWritten, failed_writes_of}
+
+-- the octets of a response are those of its fields
+pub octets_of_view : (status : Status) (kind : Kind) (body : Body) (deed : Deed) (closes : Bool) (r : PlainResponse) (octets : List ℕ)
+    → octets ≡ octets_in body → response (reply status kind (octets_in body)) deed closes ≡ r → response_text status kind octets ≡ response_octets r.reply
+unfolding response_octets
+octets_of_view status kind body deed closes r octets same view =
+    ap (response_text status kind) same ∙ ap (λ (x : PlainResponse). response_octets x.reply) view
 
 -- a response to an outcome that asks for nothing more is told as it was sent
 pub written_by : (worker : PlainWorker) (outcome done : Result Served NotServed) (old new : Option (List ℕ)) (handled : Handled) (r : Reply) (deed : Deed)

@@ -3,7 +3,7 @@ use Rattle.std.specs.Prelude.{ℕ, if◌then◌else◌, Option, Some, None, Resu
 use Rattle.ilp_book.specs.declared.calls.Kept.{Kept}
 use Rattle.ilp_workers.specs.declared.crediting.NotCredited.{NotCredited}
 use Rattle.ilp_workers.specs.declared.crediting.NotCredited.TheVariants.{Refused, NotKept}
-use Rattle.ilp_workers.specs.declared.rejects.ToldReject.{ToldReject}
+use Rattle.ilp_replies.specs.declared.rejects.ToldReject.{ToldReject}
 use Rattle.ilp_settlement.specs.declared.quantity.Quantity.{Quantity}
 use Rattle.ilp_book.specs.declared.fault.CreditFault.{CreditFault}
 use Rattle.ilp_book.specs.declared.fault.CreditFault.TheVariants.{KeyTaken}

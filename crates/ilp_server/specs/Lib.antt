@@ -4,5 +4,7 @@ pub mod Statuses
 pub mod Deeds
 pub mod Serving
 pub mod Connection
+pub mod Response
+pub mod Course
 pub mod Work
 pub use Rattle.ilp_order.specs.Found

@@ -18,13 +18,14 @@ use Rattle.ilp_book.specs.Book.{PlainBook}
 use Rattle.ilp_report.specs.Report.{report_text}
 use Rattle.ilp_desk.specs.Desk.{PlainDesk, IsBookOf}
 use Rattle.ilp_workers.specs.declared.crediting.NotCredited.{NotCredited}
-use Rattle.ilp_workers.specs.declared.reply.BadPacket.{BadPacket}
-use Rattle.ilp_workers.specs.declared.reply.Receipt.{Receipt}
-use Rattle.ilp_workers.specs.declared.messaging.MessageFault.{MessageFault}
+use Rattle.ilp_workers.specs.declared.arrivals.BadPacket.{BadPacket}
+use Rattle.ilp_replies.specs.declared.answer.Receipt.{Receipt}
+use Rattle.ilp_replies.specs.declared.messages.MessageFault.{MessageFault}
 use Rattle.ilp_workers.specs.Worker.{PlainWorker}
 use Rattle.ilp_workers.specs.Arrivals.{arrival, Forwards}
 use Rattle.ilp_workers.specs.Crediting.{Credits}
-use Rattle.ilp_workers.specs.Messaging.{peer_answer_of, Messages}
+use Rattle.ilp_replies.specs.Messages.{peer_answer_of}
+use Rattle.ilp_workers.specs.Messaging.{Messages}
 use Rattle.ilp_server.specs.declared.target.Side.{Side}
 use Rattle.ilp_server.specs.declared.target.Target.{Target}
 use Rattle.ilp_server.specs.declared.target.Target.TheVariants as target

@@ -9,7 +9,7 @@ use Rattle.ilp_settlement.specs.declared.quantity.QuantityFault.TheVariants as q
 use Rattle.ilp_book.specs.declared.fault.CreditFault.{CreditFault}
 use Rattle.ilp_book.specs.declared.fault.CreditFault.TheVariants as credit_fault
 use Rattle.ilp_workers.specs.declared.crediting.NotCredited.TheVariants.{Refused, NotKept}
-use Rattle.ilp_workers.specs.declared.messaging.MessageFault.TheVariants as message_fault
+use Rattle.ilp_replies.specs.declared.messages.MessageFault.TheVariants as message_fault
 use Rattle.ilp_server.specs.declared.unserved.NotServed.{NotServed}
 use Rattle.ilp_server.specs.declared.unserved.NotServed.TheVariants.{NoRequest, UnknownTarget, UnknownSender, Packet, NoKey, Quantity, Credit, Message, Memory}
 use Rattle.ilp_server.specs.declared.handled.ConnectionFault.{ConnectionFault}

@@ -35,7 +35,7 @@ pub fn answer_connection<
     U: Uplink + Drop,
     E: EngineLink + Drop,
     K: Keeper<J> + Drop,
-    A: Allocator,
+    A: Allocator + Copy,
     S: Source,
     W: Sink,
 >(
@@ -48,10 +48,11 @@ pub fn answer_connection<
     sink: &mut W,
     buffer: &mut Buffer,
 ) -> Handled
-    ensures { Answers S.pulled source.old source.new J.desk side
+    ensures answers { Answers S.pulled source.old source.new J.desk side
         (wire (S.remaining source.old) (S.tally source.old) (W.contents sink.old) (W.failures sink.old))
         (wire (S.remaining source.new) (S.tally source.new) (W.contents sink.new) (W.failures sink.new))
         worker.old worker.new result }
+    ensures pending { worker.new.pending ≡ worker.old.pending }
 {
     match read_request(alloc, source, buffer) {
         Ok(request) => {

@@ -25,9 +25,21 @@
 //! - `target_of` is what a path asks for at a side (`specs/Targets.antt`), `sender_of` the peer
 //!   whose token the one Authorization field shows, `key_of` the octets of the key in the one
 //!   Idempotency-Key field (`specs/Fields.antt`); each is none just where there is none.
-//! - `work_of` tells octets as remote work of a peer only where they begin with a packet that shows
-//!   its token, or a message to it (`specs/Work.antt`). Of octets that it tells as local nothing is
-//!   said.
+//! - `begin_request` is the first half of that over a `Flight`, and asks nobody outside
+//!   (`specs/Course.antt`). By what the octets are read as: what is no request, has no target or shows
+//!   no token leaves the flight as it was, and has the same refusal. A packet is begun as
+//!   `Flight::begin` does, from the token's peer: it waits under that key, or the engine here is to be
+//!   asked, or it is answered by the worker's octets, or by 503 where memory for their copy is denied.
+//!   A message is made ready for the path's peer. Settlements, reports and closes are served whole, as
+//!   above, and what waited still waits.
+//! - A `Response` (`specs/Response.antt`) is written as `answer_connection` writes. `to_packet` is the
+//!   answer's octets with the deed that the sender is told its Reject; `to_message` is what the peer's
+//!   engine answered, 503 where memory for it is denied, and 502 where it answered nothing.
+//! - `work_of` tells octets as remote only where they begin with a packet or a message
+//!   (`specs/Work.antt`): the packet shows the sender's token, and its Prepare is for the receiver, the
+//!   peer of the destination's route or the engine of the sender; the message is from the engine of the
+//!   receiver. Both numbers are below twice the count of peers, and the octets are those of the body.
+//!   Of octets that it tells as local nothing is said.
 //! - `laws`: in a valid configuration a path asks for at most one thing at a side, and a request is
 //!   from at most one peer.
 //! - `NotServed` is the table of statuses of what is not served (`specs/Statuses.antt`); `unread`
@@ -35,9 +47,11 @@
 #![tactic(auto)]
 
 mod answering;
+mod course;
 mod fields;
 mod handled;
 pub mod laws;
+mod response;
 mod served;
 mod serving;
 mod target;
@@ -45,8 +59,10 @@ mod unserved;
 mod work;
 
 pub use answering::answer_connection;
+pub use course::{Course, begin_request};
 pub use fields::{key_of, sender_of};
 pub use handled::{ConnectionFault, Deed, Handled};
+pub use response::Response;
 pub use target::{Side, Target, target_of};
 pub use unserved::{NotServed, unread};
 pub use work::{Work, work_of};

@@ -1,4 +1,5 @@
 //! Serving a request that was read, by what its target asks for.
+ghost use Rattle.std.specs.Prelude.{◌≡◌};
 ghost use Rattle.ilp_journal.specs.Keys.{IsKey};
 ghost use Rattle.ilp_book.specs.Configured.{IsKnown};
 ghost use Rattle.ilp_server.specs.Serving.{inquiry, Serves, ServesPacket, ServesSettlement, ServesPayment, ServesMessage, ServesReport};
@@ -24,7 +25,7 @@ pub(crate) fn serve<
     U: Uplink + Drop,
     E: EngineLink + Drop,
     K: Keeper<J> + Drop,
-    A: Allocator,
+    A: Allocator + Copy,
 >(
     rt: &impl Wait,
     alloc: Global,
@@ -33,8 +34,9 @@ pub(crate) fn serve<
     side: Side,
     request: &Request<'_>,
 ) -> Result<Served, NotServed>
-    ensures { Serves J.desk (inquiry side request.now.path.now request.now.headers request.now.body.now)
+    ensures served { Serves J.desk (inquiry side request.now.path.now request.now.headers request.now.body.now)
         worker.old worker.new result }
+    ensures pending { worker.new.pending ≡ worker.old.pending }
 {
     match target_of(desk.config(), side, request.path) {
         None => Err(NotServed::UnknownTarget),
@@ -55,15 +57,16 @@ fn serve_packet<
     U: Uplink + Drop,
     E: EngineLink + Drop,
     K: Keeper<J> + Drop,
-    A: Allocator,
+    A: Allocator + Copy,
 >(
     rt: &impl Wait,
     worker: &mut Worker<J, C, U, E, K, A>,
     desk: &Desk<J>,
     request: &Request<'_>,
 ) -> Result<Served, NotServed>
-    ensures { ServesPacket J.desk request.now.headers request.now.body.now
+    ensures served { ServesPacket J.desk request.now.headers request.now.body.now
         worker.old worker.new result }
+    ensures pending { worker.new.pending ≡ worker.old.pending }
 {
     let Some(peer) = sender_of(desk.config(), &request.headers) else {
         return Err(NotServed::UnknownSender);
@@ -78,13 +81,13 @@ fn serve_packet<
 }
 
 // Credits the body as a settlement of the peer, under the key that the request gives.
-fn serve_settlement<
+pub(crate) fn serve_settlement<
     J: Naming,
     C: Clock + Drop,
     U: Uplink + Drop,
     E: EngineLink + Drop,
     K: Keeper<J> + Drop,
-    A: Allocator,
+    A: Allocator + Copy,
 >(
     rt: &impl Wait,
     alloc: Global,
@@ -94,8 +97,10 @@ fn serve_settlement<
     request: &Request<'_>,
 ) -> Result<Served, NotServed>
     requires known { IsKnown J.desk.config peer }
-    ensures { ServesSettlement J.desk peer request.now.headers request.now.body.now
+    ensures served { ServesSettlement J.desk peer request.now.headers request.now.body.now
         worker.old worker.new result }
+    ensures pending { worker.new.pending ≡ worker.old.pending }
+    ensures actor { worker.new.share.actor ≡ worker.old.share.actor }
 {
     let Some(key) = key_of(&request.headers) else {
         return Err(NotServed::NoKey);
@@ -111,7 +116,7 @@ fn serve_payment<
     U: Uplink + Drop,
     E: EngineLink + Drop,
     K: Keeper<J> + Drop,
-    A: Allocator,
+    A: Allocator + Copy,
 >(
     rt: &impl Wait,
     alloc: Global,
@@ -123,7 +128,9 @@ fn serve_payment<
 ) -> Result<Served, NotServed>
     requires known { IsKnown J.desk.config peer }
     requires key { IsKey key.now }
-    ensures { ServesPayment J.desk peer key.now body.now worker.old worker.new result }
+    ensures served { ServesPayment J.desk peer key.now body.now worker.old worker.new result }
+    ensures pending { worker.new.pending ≡ worker.old.pending }
+    ensures actor { worker.new.share.actor ≡ worker.old.share.actor }
 {
     let quantity = match Quantity::read(alloc, body) {
         Ok(quantity) => quantity,
@@ -156,14 +163,15 @@ fn serve_message<
     U: Uplink + Drop,
     E: EngineLink + Drop,
     K: Keeper<J> + Drop,
-    A: Allocator,
+    A: Allocator + Copy,
 >(
     worker: &mut Worker<J, C, U, E, K, A>,
     desk: &Desk<J>,
     peer: u32,
     body: &[u8],
 ) -> Result<Served, NotServed>
-    ensures { ServesMessage J.desk peer body.now worker.old worker.new result }
+    ensures served { ServesMessage J.desk peer body.now worker.old worker.new result }
+    ensures pending { worker.new.pending ≡ worker.old.pending }
 {
     match worker.message(desk, peer, body) {
         Ok(()) => Ok(Served::Message),
@@ -172,7 +180,7 @@ fn serve_message<
 }
 
 // Tells the balances. The copy of the book is made under its lock, and written without it.
-fn serve_report<J: Naming>(
+pub(crate) fn serve_report<J: Naming>(
     rt: &impl Wait,
     alloc: Global,
     desk: &Desk<J>,

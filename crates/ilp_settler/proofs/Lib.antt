@@ -1,3 +1,4 @@
 pub mod Sweeping
 pub mod SettleSessions
 pub mod TurnLemmas
+pub mod Halving

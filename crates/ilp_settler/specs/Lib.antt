@@ -1,2 +1,4 @@
 pub mod Sweeper
 pub mod Settler
+pub mod Asking
+pub mod Halves

@@ -26,7 +26,7 @@ use Rattle.ilp_link_traits.specs.Links.{Tells, ToEngine, asked, asking, settled,
 
 -- its share, the records of what it booked, what its links tell (the moments of its clock, and what engines were handed), and,
 -- by the peers' places, whose engines are known to have the account, and which settlement the engine was asked for last; what it has
--- seen of the journal, and what its keeper tells
+-- seen of the journal, and what its keeper tells; and how many settlements it gave out that are not finished
 pub record PlainSettler : Type 0 where
   pub share : Portion
   pub records : List Record
@@ -36,10 +36,11 @@ pub record PlainSettler : Type 0 where
   pub tried : List (Option ℕ)
   pub seen : Entries
   pub kept : Option (List ToKeeper)
+  pub pending : ℕ
 
-abbrev pub settler : Portion → List Record → Option (List ℤ) → Option (List ToEngine) → List Bool → List (Option ℕ) → Entries → Option (List ToKeeper) → PlainSettler
-settler share records moments engine accounts tried seen kept =
-    record { share = share; records = records; moments = moments; engine = engine; accounts = accounts; tried = tried; seen = seen; kept = kept }
+abbrev pub settler : Portion → List Record → Option (List ℤ) → Option (List ToEngine) → List Bool → List (Option ℕ) → Entries → Option (List ToKeeper) → ℕ → PlainSettler
+settler share records moments engine accounts tried seen kept pending =
+    record { share = share; records = records; moments = moments; engine = engine; accounts = accounts; tried = tried; seen = seen; kept = kept; pending = pending }
 
 -- ---- accounts
 
@@ -183,7 +184,7 @@ pub record IsWithoutRoom (peer : ℕ) (before after : PlainSettler) : Type 0 whe
 
 -- No engine is asked for a settlement, and no keeper.
 pub record IsIdle (before after : PlainSettler) (engine : Option (List ToEngine)) (share : Portion) (moments : Option (List ℤ)) (seen : Entries) : Type 0 where
-  pub same : after ≡ settler share before.records moments engine after.accounts before.tried seen before.kept
+  pub same : after ≡ settler share before.records moments engine after.accounts before.tried seen before.kept before.pending
 
 -- The keeper is handed the journal that was seen, and says that it is kept. Then the peer's engine is asked for the settlement, once,
 -- and a book is told what it said. Of that book nothing is known.
@@ -198,7 +199,7 @@ pub record IsSettling (desk : PlainDesk) (peer : ℕ) (before after : PlainSettl
 pub record IsUnwritten (before after : PlainSettler) (engine : Option (List ToEngine)) (a : Asked) (share : Portion) (moments : Option (List ℤ)) (seen : Entries) (told : Turn) : Type 0 where
   pub why : NotKept
   pub kept : IsHanded seen (Err why) before.kept after.kept after.seen
-  pub same : after ≡ settler share before.records moments engine after.accounts before.tried after.seen after.kept
+  pub same : after ≡ settler share before.records moments engine after.accounts before.tried after.seen after.kept before.pending
   pub turn_is : told ≡ Unwritten a.number a.amount
 
 -- a settlement is carried out: the engine is asked for it just where the journal that has it is kept

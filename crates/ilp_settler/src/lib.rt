@@ -24,19 +24,35 @@
 //!   the engine said.
 //! - The error is want of memory: nothing is booked, no engine asked for a settlement, but that it
 //!   has the account is kept.
-//! - `Settler::new` and `into_end` are as the worker's; `Sweeper::new` can't fail.
+//! - A turn is also had in two halves (`specs/Halves.antt`), between which others begin and finish.
+//!   `begin` does all of a turn up to where the engine is to be asked for a settlement, and gives that
+//!   out as an `Asking`: its peer, number, amount and scale, and its key. What it gave out is pending
+//!   until `finish` tells a book what the engine said. Room for the record of each that is pending is
+//!   kept, so `finish` takes no memory and has no error.
+//! - Where no engine said yet that it has the account, `begin` does nothing. `note_account` is told
+//!   that it has.
+//! - Both halves, and the engine asked for just that settlement between them, make a turn
+//!   (`halves_make_a_turn`). A turn leaves as many pending as there were.
+//! - `Settler::new` and `into_end` are as the worker's; `Sweeper::new` can't fail. A settler ends only
+//!   where nothing is pending.
 //!
-//! Each clause on an actor holds for whatever other threads do between two sessions. That a credit
-//! answered as kept was ever booked, and that the settlement which an engine is handed is open in
-//! the desk's own book, follows from no clause but from the session's code.
+//! Each clause on an actor holds for whatever other threads do between two sessions. That what is
+//! finished is what this settler gave out, and that the engine said so of it, is up to whoever holds
+//! the `Asking`. That a credit answered as kept was ever booked, and that the settlement which an
+//! engine is handed is open in the desk's own book, follows from no clause but from the session's code.
 #![tactic(auto)]
 
+mod asking;
+mod halves;
 mod keys;
+mod laws;
 mod settler;
 mod settling;
 mod sweeper;
 mod turn;
 
+pub use asking::{Asking, BegunTurn};
+pub use laws::halves_make_a_turn;
 pub use settler::{NoSettler, Settler};
 pub use sweeper::Sweeper;
 pub use turn::Turn;

@@ -10,7 +10,7 @@ use crate::report::{print_report, room_for_report};
 use ilp_accounts::Config;
 use ilp_book::Book;
 use ilp_line_file::{Device, MemoryDevice};
-use ilp_links::{Hurry, SystemClock, TcpLinks};
+use ilp_links::{SystemClock, TcpLinks};
 use ilp_notices::{Notices, no_journal};
 use ilp_running::{BegunLog, ClosedRun, ServeFault, run_to_close};
 use std::fs::File;
@@ -64,9 +64,8 @@ where
         requires begun { D.claims → IfSome log (IsBegun D.seen D.may_leave) }
         ensures { ClosesDesk (desk_of self.now.config.now book) result }
     {
-        let hurry = Hurry::new();
         let clock = SystemClock::new(*self.rt);
-        let links = TcpLinks::new(*self.rt, self.config, clock, self.notices, &hurry);
+        let links = TcpLinks::new(clock, self.notices);
         let ClosedRun { book, log: _ } = run_to_close(self.rt, self.config, book, &links, log)?;
         Ok(book)
     }

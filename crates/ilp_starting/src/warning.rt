@@ -8,7 +8,7 @@ use ilp_links::SystemClock;
 use ilp_notices::{
     JournalWarning, RecoveryNote, configuration_warning, journal_warning, recovery_note,
 };
-use ilp_warnings::{Warning, warnings};
+use ilp_warnings::warnings;
 use std::alloc::AllocError;
 use std::io::Eprint;
 use std::os::unix::fs::PermissionsExt;
@@ -23,8 +23,7 @@ const OTHERS_READ: u32 = 0o004;
 pub enum Telling {
     /// Each thing by a line, to whoever checks a configuration.
     Line,
-    /// Each by a line with time and level, to whoever runs a connector. That there is one worker alone is
-    /// told by the connector itself.
+    /// Each by a line with time and level, to whoever runs a connector.
     Notice,
 }
 
@@ -65,14 +64,6 @@ impl Telling {
             Telling::Notice => recovery_note(rt, path, note),
         }
     }
-
-    // Whether a warning is told so.
-    fn has(self, warning: &Warning) -> bool {
-        match self {
-            Telling::Line => true,
-            Telling::Notice => !matches!(warning, Warning::OneWorker),
-        }
-    }
 }
 
 /// Tells what is to be looked at in a configuration and its file. Of the built-in one, whose tokens are
@@ -111,10 +102,8 @@ fn tell_all<R: Runtime + AllocGlobal>(
 ) -> Result<(), AllocError> {
     let found = warnings(rt.alloc(), octets, config)?;
     for warning in &found {
-        if telling.has(warning) {
-            let line = warning.line(rt.alloc(), config)?;
-            telling.tell(rt, line.as_str());
-        }
+        let line = warning.line(rt.alloc(), config)?;
+        telling.tell(rt, line.as_str());
     }
     Ok(())
 }

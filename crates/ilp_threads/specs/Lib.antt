@@ -1,2 +1,1 @@
 pub mod OpenFiles
-pub mod Pauses

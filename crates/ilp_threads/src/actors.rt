@@ -1,29 +1,17 @@
 //! The actors of a desk, ready to be started.
 ghost use Rattle.std.specs.Prelude.{◌≤◌, vec_len};
 
-use crate::pauses::Pauses;
-use crate::turns::PausedSettler;
 use ilp_desk::{Desk, JournalReceipt, Naming, Share};
-use ilp_http::Buffer;
 use ilp_keeping::SharedKeeper;
 use ilp_links::Links;
+use ilp_loops::{Seat, ServingLoop};
 use ilp_settler::{Settler, Sweeper};
-use ilp_workers::{Clock, EngineLink, Keeper, Uplink, Worker};
+use ilp_settling::{SettlerBell, SettlingLoop};
+use ilp_shared::{Bells, KeepingAsker, KeepingAsks, Nobody, keeping_pair};
+use ilp_workers::{Clock, JournalKeeper, Keeper, Worker};
 use std::alloc::AllocError;
+use std::net::Net;
 use std::sync::Wait;
-
-/// A worker, and the buffer into which it reads requests.
-#[derive(Drop)]
-pub(crate) struct Responder<
-    J: Naming,
-    C: Clock + Drop,
-    U: Uplink + Drop,
-    E: EngineLink + Drop,
-    K: Keeper<J> + Drop,
-> {
-    pub(crate) worker: Worker<J, C, U, E, K>,
-    pub(crate) buffer: Buffer,
-}
 
 /// What the watcher is given: a clock, a keeper, and what was seen of the journal.
 #[derive(Drop)]
@@ -36,51 +24,54 @@ pub(crate) struct WatcherLinks<J: Naming, C: Clock + Drop, K: Keeper<J> + Drop> 
 /// The sweeper and the settler, who take turns and rest between them, and what the watcher is given, who
 /// does so too.
 #[derive(Drop)]
-pub(crate) struct Turning<J: Naming, C: Clock + Drop, E: EngineLink + Drop, K: Keeper<J> + Drop> {
+pub(crate) struct Turning<J: Naming, C: Clock + Drop, K: Keeper<J> + Drop> {
     pub(crate) sweeper: Sweeper<J, C>,
-    pub(crate) settler: PausedSettler<J, C, E, K>,
+    pub(crate) settling: SettlingLoop<J, C, K>,
     pub(crate) watching: WatcherLinks<J, C, K>,
 }
 
-/// The actors of a desk, with all the memory that they are given.
+/// The actors of a desk, with all the memory that they are given, and what wakes their loops.
 #[derive(Drop)]
-pub(crate) struct Actors<
-    J: Naming,
-    C: Clock + Drop,
-    U: Uplink + Drop,
-    E: EngineLink + Drop,
-    K: Keeper<J> + Drop,
-> {
-    pub(crate) responders: Vec<Responder<J, C, U, E, K>>,
-    pub(crate) turning: Turning<J, C, E, K>,
+pub(crate) struct Actors<J: Naming, C: Clock + Drop, K: Keeper<J> + Drop> {
+    pub(crate) loops: Vec<ServingLoop<J, C, K>>,
+    pub(crate) bells: Bells,
+    /// What keeps the journal for the loops, where they don't have that done themselves.
+    pub(crate) keeping: Option<Keeping<J, K>>,
+    pub(crate) turning: Turning<J, C, K>,
+    pub(crate) settler_bell: SettlerBell,
+}
+
+/// What keeps the journal for the loops, and by what it hears that they ask.
+#[derive(Drop)]
+pub(crate) struct Keeping<J: Naming, K: Keeper<J> + Drop> {
+    pub(crate) keeper: JournalKeeper<J, K>,
+    pub(crate) asks: KeepingAsks,
+}
+
+/// How the journal is kept before senders are told.
+#[derive(Clone, Copy, Debug, PartialEq, Eq)]
+pub enum KeepingWay {
+    /// By each loop, which waits for it.
+    InLoops,
+    /// By a thread of its own, while the loops go on.
+    Beside,
 }
 
 // The actors whose links are made by `L`, and whose keepers are `K`.
-type ActorsOf<J, L, K> = Actors<
-    J,
-    <L as Links>::Clock,
-    <L as Links>::Uplink,
-    <L as Links>::Engine,
-    K,
->;
+type ActorsOf<J, L, K> = Actors<J, <L as Links>::Clock, K>;
 
-// A worker whose links are made by `L`, with its buffer.
-type ResponderOf<J, L, K> = Responder<
-    J,
-    <L as Links>::Clock,
-    <L as Links>::Uplink,
-    <L as Links>::Engine,
-    K,
->;
+// A worker's loop whose clock is made by `L`.
+type LoopOf<J, L, K> = ServingLoop<J, <L as Links>::Clock, K>;
 
 /// The actors whose shares these are, the settler's last and the sweeper's before it. Each has a keeper of
-/// its own of the same journal. It is refused where memory is denied.
-pub(crate) fn actors_of<J: Naming, L: Links, K: SharedKeeper<J> + Drop>(
-    rt: &impl Wait,
+/// its own of the same journal. It is refused where memory is denied, or what a loop waits with.
+pub(crate) fn actors_of<J: Naming, N: Wait + Net, L: Links, K: SharedKeeper<J> + Drop>(
+    rt: &N,
     desk: &Desk<J>,
     shares: Vec<Share<J>>,
     links: &L,
     keeper: K,
+    way: KeepingWay,
 ) -> Result<ActorsOf<J, L, K>, AllocError>
     requires { 2 ≤ vec_len shares }
 {
@@ -89,12 +80,17 @@ pub(crate) fn actors_of<J: Naming, L: Links, K: SharedKeeper<J> + Drop>(
     let (Some(settlers), Some(sweepers)) = (shares.pop(), shares.pop()) else {
         unreachable!();
     };
-    let settler = PausedSettler {
-        settler: new_settler(rt, desk, settlers, links, keeper.another())?,
-        pauses: Pauses::new(alloc, desk.config().peers())?,
-    };
+    let (settling, settler_bell) = new_settling(rt, desk, settlers, links, keeper.another())?;
     let sweeper = Sweeper::new(alloc, sweepers, links.clock());
-    let responders = new_responders(rt, desk, shares, links, &keeper)?;
+    let (asker, asks) = keeping_pair(alloc)?;
+    let (asker, keeping) = match way {
+        KeepingWay::InLoops => (None, None),
+        KeepingWay::Beside => {
+            let keeper = JournalKeeper::new(desk.receipt(rt), keeper.another());
+            (Some(asker), Some(Keeping { keeper, asks }))
+        }
+    };
+    let (loops, bells) = new_loops(rt, desk, shares, links, &keeper, asker)?;
     let watching = WatcherLinks {
         clock: links.clock(),
         keeper,
@@ -102,65 +98,78 @@ pub(crate) fn actors_of<J: Naming, L: Links, K: SharedKeeper<J> + Drop>(
     };
     let turning = Turning {
         sweeper,
-        settler,
+        settling,
         watching,
     };
     Ok(Actors {
-        responders,
+        loops,
+        bells,
+        keeping,
         turning,
+        settler_bell,
     })
 }
 
-fn new_responders<J: Naming, L: Links, K: SharedKeeper<J> + Drop>(
-    rt: &impl Wait,
+fn new_loops<J: Naming, N: Wait + Net, L: Links, K: SharedKeeper<J> + Drop>(
+    rt: &N,
     desk: &Desk<J>,
     shares: Vec<Share<J>>,
     links: &L,
     keeper: &K,
-) -> Result<Vec<ResponderOf<J, L, K>>, AllocError> {
-    let mut responders = Vec::new(desk.config().allocator());
-    for share in shares {
-        responders.push(new_responder(rt, desk, share, links, keeper.another())?)?;
+    asker: Option<KeepingAsker>,
+) -> Result<(Vec<LoopOf<J, L, K>>, Bells), AllocError> {
+    let alloc = desk.config().allocator();
+    let mut loops = Vec::new(alloc);
+    let mut bells = Bells::new(alloc);
+    for (number, share) in shares.into_iter().enumerate() {
+        let Ok((seat, waker)) = Seat::new(rt, alloc, number) else {
+            return Err(AllocError);
+        };
+        bells.add(waker)?;
+        let asker = match &asker {
+            Some(asker) => Some(asker.try_clone()?),
+            None => None,
+        };
+        loops.push(new_loop(rt, desk, seat, share, links, keeper.another(), asker)?)?;
     }
-    Ok(responders)
+    Ok((loops, bells))
 }
 
-fn new_responder<J: Naming, L: Links, K: Keeper<J> + Drop>(
+fn new_loop<J: Naming, L: Links, K: Keeper<J> + Drop>(
     rt: &impl Wait,
     desk: &Desk<J>,
+    seat: Seat,
     share: Share<J>,
     links: &L,
     keeper: K,
-) -> Result<ResponderOf<J, L, K>, AllocError> {
+    asker: Option<KeepingAsker>,
+) -> Result<LoopOf<J, L, K>, AllocError> {
     let alloc = desk.config().allocator();
-    let buffer = Buffer::new(alloc)?;
-    let uplink = links.uplink()?;
-    let engine = links.engine()?;
     let receipt = desk.receipt(rt);
-    match Worker::new(alloc, share, receipt, links.clock(), uplink, engine, keeper) {
-        Ok(worker) => Ok(Responder { worker, buffer }),
+    match Worker::new(alloc, share, receipt, links.clock(), Nobody, Nobody, keeper) {
+        Ok(worker) => match ServingLoop::new(alloc, seat, worker, links.clock(), asker) {
+            Ok(own) => Ok(own),
+            Err(_) => Err(AllocError),
+        },
         Err(_) => Err(AllocError),
     }
 }
 
-fn new_settler<J: Naming, L: Links, K: Keeper<J> + Drop>(
-    rt: &impl Wait,
+fn new_settling<J: Naming, N: Wait + Net, L: Links, K: Keeper<J> + Drop>(
+    rt: &N,
     desk: &Desk<J>,
     share: Share<J>,
     links: &L,
     keeper: K,
-) -> Result<Settler<J, L::Clock, L::Engine, K>, AllocError> {
-    let engine = links.engine()?;
+) -> Result<(SettlingLoop<J, L::Clock, K>, SettlerBell), AllocError> {
+    let config = desk.config();
+    let alloc = config.allocator();
     let receipt = desk.receipt(rt);
-    match Settler::new(
-        desk.config().allocator(),
-        share,
-        receipt,
-        links.clock(),
-        engine,
-        keeper,
-    ) {
-        Ok(settler) => Ok(settler),
+    match Settler::new(alloc, share, receipt, links.clock(), Nobody, keeper) {
+        Ok(settler) => match SettlingLoop::new(rt, alloc, settler, config.peers()) {
+            Ok(settling) => Ok(settling),
+            Err(_) => Err(AllocError),
+        },
         Err(_) => Err(AllocError),
     }
 }

@@ -5,25 +5,21 @@
 //!
 //! # What is proved
 //!
-//! - Of private functions: how long a peer's turns rest (twice as long as the last time, up to five
-//!   minutes) and `waiting_by` (how many connections may wait, by the limit of open files).
-//! - All else is proved safe: no thread waits for a lock that it has, and what goes into a thread may.
+//! - Of private functions, by the limit of open files: how many connections may wait (`waiting_by`), how
+//!   many packets may be in flight (`in_flight_by`), and how many files are wanted (`wanted`).
+//! - All else is proved safe, and that what goes into a thread may.
 #![tactic(auto)]
 
 mod accepting;
 mod actors;
-mod deeds;
+mod busy;
 mod fault;
-mod intakes;
 mod open_files;
-mod pauses;
-mod places;
-mod responding;
-mod shutdown;
 mod sides;
+mod sweeping;
 mod threads;
-mod turns;
 mod watching;
 
+pub use actors::KeepingWay;
 pub use fault::Unprinted;
 pub use sides::run_desk;

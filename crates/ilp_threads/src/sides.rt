@@ -1,22 +1,21 @@
 //! The two sides of a connector, and the run of a desk between them.
 ghost use Rattle.std.specs.Prelude.{◌≤◌, vec_len};
 
-use crate::accepting::Acceptor;
-use crate::actors::actors_of;
+use crate::accepting::{Acceptor, last_sender};
+use crate::actors::{Actors, KeepingWay, actors_of};
+use crate::busy::Busy;
 use crate::fault::Unprinted;
-use crate::intakes::{Intakes, ending_after};
-use crate::open_files::{open_files, waiting_by, wanted};
-use crate::places::Places;
-use crate::threads::{Acceptors, Shared, run};
-use crate::watching::Seen;
+use crate::open_files::{in_flight_by, open_files, waiting_by, wanted};
+use crate::threads::{Acceptors, Running, run};
 use ilp_accounts::Config;
 use ilp_desk::{Desk, End, Naming, Share};
 use ilp_http::Buffer;
 use ilp_intake::{Intake, IntakeHandle, MOST_WAITING, listen};
 use ilp_keeping::SharedKeeper;
 use ilp_links::Links;
-use ilp_notices::{few_files, listening, no_thread, not_listening, one_worker};
+use ilp_notices::{few_files, listening, no_thread, not_listening};
 use ilp_server::Side;
+use ilp_shared::{Intakes, KeptJournal, Places, Seen, Shared, ending_after};
 use std::io::{Eprint, ErrorKind};
 use std::net::{Net, TcpListener, TcpStream};
 use std::rt::Files;
@@ -40,7 +39,7 @@ impl Sides {
         R: Net<Listener = TcpListener, Stream = TcpStream> + Clock + Eprint + Files,
     {
         let open_files = open_files(rt, config.allocator());
-        let most = most_waiting(open_files, config.workers());
+        let most = most_waiting(open_files, config);
         let (peers, peer_handle) = open_side(rt, config, Side::Ilp, config.listen(), most)?;
         let (engines, engine_handle) = open_side(
             rt,
@@ -60,9 +59,9 @@ impl Sides {
 
 // How many connections may wait at each side. Where the system does not say how many files may be open,
 // as many wait as ever do.
-fn most_waiting(open_files: Option<u64>, workers: u32) -> usize {
+fn most_waiting(open_files: Option<u64>, config: &Config) -> usize {
     match open_files {
-        Some(limit) => waiting_by(limit, workers),
+        Some(limit) => waiting_by(limit, config.workers(), config.peers()),
         None => MOST_WAITING,
     }
 }
@@ -79,9 +78,10 @@ where
 {
     let alloc = config.allocator();
     let buffer = Buffer::new(alloc)?;
+    let busy = Busy::new(alloc, config)?;
     let after = ending_after(config.max_hold_ms());
     let opened = match listen(rt, place) {
-        Ok(listener) => Intake::new(rt, alloc, listener, most, after),
+        Ok(listener) => Intake::new(rt, alloc, listener, most, last_sender(config), after),
         Err(error) => Err(error),
     };
     match opened {
@@ -90,6 +90,7 @@ where
                 side,
                 intake,
                 buffer,
+                busy,
             },
             handle,
         )),
@@ -103,7 +104,8 @@ where
 
 /// Listens at both sides, at the places of the configuration, and runs the actors whose shares of the desk
 /// these are, the settler's last and the sweeper's before it, until the connector is closed and what was
-/// accepted is answered. Then it gives what they hand in. Each has a keeper of its own of the same journal.
+/// accepted is answered. Then it gives what they hand in. Each has a keeper of its own of the same journal,
+/// which is kept in that way before senders are told.
 ///
 /// Refusals: `Listen` where a side can't be listened at, and `Spawn` where a thread can't be started, and a
 /// line says so; `Memory`. All that ran has ended then.
@@ -113,6 +115,7 @@ pub fn run_desk<J, R, L, K>(
     shares: Vec<Share<J>>,
     links: &L,
     keeper: K,
+    way: KeepingWay,
 ) -> Result<Vec<End<J>>, Unprinted>
 where
     J: Naming + Send + Sync,
@@ -128,7 +131,7 @@ where
     requires { 2 ≤ vec_len shares }
 {
     let sides = Sides::open(rt, desk.config())?;
-    run_between(rt, desk, shares, links, sides, keeper)
+    run_between(rt, desk, shares, links, sides, keeper, way)
 }
 
 // The same between these sides.
@@ -139,44 +142,73 @@ fn run_between<J, R, L, K>(
     links: &L,
     sides: Sides,
     keeper: K,
+    way: KeepingWay,
 ) -> Result<Vec<End<J>>, Unprinted>
 where
     J: Naming + Send + Sync,
-    R: Threads + Wait + Clock + Eprint + Sync,
+    R: Net<Listener = TcpListener, Stream = TcpStream> + Threads + Wait + Clock + Eprint + Sync,
     L: Links,
     K: SharedKeeper<J> + Drop + Send,
     requires { 2 ≤ vec_len shares }
 {
     let config = desk.config();
-    let actors = actors_of(rt, desk, shares, links, keeper)?;
-    let places = Places::new(config.allocator(), config.workers(), config.peers())?;
-    let seen = Seen::new();
     let Sides {
         acceptors,
         intakes,
         open_files,
     } = sides;
-    tell_start(rt, config, open_files);
+    let in_flight = most_in_flight(open_files, config);
+    let Actors {
+        loops,
+        bells,
+        keeping,
+        turning,
+        settler_bell,
+    } = actors_of(rt, desk, shares, links, keeper, way)?;
+    let kept = KeptJournal::new();
+    let places = Places::new(config.allocator(), in_flight, config.peers())?;
+    let seen = Seen::new();
+    tell_start(rt, config, in_flight, places.room(), open_files);
     let shared = Shared {
         rt,
         desk,
         places: &places,
         intakes: &intakes,
+        bells: &bells,
+        kept: &kept,
         notices: links.notices(),
         seen: &seen,
     };
-    let ends = run(shared, actors, acceptors, links.hurry());
+    let running = Running {
+        loops,
+        keeping,
+        turning,
+    };
+    let ends = run(shared, running, acceptors, &settler_bell);
     if let Err(Unprinted::Spawn) = &ends {
         no_thread(rt);
     }
     ends
 }
 
-// Tells that the connector listens, and what it can't do with one worker or so many open files.
-fn tell_start<R: Clock + Eprint>(rt: &R, config: &Config, open_files: Option<u64>) {
-    listening(rt, config);
-    one_worker(rt, config);
-    let wanted = wanted(config.workers());
+// How many packets and messages may be in flight.
+fn most_in_flight(open_files: Option<u64>, config: &Config) -> u32 {
+    match open_files {
+        Some(limit) => in_flight_by(limit, config.workers(), config.peers(), config.in_flight()),
+        None => config.in_flight(),
+    }
+}
+
+// Tells that the connector listens, and where it may have fewer open files than it wants.
+fn tell_start<R: Clock + Eprint>(
+    rt: &R,
+    config: &Config,
+    in_flight: u32,
+    octets: u64,
+    open_files: Option<u64>,
+) {
+    listening(rt, config, in_flight, octets);
+    let wanted = wanted(config.workers(), config.peers(), config.in_flight());
     if let Some(limit) = open_files {
         if limit < wanted {
             few_files(rt, limit, wanted);

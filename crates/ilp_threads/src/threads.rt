@@ -1,23 +1,24 @@
 //! The threads of a running connector.
 ghost use denote.Param.Send.{IsSend, IsSync};
 
-use crate::accepting::{Acceptor, Job, accept_all};
-use crate::actors::{Actors, Responder, Turning, WatcherLinks};
+use crate::accepting::{Acceptor, accept_all};
+use crate::actors::{Keeping, Turning, WatcherLinks};
 use crate::fault::Unprinted;
-use crate::intakes::Intakes;
-use crate::places::Places;
-use crate::responding::serve_connections;
-use crate::shutdown::{KeepRunning, Shutdown, shutdown_pair};
-use crate::turns::{PausedSettler, settle, sweep};
-use crate::watching::{Seen, Watcher, watch};
+use crate::sweeping::sweep;
+use crate::watching::{Watcher, watch};
 use crossbeam_channel::{Receiver, Sender, bounded};
 use ilp_desk::{Desk, End, Naming};
 use ilp_keeping::SharedKeeper;
-use ilp_links::Hurry;
-use ilp_notices::{Notices, closing};
+use ilp_loops::ServingLoop;
+use ilp_notices::closing;
 use ilp_settler::Sweeper;
-use ilp_workers::{Clock, EngineLink, Keeper, Uplink};
+use ilp_settling::{SettlerBell, SettlingLoop};
+use ilp_shared::{
+    Job, KeepRunning, LOCAL_AT_ONCE, Shared, Shutdown, keep_for_loops, shutdown_pair,
+};
+use ilp_workers::{Clock, Keeper};
 use std::io::Eprint;
+use std::net::{Net, TcpListener, TcpStream};
 use std::sync::Wait;
 use std::thread::{JoinHandle, Scope, Threads};
 use std::{thread, time};
@@ -29,57 +30,30 @@ pub(crate) struct Acceptors {
     pub(crate) engines: Acceptor,
 }
 
-/// What the threads of a connector work on.
-#[derive(Drop)]
-pub(crate) struct Shared<'a, J: Naming, R> {
-    pub(crate) rt: &'a R,
-    pub(crate) desk: &'a Desk<J>,
-    pub(crate) places: &'a Places,
-    pub(crate) intakes: &'a Intakes,
-    pub(crate) notices: &'a Notices,
-    pub(crate) seen: &'a Seen,
-}
-
-impl<'a, J: Naming, R> Shared<'a, J, R> {
-    // The same, for another thread.
-    fn another(&self) -> Shared<'a, J, R> {
-        Shared {
-            rt: self.rt,
-            desk: self.desk,
-            places: self.places,
-            intakes: self.intakes,
-            notices: self.notices,
-            seen: self.seen,
-        }
-    }
-}
-
 // The threads of the sweeper, the settler and the watcher.
 #[derive(Drop)]
 struct TurnThreads<J: Naming> {
     sweeping: JoinHandle<End<J>>,
-    settling: JoinHandle<End<J>>,
+    settling: JoinHandle<Option<End<J>>>,
     watching: JoinHandle<()>,
 }
 
-// Starts a thread for each worker.
-fn start_workers<'s, S, J, C, U, E, K, R>(
+// Starts a thread for each worker's loop.
+fn start_loops<'s, S, J, C, K, R>(
     scope: &'s Scope<'s, S>,
     shared: &Shared<'s, J, R>,
-    responders: Vec<Responder<J, C, U, E, K>>,
+    loops: Vec<ServingLoop<J, C, K>>,
     jobs: &Receiver<Job>,
-) -> Result<Vec<JoinHandle<End<J>>>, Unprinted>
+) -> Result<Vec<JoinHandle<Option<End<J>>>>, Unprinted>
 where
     J: Naming + Send + Sync + 's,
     C: Clock + Drop + Send + 's,
-    U: Uplink + Drop + Send + 's,
-    E: EngineLink + Drop + Send + 's,
     K: Keeper<J> + Drop + Send + 's,
-    R: Wait + time::Clock + Eprint + Sync + 's,
+    R: Net<Listener = TcpListener, Stream = TcpStream> + Wait + time::Clock + Eprint + Sync + 's,
 {
     let mut threads = Vec::new(shared.desk.config().allocator());
-    for responder in responders {
-        let thread = start_worker(scope, shared, responder, jobs)?;
+    for own in loops {
+        let thread = start_loop(scope, shared, own, jobs)?;
         if threads.push(thread).is_err() {
             return Err(Unprinted::Memory);
         }
@@ -87,27 +61,41 @@ where
     Ok(threads)
 }
 
-// Starts the thread of a worker.
-fn start_worker<'s, S, J, C, U, E, K, R>(
+// Starts the thread of a worker's loop.
+fn start_loop<'s, S, J, C, K, R>(
     scope: &'s Scope<'s, S>,
     shared: &Shared<'s, J, R>,
-    responder: Responder<J, C, U, E, K>,
+    own: ServingLoop<J, C, K>,
     jobs: &Receiver<Job>,
-) -> Result<JoinHandle<End<J>>, Unprinted>
+) -> Result<JoinHandle<Option<End<J>>>, Unprinted>
 where
     J: Naming + Send + Sync + 's,
     C: Clock + Drop + Send + 's,
-    U: Uplink + Drop + Send + 's,
-    E: EngineLink + Drop + Send + 's,
     K: Keeper<J> + Drop + Send + 's,
-    R: Wait + time::Clock + Eprint + Sync + 's,
+    R: Net<Listener = TcpListener, Stream = TcpStream> + Wait + time::Clock + Eprint + Sync + 's,
 {
     let jobs = jobs.clone()?;
     let shared = shared.another();
-    match scope.spawn(move || serve_connections(shared, responder, jobs)) {
+    match scope.spawn(move || own.run(shared, jobs)) {
         Ok(thread) => Ok(thread),
         Err(_) => Err(Unprinted::Spawn),
     }
+}
+
+// Starts the thread that keeps the journal for the loops.
+fn start_keeping<'s, S, J, K, R>(
+    scope: &'s Scope<'s, S>,
+    shared: &Shared<'s, J, R>,
+    keeping: Keeping<J, K>,
+) -> Result<JoinHandle<()>, Unprinted>
+where
+    J: Naming + Send + Sync + 's,
+    K: Keeper<J> + Drop + Send + 's,
+    R: Wait + Sync + 's,
+{
+    let shared = shared.another();
+    let Keeping { keeper, asks } = keeping;
+    Ok(scope.spawn(move || keep_for_loops(shared, keeper, asks))?)
 }
 
 // Starts the thread of the sweeper.
@@ -127,21 +115,23 @@ where
 }
 
 // Starts the thread of the settler.
-fn start_settler<'s, S, J, C, E, K, R>(
+fn start_settler<'s, S, J, C, K, R>(
     scope: &'s Scope<'s, S>,
     shared: &Shared<'s, J, R>,
-    settler: PausedSettler<J, C, E, K>,
+    settling: SettlingLoop<J, C, K>,
     shutdown: Shutdown,
-) -> Result<JoinHandle<End<J>>, Unprinted>
+) -> Result<JoinHandle<Option<End<J>>>, Unprinted>
 where
     J: Naming + Send + Sync + 's,
     C: Clock + Drop + Send + 's,
-    E: EngineLink + Drop + Send + 's,
     K: Keeper<J> + Drop + Send + 's,
-    R: Wait + time::Clock + Eprint + Sync + 's,
+    R: Net<Listener = TcpListener, Stream = TcpStream> + Wait + time::Clock + Eprint + Sync + 's,
 {
     let shared = shared.another();
-    Ok(scope.spawn(move || settle(shared, settler, shutdown))?)
+    match scope.spawn(move || settling.run(shared, shutdown)) {
+        Ok(thread) => Ok(thread),
+        Err(_) => Err(Unprinted::Spawn),
+    }
 }
 
 // Starts the thread of the watcher, who is given these.
@@ -169,26 +159,25 @@ where
 }
 
 // Starts the threads of the sweeper, the settler and the watcher.
-fn start_turns<'s, S, J, C, E, K, R>(
+fn start_turns<'s, S, J, C, K, R>(
     scope: &'s Scope<'s, S>,
     shared: &Shared<'s, J, R>,
-    turning: Turning<J, C, E, K>,
+    turning: Turning<J, C, K>,
     shutdown: &Shutdown,
 ) -> Result<TurnThreads<J>, Unprinted>
 where
     J: Naming + Send + Sync + 's,
     C: Clock + Drop + Send + 's,
-    E: EngineLink + Drop + Send + 's,
     K: SharedKeeper<J> + Drop + Send + 's,
-    R: Wait + time::Clock + Eprint + Sync + 's,
+    R: Net<Listener = TcpListener, Stream = TcpStream> + Wait + time::Clock + Eprint + Sync + 's,
 {
     let Turning {
         sweeper,
-        settler,
+        settling,
         watching,
     } = turning;
     let sweeping = start_sweeper(scope, shared, sweeper, shutdown.try_clone()?)?;
-    let settling = start_settler(scope, shared, settler, shutdown.try_clone()?)?;
+    let settling = start_settler(scope, shared, settling, shutdown.try_clone()?)?;
     let watching = start_watcher(scope, shared, watching, shutdown.try_clone()?)?;
     Ok(TurnThreads {
         sweeping,
@@ -208,14 +197,16 @@ where
     J: Naming + Send + Sync + 's,
     R: Threads + Wait + time::Clock + Sync + 's,
 {
-    let (rt, desk, places) = (shared.rt, shared.desk, shared.places);
+    let rt = shared.rt;
     let Acceptors { peers, engines } = acceptors;
     let engine_jobs = jobs.clone()?;
-    let peer_thread = scope.spawn(move || accept_all(rt, desk, places, peers, jobs))?;
-    match scope.spawn(move || accept_all(rt, desk, places, engines, engine_jobs)) {
+    let (of_peers, of_engines) = (shared.another(), shared.another());
+    let peer_thread = scope.spawn(move || accept_all(of_peers, peers, jobs))?;
+    match scope.spawn(move || accept_all(of_engines, engines, engine_jobs)) {
         Ok(thread) => thread.join(rt),
         Err(_) => {
             shared.intakes.accept_no_more();
+            peer_thread.join(rt);
             return Err(Unprinted::Spawn);
         }
     }
@@ -226,12 +217,15 @@ where
 // What the workers hand in.
 fn ends_of<J: Naming, R: Threads>(
     rt: &R,
-    threads: Vec<JoinHandle<End<J>>>,
+    threads: Vec<JoinHandle<Option<End<J>>>>,
     room: Vec<End<J>>,
 ) -> Result<Vec<End<J>>, Unprinted> {
     let mut ends = room;
     for thread in threads {
-        if ends.push(thread.join(rt)).is_err() {
+        let Some(end) = thread.join(rt) else {
+            continue;
+        };
+        if ends.push(end).is_err() {
             return Err(Unprinted::Memory);
         }
     }
@@ -252,8 +246,13 @@ fn with_turns<J: Naming, R: Threads>(
     } = turns;
     let (swept, settled) = (sweeping.join(rt), settling.join(rt));
     watching.join(rt);
-    if ends.push(swept).is_err() || ends.push(settled).is_err() {
+    if ends.push(swept).is_err() {
         return Err(Unprinted::Memory);
+    }
+    if let Some(settled) = settled {
+        if ends.push(settled).is_err() {
+            return Err(Unprinted::Memory);
+        }
     }
     Ok(ends)
 }
@@ -261,39 +260,53 @@ fn with_turns<J: Naming, R: Threads>(
 // The threads of the actors, and what keeps the sweeper and the settler running.
 #[derive(Drop)]
 struct ActorThreads<J: Naming> {
-    workers: Vec<JoinHandle<End<J>>>,
+    workers: Vec<JoinHandle<Option<End<J>>>>,
+    // What keeps the journal for them, which ends with the last of them.
+    keeping: Option<JoinHandle<()>>,
     turns: TurnThreads<J>,
     keep_running: KeepRunning,
     // Room for what they hand in.
     room: Vec<End<J>>,
 }
 
-// Starts the threads of all actors. The workers serve the jobs that are sent.
-fn start_actors<'s, S, J, C, U, E, K, R>(
+/// The actors that run, each in a thread.
+#[derive(Drop)]
+pub(crate) struct Running<J: Naming, C: Clock + Drop, K: Keeper<J> + Drop> {
+    pub(crate) loops: Vec<ServingLoop<J, C, K>>,
+    pub(crate) keeping: Option<Keeping<J, K>>,
+    pub(crate) turning: Turning<J, C, K>,
+}
+
+// Starts the threads of all actors. The loops serve the jobs that are sent.
+fn start_actors<'s, S, J, C, K, R>(
     scope: &'s Scope<'s, S>,
     shared: &Shared<'s, J, R>,
-    actors: Actors<J, C, U, E, K>,
+    actors: Running<J, C, K>,
     jobs: Receiver<Job>,
 ) -> Result<ActorThreads<J>, Unprinted>
 where
     J: Naming + Send + Sync + 's,
     C: Clock + Drop + Send + 's,
-    U: Uplink + Drop + Send + 's,
-    E: EngineLink + Drop + Send + 's,
     K: SharedKeeper<J> + Drop + Send + 's,
-    R: Wait + time::Clock + Eprint + Sync + 's,
+    R: Net<Listener = TcpListener, Stream = TcpStream> + Wait + time::Clock + Eprint + Sync + 's,
 {
-    let Actors {
-        responders,
+    let Running {
+        loops,
+        keeping,
         turning,
     } = actors;
     let alloc = shared.desk.config().allocator();
-    let room = Vec::with_capacity(alloc, responders.len().saturating_add(2))?;
-    let workers = start_workers(scope, shared, responders, &jobs)?;
+    let room = Vec::with_capacity(alloc, loops.len().saturating_add(2))?;
+    let workers = start_loops(scope, shared, loops, &jobs)?;
+    let keeping = match keeping {
+        Some(keeping) => Some(start_keeping(scope, shared, keeping)?),
+        None => None,
+    };
     let (keep_running, shutdown) = shutdown_pair(alloc)?;
     let turns = start_turns(scope, shared, turning, &shutdown)?;
     Ok(ActorThreads {
         workers,
+        keeping,
         turns,
         keep_running,
         room,
@@ -305,17 +318,21 @@ where
 fn join_actors<J: Naming, R: Threads>(
     rt: &R,
     threads: ActorThreads<J>,
-    hurry: &Hurry,
+    settler_bell: &SettlerBell,
 ) -> Result<Vec<End<J>>, Unprinted> {
     let ActorThreads {
         workers,
+        keeping,
         turns,
         keep_running,
         room,
     } = threads;
     let ends = ends_of(rt, workers, room);
-    hurry.tell();
+    if let Some(keeping) = keeping {
+        keeping.join(rt);
+    }
     drop(keep_running);
+    settler_bell.ring();
     with_turns(rt, turns, ends?)
 }
 
@@ -323,37 +340,52 @@ fn join_actors<J: Naming, R: Threads>(
 /// is answered, and gives what they hand in. Where a thread can't be started those that run are ended
 /// and joined: workers end once all senders of jobs are dropped, the sweeper and the settler once
 /// `KeepRunning` is, and an intake once it is closed.
-pub(crate) fn run<J, C, U, E, K, R>(
+pub(crate) fn run<J, C, K, R>(
     shared: Shared<'_, J, R>,
-    actors: Actors<J, C, U, E, K>,
+    actors: Running<J, C, K>,
     acceptors: Acceptors,
-    hurry: &Hurry,
+    settler_bell: &SettlerBell,
 ) -> Result<Vec<End<J>>, Unprinted>
 where
     J: Naming + Send + Sync,
     C: Clock + Drop + Send,
-    U: Uplink + Drop + Send,
-    E: EngineLink + Drop + Send,
     K: SharedKeeper<J> + Drop + Send,
-    R: Threads + Wait + time::Clock + Eprint + Sync,
+    R: Net<Listener = TcpListener, Stream = TcpStream>
+        + Threads
+        + Wait
+        + time::Clock
+        + Eprint
+        + Sync,
 {
-    let alloc = shared.desk.config().allocator();
-    // As many as there are places at most, so that no intake waits for a worker.
-    let (sender, jobs) = bounded(alloc, actors.responders.len().saturating_mul(2))?;
+    let config = shared.desk.config();
+    // As many as there are places at most, so that no intake waits for a loop.
+    let most = LOCAL_AT_ONCE.saturating_add(config.in_flight() as usize);
+    let (sender, jobs) = bounded(config.allocator(), most)?;
     thread::scope(
         thread::scope_env(),
         shared.rt,
         move |scope| -> Result<Vec<End<J>>, Unprinted>
-            requires { IsSend J.row × IsSync J.row × IsSend C.row × IsSend U.row × IsSend E.row × IsSend K.row × IsSync R.row }
+            requires { IsSend J.row × IsSync J.row × IsSend C.row × IsSend K.row × IsSync R.row }
         {
-            let threads = start_actors(scope, &shared, actors, jobs)?;
+            let threads = match start_actors(scope, &shared, actors, jobs) {
+                Ok(threads) => threads,
+                Err(fault) => {
+                    drop(sender);
+                    shared.bells.ring_out();
+                    settler_bell.ring();
+                    return Err(fault);
+                }
+            };
             let accepted = accept_at_both(scope, &shared, acceptors, sender);
-            if accepted.is_err() {
-                hurry.tell();
+            // No job comes any more.
+            shared.bells.ring_out();
+            if let Err(fault) = accepted {
+                drop(threads);
+                settler_bell.ring();
+                return Err(fault);
             }
-            accepted?;
             closing(shared.rt);
-            join_actors(shared.rt, threads, hurry)
+            join_actors(shared.rt, threads, settler_bell)
         },
     )
 }

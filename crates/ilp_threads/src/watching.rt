@@ -1,16 +1,14 @@
 //! What the watcher's thread does: it looks each second at what an operator is to know.
 
 use crate::actors::WatcherLinks;
-use crate::places::Places;
-use crate::shutdown::Shutdown;
 use ilp_book::Book;
 use ilp_desk::{Desk, Naming};
 use ilp_keeping::SharedKeeper;
 use ilp_notices::Notices;
+use ilp_shared::{Places, Seen, Shutdown};
 use ilp_workers::{Clock, Keeper};
 use std::io::Eprint;
 use std::sync::Wait;
-use std::sync::atomic::{AtomicBool, Ordering};
 use std::time;
 use std::time::Duration;
 
@@ -19,26 +17,6 @@ const REST_MS: u64 = 1_000;
 
 // By how many milliseconds the clock may lie behind the book before that is told.
 const SLACK_MS: u64 = 1_000;
-
-/// What other threads have seen that the watcher is to tell. They share it by reference.
-#[derive(Drop)]
-pub(crate) struct Seen {
-    full: AtomicBool,
-}
-
-impl Seen {
-    /// Nothing.
-    pub(crate) fn new() -> Seen {
-        Seen {
-            full: AtomicBool::new(false),
-        }
-    }
-
-    /// The journal had no room for an entry.
-    pub(crate) fn note_full(&self) {
-        self.full.store(true, Ordering::SeqCst);
-    }
-}
 
 /// What the watcher looks at.
 #[derive(Drop)]
@@ -129,7 +107,7 @@ impl<J: Naming, C: Clock + Drop, K: SharedKeeper<J> + Drop> Watcher<'_, J, C, K>
     // Open settlements keep room back too. Where they have the last of it, what was refused tells.
     fn look_at_journal<R: time::Clock + Eprint>(&self, rt: &R, state: BookState) {
         let limit = self.desk.config().journal();
-        if state.taken >= u64::from(limit) || self.seen.full.load(Ordering::SeqCst) {
+        if state.taken >= u64::from(limit) || self.seen.was_full() {
             self.notices.journal_full(rt, state.entries, limit);
         } else {
             self.notices.journal(rt, state.entries, limit);
@@ -144,7 +122,9 @@ impl<J: Naming, C: Clock + Drop, K: SharedKeeper<J> + Drop> Watcher<'_, J, C, K>
         if seconds == 0 {
             self.notices.work_goes_on();
         } else {
-            self.notices.work_waits(rt, self.desk.config(), seconds);
+            let in_flight = self.places.in_flight();
+            self.notices
+                .work_waits(rt, self.desk.config(), in_flight, seconds);
         }
     }
 

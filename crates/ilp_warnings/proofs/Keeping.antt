@@ -48,7 +48,6 @@ module _ (old new : List Warning) (keeps : KeepsAll old new) where
     engine_listen = λ h. keeps _ (told.engine_listen h);
     engines = λ h. keeps _ (told.engines h);
     shared = λ h. keeps _ (told.shared h);
-    worker = λ h. keeps _ (told.worker h);
     holds = λ h. keeps _ (told.holds h);
     no_routes = λ h. keeps _ (told.no_routes h);
   }

@@ -8,7 +8,7 @@ use Rattle.ilp_accounts.specs.Configuration.{Configuration, peer_at}
 use Rattle.ilp_warnings.specs.declared.warning.ConfigTable.{ConfigTable}
 use Rattle.ilp_warnings.specs.declared.warning.ConfigTable.TheVariants.{Top, Asset, Price, Peer, Route}
 use Rattle.ilp_warnings.specs.declared.warning.Warning.{Warning}
-use Rattle.ilp_warnings.specs.declared.warning.Warning.TheVariants.{Unknown, Displaced, NoAddress, OpenEngines, SharedListen, OneWorker, ShortHolds, NoRoutes, ShortToken, ExampleToken, SameTokens, SharedHost, OnePacket, TooLargeOut, Unreached, Unpriced}
+use Rattle.ilp_warnings.specs.declared.warning.Warning.TheVariants.{Unknown, Displaced, NoAddress, OpenEngines, SharedListen, ShortHolds, NoRoutes, ShortToken, ExampleToken, SameTokens, SharedHost, OnePacket, TooLargeOut, Unreached, Unpriced}
 use Rattle.ilp_warnings.specs.Meaning.{IsSocketAddress, IsClosed, IsShared, IsShort, IsExample, HaveSameHost, ReachesAtOnce, IsTooLargeFor, IsUnreached, IsUnpriced}
 use Rattle.ilp_warnings.specs.Told.{IsUnknown, told_key}
 
@@ -52,7 +52,6 @@ pub record AreTopTold (C : Configuration) (told : List Warning) : Type 0 where
   pub engine_listen : ¬ IsSocketAddress C.settings.engine_listen → Contains told (NoAddress Top field.EngineListen)
   pub engines : ¬ IsClosed C.settings.engine_listen → Contains told OpenEngines
   pub shared : IsShared C.settings.listen C.settings.engine_listen → Contains told SharedListen
-  pub worker : C.settings.workers ≡ 1 → Contains told OneWorker
   pub holds : C.settings.max_hold_ms ≤ C.settings.window_ms → Contains told ShortHolds
   pub no_routes : C.routes ≡ [] → Contains told NoRoutes
 

@@ -16,7 +16,7 @@ use Rattle.ilp_accounts.specs.Configuration.{Configuration, peer_at}
 use Rattle.ilp_warnings.specs.declared.warning.ConfigTable.{ConfigTable}
 use Rattle.ilp_warnings.specs.declared.warning.ConfigTable.TheVariants.{Top, Asset, Price, Peer, Route}
 use Rattle.ilp_warnings.specs.declared.warning.Warning.{Warning}
-use Rattle.ilp_warnings.specs.declared.warning.Warning.TheVariants.{Unknown, Displaced, NoAddress, OpenEngines, SharedListen, OneWorker, ShortHolds, NoRoutes, ShortToken, ExampleToken, SameTokens, SharedHost, OnePacket, TooLargeOut, Unreached, Unpriced}
+use Rattle.ilp_warnings.specs.declared.warning.Warning.TheVariants.{Unknown, Displaced, NoAddress, OpenEngines, SharedListen, ShortHolds, NoRoutes, ShortToken, ExampleToken, SameTokens, SharedHost, OnePacket, TooLargeOut, Unreached, Unpriced}
 use Rattle.ilp_warnings.specs.declared.examined.Examined.{Examined}
 use Rattle.ilp_warnings.specs.Meaning.{IsSocketAddress, IsOpen, IsShared, IsShort, IsExample, HaveSameHost, ReachesAtOnce, IsTooLargeFor, IsUnreached, IsUnpriced}
 
@@ -24,11 +24,11 @@ use Rattle.ilp_warnings.specs.Meaning.{IsSocketAddress, IsOpen, IsShared, IsShor
 
 -- the fields of the top that are no arrays
 abbrev pub top_fields : List Field
-top_fields = field.Address ∷ field.Run ∷ field.Listen ∷ field.EngineListen ∷ field.Path ∷ field.Workers ∷ field.Journal ∷ field.WindowMs ∷ field.MaxHoldMs ∷ field.SweepMs ∷ field.SettleMs ∷ field.Sync ∷ []
+top_fields = field.Address ∷ field.Run ∷ field.Listen ∷ field.EngineListen ∷ field.Path ∷ field.Workers ∷ field.Journal ∷ field.WindowMs ∷ field.MaxHoldMs ∷ field.SweepMs ∷ field.SettleMs ∷ field.Sync ∷ field.InFlight ∷ []
 
 -- the fields and arrays that are known in a table
 abbrev pub known_in : ConfigTable → List Field
-known_in Top = field.Address ∷ field.Run ∷ field.Listen ∷ field.EngineListen ∷ field.Path ∷ field.Workers ∷ field.Journal ∷ field.WindowMs ∷ field.MaxHoldMs ∷ field.SweepMs ∷ field.SettleMs ∷ field.Sync ∷ field.Asset ∷ field.Price ∷ field.Peer ∷ field.Route ∷ []
+known_in Top = field.Address ∷ field.Run ∷ field.Listen ∷ field.EngineListen ∷ field.Path ∷ field.Workers ∷ field.Journal ∷ field.WindowMs ∷ field.MaxHoldMs ∷ field.SweepMs ∷ field.SettleMs ∷ field.Sync ∷ field.InFlight ∷ field.Asset ∷ field.Price ∷ field.Peer ∷ field.Route ∷ []
 known_in (Asset n) = field.Code ∷ field.Scale ∷ []
 known_in (Price n) = field.From ∷ field.To ∷ field.P ∷ field.Q ∷ []
 known_in (Peer n) = field.Name ∷ field.Asset ∷ field.Token ∷ field.OutToken ∷ field.Host ∷ field.OutPath ∷ field.Least ∷ field.FeePpm ∷ field.MaxPacket ∷ field.Engine ∷ field.Threshold ∷ field.SettleTo ∷ field.SettleMax ∷ []
@@ -105,7 +105,6 @@ Warrants t C targets (Displaced within f) = IsUnknown t within (keys.key f) × C
 Warrants t C targets (NoAddress within f) = IsSomeAnd (address_at C within f) (λ text. ¬ IsSocketAddress text)
 Warrants t C targets OpenEngines = IsOpen C.settings.engine_listen
 Warrants t C targets SharedListen = IsShared C.settings.listen C.settings.engine_listen
-Warrants t C targets OneWorker = C.settings.workers ≡ 1
 Warrants t C targets ShortHolds = C.settings.max_hold_ms ≤ C.settings.window_ms
 Warrants t C targets NoRoutes = C.routes ≡ []
 Warrants t C targets (ShortToken peer f) = IsSomeAnd (token_at C peer f) IsShort

@@ -24,6 +24,7 @@ pub(crate) fn known_in(within: ConfigTable) -> &'static [Field]
             Field::SweepMs,
             Field::SettleMs,
             Field::Sync,
+            Field::InFlight,
             Field::Asset,
             Field::Price,
             Field::Peer,
@@ -67,6 +68,7 @@ pub(crate) fn top_fields() -> &'static [Field]
         Field::SweepMs,
         Field::SettleMs,
         Field::Sync,
+        Field::InFlight,
     ]
 }
 

@@ -32,7 +32,6 @@ impl Warning {
             Warning::Unpriced { route, .. } => ConfigTable::Route(*route),
             Warning::OpenEngines
             | Warning::SharedListen
-            | Warning::OneWorker
             | Warning::ShortHolds
             | Warning::NoRoutes => ConfigTable::Top,
         }
@@ -99,8 +98,6 @@ fn text(warning: &Warning) -> &'static str {
         }
         Warning::SharedListen =>
             "`listen` and `engine_listen` have an address in common, and only one side can have it",
-        Warning::OneWorker =>
-            "`workers` is 1: while a packet waits for a peer, all else waits for that",
         Warning::ShortHolds => {
             "`max_hold_ms` is not above `window_ms`: a next connector with this window refuses each packet"
         }

@@ -35,7 +35,6 @@ pub(crate) fn tell_top(examined: Examined<'_>, told: &mut Vec<Warning>) -> Resul
         is_shared(listen, engine_listen),
         Warning::SharedListen,
     )?;
-    tell(examined, told, config.workers() == 1, Warning::OneWorker)?;
     tell(
         examined,
         told,

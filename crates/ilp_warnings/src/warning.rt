@@ -39,8 +39,6 @@ pub enum Warning {
     OpenEngines,
     /// Both sides are to listen at one address, or at one that stands for the other too.
     SharedListen,
-    /// There is one worker alone.
-    OneWorker,
     /// No packet is held for longer than the window.
     ShortHolds,
     /// There are no routes.

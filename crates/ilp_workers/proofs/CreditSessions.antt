@@ -32,7 +32,7 @@ use Rattle.ilp_desk.specs.Desk.{PlainDesk, IsBookOf}
 use Rattle.ilp_desk.proofs.Heads.{same_stands}
 use Rattle.ilp_link_traits.specs.Links.{Tells}
 use Rattle.ilp_workers.specs.Worker.{Seat}
-use Rattle.ilp_workers.specs.Crediting.{IsCreditedAt, kept_of, as_known, known_at, IsKnownCredit, TellsAmount, IsCredited}
+use Rattle.ilp_workers.specs.Crediting.{IsCreditedAt, kept_of, as_known, known_at, TellsAmount, IsCredited}
 use Rattle.ilp_desk.proofs.Raising.{raised_by, count_in, booked_more}
 
 -- ---- credits of a lawful journal

@@ -1,92 +1,12 @@
--- The packets of messages between engines are within their limits, and what comes for one is an answer or none.
-use Rattle.std.proofs.Common.{◌≡◌, ℕ, ◌+◌, ◌≤◌, ℤ, Bool, true, false, List, length, Option, Some, None, refl, sym, ap, ◌∙◌, arith, lit<, rules, subst}
-use Rattle.std.specs.Prelude.{Result, Ok, Err, is_some, IsSome, if◌then◌else◌, bytes_eq}
-use Rattle.std.proofs.lemmas.Bool.Decides.{nat_tests}
-use Rattle.std.proofs.lemmas.Slice.Eq.{bytes_eq-Decides}
-use Rattle.ilp_oer.specs.OctetString as oer
-use Rattle.ilp_terms.specs.Expiry.{IsMoment}
-use Rattle.ilp_packet.specs.Address.{is_scheme, is_address}
-use Rattle.ilp_packet.specs.Packet.{PlainPacket, most_payload, prepare, fulfill, reject, IsPrepare, IsFulfill, Spells}
-use Rattle.ilp_packet.specs.declared.fault.PacketFault.{PacketFault}
-use Rattle.ilp_packet.specs.Reading.{AreOctets, reading}
-use Rattle.ilp_packet.specs.Writing.{size}
-use Rattle.ilp_packet.proofs.AddressLemmas.{address_from_test}
-use Rattle.ilp_packet.proofs.ContentLemmas.{length-fulfill}
-use Rattle.ilp_packet.proofs.ReadingLemmas.{reading_spelled, reading_again}
-use Rattle.ilp_packet.proofs.WritingLemmas.{size_by_content}
+-- What a peer is handed of a message, and why one of a peer's engine goes no further.
+use Rattle.std.proofs.Common.{◌≡◌, ℕ, ℤ, List, Option, Some, None, inl, ap, subst}
+use Rattle.std.specs.Prelude.{Err}
+use Rattle.ilp_packet.specs.Packet.{PlainPrepare, prepare, Spells}
 use Rattle.ilp_accounts.specs.Configuration.{Configuration}
-use Rattle.ilp_link_traits.specs.declared.links.LinkFault.{LinkFault}
-use Rattle.ilp_link_traits.specs.Links.{Tells, Sending, sending, came_of}
-use Rattle.ilp_workers.specs.Messaging.{settle_address, message_prepare, message_expiry, zero_preimage, zero_fulfill, peer_answer_in, longest_fulfill, peer_answer_of, IsPassedOn}
-
--- ---- packets
-
--- messages go to an address
-settle_address_is : is_address settle_address ≡ true
-unfolding is_address is_scheme
-settle_address_is = refl
-
--- the Prepare of a message is within its limits
-pub message_fits : (expires : ℤ) (octets : List ℕ) → IsMoment expires → length octets ≤ most_payload → IsPrepare (message_prepare expires octets)
-message_fits expires octets moment within = record {
-  amount = lit< tt;
-  expires = moment;
-  condition = refl;
-  destination = address_from_test settle_address settle_address_is;
-  payload = within;
-}
-
--- the Fulfill of an answer is within its limits
-pub answer_fits : (octets : List ℕ) → length octets ≤ most_payload → IsFulfill (zero_fulfill octets)
-answer_fits octets within = record { preimage = refl; payload = within }
-
--- and not longer than the longest
-pub answer_is_short : (octets : List ℕ) → length octets ≤ most_payload → size (fulfill (zero_fulfill octets)) ≤ longest_fulfill
-answer_is_short octets within =
-    let n : ℕ = 32 + (length (oer.prefix (length octets)) + length octets) in
-    let whole = size_by_content (fulfill (zero_fulfill octets)) n (sym (length-fulfill (zero_fulfill octets) refl)) in
-    let first : length (oer.prefix n) ≤ 3 = grind (arith, nat_tests) in
-    let second : length (oer.prefix (length octets)) ≤ 3 = grind (arith, nat_tests) in
-    omega arith
-
--- ---- what comes for a message
-
--- a test for a value tells that there is one
-some_is : (answer : Option (List ℕ)) → is_some answer ≡ true → IsSome answer
-some_is None is = absurd cc
-some_is (Some x) is = search rules
-
--- what is an answer came
-pub answer_came : (came : Result (Unit {0}) LinkFault) (reply : List ℕ) → is_some (peer_answer_of (came_of came reply)) ≡ true → (came_of came reply ≡ Some reply) × IsSome (peer_answer_of (Some reply))
-answer_came (Ok x) reply is = (refl, some_is (peer_answer_of (Some reply)) is)
-answer_came (Err fault) reply is = absurd cc
-
--- what is no answer has none
-pub no_answer_came : (answer : Option (List ℕ)) → is_some answer ≡ false → answer ≡ None
-no_answer_came None is = refl
-no_answer_came (Some x) is = absurd cc
-
--- an answer that was read is the data of a Fulfill of 32 zero octets
-answer_read : (read : Result PlainPacket PacketFault) (answer : List ℕ) → peer_answer_in read ≡ Some answer → read ≡ Ok (fulfill (zero_fulfill answer))
-answer_read (Ok (prepare p)) answer is = absurd cc
-answer_read (Ok (reject r)) answer is = absurd cc
-answer_read (Err fault) answer is = absurd cc
-answer_read (Ok (fulfill f)) answer is = of (bytes_eq f.preimage zero_preimage) refl is
-  where
-    of : (b : Bool) → bytes_eq f.preimage zero_preimage ≡ b → (if b then Some f.payload else None) ≡ Some answer → ◌≡◌ {A = Result PlainPacket PacketFault} (Ok (fulfill f)) (Ok (fulfill (zero_fulfill answer)))
-    of false same is = absurd cc
-    of true same is =
-        let preimage : f.preimage ≡ zero_preimage = (bytes_eq-Decides f.preimage zero_preimage).0 same in
-        let payload : f.payload ≡ answer = cc in
-        ap (λ p. Ok (fulfill (record { preimage = p; payload = f.payload }))) preimage ∙ ap (λ p. Ok (fulfill (zero_fulfill p))) payload
-
--- so the octets stand for that
-pub answer_spelled : (octets answer : List ℕ) → AreOctets octets → peer_answer_of (Some octets) ≡ Some answer → Spells octets (fulfill (zero_fulfill answer))
-answer_spelled octets answer are is = reading_spelled octets (fulfill (zero_fulfill answer)) are (answer_read (reading octets) answer is)
-
--- and its octets are read as that
-pub spelled_answer : (octets answer : List ℕ) → Spells octets (fulfill (zero_fulfill answer)) → peer_answer_of (Some octets) ≡ Some answer
-spelled_answer octets answer spelled = ap peer_answer_in (reading_again octets (fulfill (zero_fulfill answer)) spelled)
+use Rattle.ilp_link_traits.specs.Links.{Tells, Sending, sending, ToEngine}
+use Rattle.ilp_replies.specs.declared.rejects.LocalReject.{LocalReject}
+use Rattle.ilp_replies.specs.Messages.{message_prepare, message_expiry, IsWhyRefused}
+use Rattle.ilp_workers.specs.Messaging.{IsPassedOn, IsEngineAnswer}
 
 -- ---- what the peer is handed
 
@@ -99,3 +19,10 @@ passed_on C peer octets packet handed now expires sent sent' came is spelled sam
   spelled = subst (λ e. Spells packet (prepare (message_prepare e octets))) is spelled;
   handed = subst (λ e. Tells sent (sending peer packet e came) sent') is (subst (λ p. Tells sent (sending peer p expires came) sent') same tells);
 }
+
+-- ---- what the engine here is not handed
+
+-- what is refused is kept back
+pub kept_back : (refusal : Option LocalReject) (why : LocalReject) (from : ℕ) (packet : PlainPrepare) (told told' : Option (List ToEngine)) → IsWhyRefused refusal why → told' ≡ told → IsEngineAnswer refusal from packet told told' (Err why)
+kept_back (Some refusal) why from packet told told' is same = (ap Err is, same)
+kept_back None why from packet told told' is same = inl (ap Err is, same)

@@ -1,10 +1,6 @@
-pub mod Rejecting
 pub mod Sessions
 pub mod Sending
-pub mod Passing
-pub mod Outcomes
-pub mod Standing
-pub mod Behind
+pub mod Booking
+pub mod Halving
 pub mod CreditSessions
 pub mod EngineMessages
-pub mod CreditBehind

@@ -21,7 +21,8 @@ use Rattle.ilp_workers.specs.declared.reply_effect.ReplyEffect.{ReplyEffect}
 use Rattle.ilp_workers.specs.declared.reply_effect.Told.{Told}
 use Rattle.ilp_link_traits.specs.Links.{Tells}
 use Rattle.ilp_workers.specs.Worker.{Seat}
-use Rattle.ilp_workers.specs.Forwarding.{Order, IsHeldAt, IsAnsweredAt, IsOnItsWay, within_years, entry_of, count_of, Ends, IsEnded}
+use Rattle.ilp_replies.specs.Messages.{within_years}
+use Rattle.ilp_workers.specs.Forwarding.{Order, IsHeldAt, IsAnsweredAt, IsOnItsWay, entry_of, count_of, Ends, IsEnded}
 
 -- ---- how many entries were booked
 

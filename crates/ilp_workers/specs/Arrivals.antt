@@ -3,12 +3,13 @@ use Rattle.std.specs.Prelude.{◌≡◌, ℕ, ◌⊎◌, List, None, Result, Ok,
 use Rattle.ilp_packet.specs.Packet.{PlainPacket, PlainPrepare, prepare, fulfill, reject, Spells}
 use Rattle.ilp_packet.specs.Reading.{reading}
 use Rattle.ilp_desk.specs.Desk.{PlainDesk}
-use Rattle.ilp_workers.specs.declared.reply.BadPacket.{BadPacket}
-use Rattle.ilp_workers.specs.declared.reply.BadPacket.TheVariants.{Unread, NotPrepare}
-use Rattle.ilp_workers.specs.declared.reply.Receipt.{Receipt}
+use Rattle.ilp_workers.specs.declared.arrivals.BadPacket.{BadPacket}
+use Rattle.ilp_workers.specs.declared.arrivals.BadPacket.TheVariants.{Unread, NotPrepare}
+use Rattle.ilp_replies.specs.declared.answer.Receipt.{Receipt}
 use Rattle.ilp_workers.specs.Worker.{PlainWorker}
 use Rattle.ilp_workers.specs.Forwarding.{Order, order, IsForwardedBy}
-use Rattle.ilp_workers.specs.Messaging.{IsForEngine, IsMessaged}
+use Rattle.ilp_replies.specs.Messages.{IsForEngine}
+use Rattle.ilp_workers.specs.Messaging.{IsMessaged}
 
 -- ---- what comes
 

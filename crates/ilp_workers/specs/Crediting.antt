@@ -11,7 +11,6 @@ use Rattle.ilp_book.specs.declared.calls.Kept.{Kept}
 use Rattle.ilp_book.specs.declared.fault.CreditFault.{CreditFault}
 use Rattle.ilp_book.specs.declared.fault.CreditFault.TheVariants as credit_fault
 use Rattle.ilp_book.specs.Book.{by}
-use Rattle.ilp_journal.specs.Credits.{credit_at}
 use Rattle.ilp_book.specs.SettleStep.{Payment, amount_of, credit_growth, credit_step}
 use Rattle.ilp_desk.specs.declared.record.Record.{Record}
 use Rattle.ilp_desk.specs.declared.record.Recorded.TheVariants as recorded
@@ -20,7 +19,6 @@ use Rattle.ilp_desk.specs.Portion.{Portion, portion}
 use Rattle.ilp_desk.specs.Session.{IsShownAt}
 use Rattle.ilp_link_traits.specs.Links.{Tells}
 use Rattle.ilp_keeping.specs.declared.keeper.NotKept.{NotKept}
-use Rattle.ilp_keeping.specs.Keeping.{ToKeeper}
 use Rattle.ilp_keeping.specs.Keeping as keeper
 use Rattle.ilp_workers.specs.declared.crediting.NotCredited.{NotCredited}
 use Rattle.ilp_workers.specs.declared.crediting.NotCredited.TheVariants as not_credited
@@ -120,15 +118,3 @@ pub record Credits (desk : PlainDesk) (p : Payment) (before after : PlainWorker)
   pub paid : IsPaid desk p (seat_of before) (seat_of after) answer
   pub links : (after.sent ≡ before.sent) × (after.engine ≡ before.engine)
   pub reply_stays : after.reply ≡ before.reply
-
--- The last that the keeper was asked is to keep a journal, of which it said that it is kept, and whose entry of this number credits
--- the peer under its key what is answered.
-pub record IsCreditBehind (told : List ToKeeper) (p : Payment) (credit : Kept) : Type 0 where
-  pub earlier : List ToKeeper
-  pub journal : Entries
-  pub last : told ≡ earlier ++ keeper.kept (keeper.keeping journal (Ok tt)) ∷ []
-  pub entry : Credited
-  pub stands : credit_at journal credit.number ≡ Some entry
-  pub peer : entry.peer ≡ p.peer
-  pub key : entry.key ≡ p.key
-  pub amount : entry.credited ≡ credit.amount

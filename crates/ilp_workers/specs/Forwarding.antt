@@ -1,8 +1,7 @@
 -- What becomes of a Prepare that a worker forwards: what is booked, what the next peer is handed, and what the sender is answered.
 use Rattle.std.specs.Prelude.{◌≡◌, ◌≢◌, ℕ, ◌+◌, ℤ, pos, ◌+ℤ◌, ◌≤ℤ◌, ◌⊎◌, List, [], ◌∷◌, ◌++◌, Option, Some, None, Bool, true, false, Result, Ok, Err, if◌then◌else◌}
-use Rattle.std.specs.Int.{int_min, int_max}
+use Rattle.std.specs.Int.{int_min}
 use Rattle.ilp_terms.specs.Condition.{meets}
-use Rattle.ilp_terms.specs.Expiry.{last_of_all}
 use Rattle.ilp_packet.specs.declared.fault.PacketFault.{PacketFault}
 use Rattle.ilp_packet.specs.Packet.{PlainPacket, PlainPrepare, prepare, fulfill, reject, Spells}
 use Rattle.ilp_packet.specs.Reading.{reading}
@@ -30,17 +29,18 @@ use Rattle.ilp_desk.specs.Portion.{Portion, portion}
 use Rattle.ilp_desk.specs.Session.{IsShownAt}
 use Rattle.ilp_keeping.specs.declared.keeper.NotKept.{NotKept}
 use Rattle.ilp_keeping.specs.Keeping as keeper
-use Rattle.ilp_workers.specs.declared.rejects.LocalReject.{LocalReject}
-use Rattle.ilp_workers.specs.declared.rejects.LocalReject.TheVariants as local
-use Rattle.ilp_workers.specs.declared.rejects.ToldReject.{ToldReject}
-use Rattle.ilp_workers.specs.declared.rejects.ToldReject.TheVariants.{Own, Peer}
+use Rattle.ilp_replies.specs.declared.rejects.LocalReject.{LocalReject}
+use Rattle.ilp_replies.specs.declared.rejects.LocalReject.TheVariants as local
+use Rattle.ilp_replies.specs.declared.rejects.ToldReject.{ToldReject}
+use Rattle.ilp_replies.specs.declared.rejects.ToldReject.TheVariants.{Own, Peer}
 use Rattle.ilp_workers.specs.declared.reply_effect.ReplyEffect.{ReplyEffect}
 use Rattle.ilp_workers.specs.declared.reply_effect.Told.{Told}
 use Rattle.ilp_workers.specs.declared.reply_effect.Told.TheVariants.{Fulfill, Reject}
 use Rattle.ilp_link_traits.specs.declared.links.ReplyKind.{ReplyKind}
 use Rattle.ilp_link_traits.specs.declared.links.ReplyKind.TheVariants.{Answer, NoAnswer}
 use Rattle.ilp_link_traits.specs.Links.{Tells, Sending, sending}
-use Rattle.ilp_workers.specs.Rejects.{local_reject, reject_of_fault}
+use Rattle.ilp_replies.specs.Rejects.{local_reject, reject_of_fault}
+use Rattle.ilp_replies.specs.Messages.{within_years}
 use Rattle.ilp_workers.specs.Worker.{PlainWorker, Seat, seat_of, IsKept}
 
 -- ---- what is forwarded
@@ -61,10 +61,6 @@ order desk from packet = record { desk = desk; from = from; packet = packet }
 abbrev pub IsHeldAt : Order → ℤ → Entries → Entries → Portion → Portion → Result Held HoldFault → Type 0
 IsHeldAt o now seen seen' before after reply =
     IsShownAt o.desk (λ book. hold_step book (by before.actor now) (incoming book.config o.from o.packet) (growth_of reply)) seen seen' before after reply
-
--- a time, brought to the years 1970 to 9999
-abbrev pub within_years : ℤ → ℤ
-within_years now = int_max (pos 0) (int_min now last_of_all)
 
 -- What is held goes to the peer of the destination's route, as much as the two peers' quote says. Its deadline leaves the window
 -- before the Prepare expires, and comes no sooner than that or the longest hold from the moment on.

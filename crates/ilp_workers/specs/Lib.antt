@@ -1,11 +1,11 @@
 pub use Rattle.ilp_link_traits.specs.Links
 pub use Rattle.ilp_keeping.specs.Keeping
-pub mod Rejects
-pub mod Rows
 pub mod Worker
-pub mod Receipts
 pub mod Forwarding
+pub mod Pending
+pub mod Booked
 pub mod Crediting
 pub mod Messaging
+pub mod MessageHalves
 pub mod Arrivals
-pub mod Outcome
+pub mod Halves

@@ -5,7 +5,7 @@ ghost use Rattle.ilp_book.specs.SettleStep.{Payment, payment};
 ghost use Rattle.ilp_workers.specs.Worker.{seat};
 ghost use Rattle.ilp_workers.specs.Crediting.{record_of_credit, CreditsAt, IsPaid};
 
-use crate::parts::Parts;
+use crate::parts::{Parts, reserve_beside};
 use ilp_book::{CreditFault, Kept};
 use ilp_desk::{Desk, Naming, Record, Recorded};
 use ilp_journal::Key;
@@ -53,6 +53,8 @@ impl<
             (K.told self.new.keeper)) result }
         ensures links { (self.new.uplink ≡ self.old.uplink) × (self.new.engine ≡ self.old.engine) }
         ensures reply_in { self.new.reply_in ≡ self.old.reply_in }
+        ensures pending { self.new.pending ≡ self.old.pending }
+        ensures actor { self.new.share.actor ≡ self.old.share.actor }
         ensures buffers { (self.new.incoming ≡ self.old.incoming)
             × (self.new.outgoing ≡ self.old.outgoing) × (self.new.rejected ≡ self.old.rejected) }
     {
@@ -82,13 +84,15 @@ impl<
             (K.told self.new.keeper)) result }
         ensures links { (self.new.uplink ≡ self.old.uplink) × (self.new.engine ≡ self.old.engine) }
         ensures reply_in { self.new.reply_in ≡ self.old.reply_in }
+        ensures pending { self.new.pending ≡ self.old.pending }
+        ensures actor { self.new.share.actor ≡ self.old.share.actor }
         ensures buffers { (self.new.incoming ≡ self.old.incoming)
             × (self.new.outgoing ≡ self.old.outgoing) × (self.new.rejected ≡ self.old.rejected) }
     {
         let Ok(_) = credited(quantity, desk.config().scale(peer)) else {
             return Err(CreditFault::TooLarge);
         };
-        let Ok(()) = self.records.reserve(1) else {
+        let Ok(()) = reserve_beside(&mut self.records, self.pending) else {
             return Err(CreditFault::Memory);
         };
         let now = self.clock.now();

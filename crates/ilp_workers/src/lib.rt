@@ -25,13 +25,21 @@
 //! - Before the sender is told a Fulfill, the keeper is handed the journal that the answer's session
 //!   left. What it says of it changes nothing. Where the sender is told a Reject it is handed
 //!   nothing.
-//! - `fulfills_are_told_behind_their_entries`: so, over a keeper that tells, the last that it was
-//!   asked before a Fulfill is to keep a journal with the entry that fulfills the hold.
-//! - `fulfills_are_kept`: the answer is a Fulfill, whose preimage meets the condition, just where
-//!   two entries are booked and the worker keeps one packet more; else a Reject, and it keeps as
-//!   many as before.
-//! - `standing_refusals_are_told`: too great an amount, no route or one back to the sender is
-//!   refused as that, or as T00 as above, whatever time and book.
+//!
+//! The halves of a forward (`specs/Halves.antt`):
+//!
+//! - `Worker::begin` refuses at once as `forward` does, or books the hold and hands back what waits:
+//!   the peer, the Prepare that it is to be handed, until when its reply counts, and what the other
+//!   half needs. Room for the record of each that waits, and for its Reject, is made then.
+//! - `Worker::finish` ends one that waits, of this worker, in any order: what came, or that nothing
+//!   did, is booked, the keeper is handed the journal before a Fulfill, and the sender's answer is
+//!   handed back.
+//! - `finish` is `book`, then `keep` before a Fulfill, then `Booked::tell`. `keep` once serves all that
+//!   is booked by then: `tell` wants that the keeper was handed as many entries as the session of a
+//!   Fulfill left.
+//! - `JournalKeeper::keep` hands the journal of a desk to a keeper of its own, for all workers: it
+//!   has how many entries that journal had.
+//! - `pending` counts what waits; each call says how it changes. `into_end` wants that nothing waits.
 //!
 //! `forward` of a Prepare to `peer.settle` (`specs/Messaging.antt`):
 //!
@@ -43,6 +51,9 @@
 //!   of 32 zero octets with the engine's as data, or T01 where it gave none or more than 32,767
 //!   octets.
 //!
+//! In halves (`specs/MessageHalves.antt`): `begin` refuses at once, or hands back the message with
+//! room for its answer; `EngineMessage::answer` makes the answer of what came, without a worker.
+//!
 //! Other calls:
 //!
 //! - `Worker::message` books nothing, and asks no engine here and no keeper. `TooLong` comes just
@@ -52,6 +63,8 @@
 //!   that the clock's moment and the longest hold make.
 //! - `message` is Ok where a Fulfill of 32 zero octets came, which is `reply` then, `NoAnswer`
 //!   where none did. `message_answer` is the data of such a Fulfill in `reply`, or nothing.
+//! - `Worker::begin_message` is the first half of that: the packet that the peer is to be handed.
+//!   `peer_answer_in` reads what comes back.
 //! - `Worker::credit` (`specs/Crediting.antt`) first refuses what is too much at the scale of the
 //!   peer's balance; then it may refuse as for want of memory. Both leave all as it was.
 //! - `credit` else has a book of the desk credit it under its key at a moment of the clock. Share
@@ -59,28 +72,33 @@
 //!   to, also where a credit is kept; of one of an earlier period it is what was credited then.
 //! - Of either the keeper is first handed the journal that has it. Where it says that this isn't
 //!   kept, the answer is `NotKept`, and entry and record stay. Of a refusal it is handed nothing.
-//! - `credits_are_told_behind_their_entries`: so, over a keeper that tells, the last that it was
-//!   asked before an Ok is to keep a journal that has the credit, and it said that this is kept.
 //! - `Worker::new` holds share, receipt, links, keeper and no record, or hands all back; `into_end`
 //!   hands on share and records.
-//! - `LocalReject` is the table of the connector's own Rejects, code and message, which it prints;
-//!   `of_fault` is the one for each refusal of a hold, with the RFC's code, as the book has it. A
-//!   law says how long one can be.
+//!
+//! What follows from all this has `ilp_worker_laws`; the octets of Rejects and messages are made by
+//! `ilp_replies`.
 #![tactic(auto)]
 
+mod arrivals;
+mod booked;
 mod crediting;
-pub mod laws;
+mod halves;
+mod handing;
+mod in_flight;
 mod messaging;
 mod parts;
-mod rejects;
-mod reply;
 mod reply_effect;
 mod worker;
 
+pub use arrivals::BadPacket;
+pub use booked::{Booked, HandedJournal};
 pub use crediting::NotCredited;
+pub use handing::JournalKeeper;
 pub use ilp_keeping::{Forgetful, Keeper, NotKept};
 pub use ilp_link_traits::{Clock, EngineLink, EngineReply, LinkFault, Uplink};
-pub use messaging::MessageFault;
-pub use rejects::{LocalReject, ToldReject};
-pub use reply::{BadPacket, Receipt};
+pub use ilp_replies::{
+    Answer, EngineMessage, LocalReject, MessageFault, PeerMessage, Receipt, ToldReject,
+    peer_answer_in,
+};
+pub use in_flight::{Begun, HeldPrepare, Pending};
 pub use worker::{NoWorker, Worker};

@@ -1,19 +1,19 @@
 //! Of what a worker consists, and the steps by which it passes a Prepare on.
-ghost use Rattle.std.specs.Prelude.{◌≡◌, ℕ, ◌+◌, ◌<◌, ◌≤◌, [], ◌++◌, ◌∷◌, length, Option, Some, Ok, List, Result, IfOk, IfErr, OnOk, MatchBool, ◌≢◌, vec_len, vec_capacity};
-ghost use Rattle.ilp_packet.specs.Packet.{PlainPacket, plain_prepare, prepare, IsPrepare, Spells};
+ghost use Rattle.std.specs.Prelude.{◌≡◌, ◌+◌, ◌<◌, ◌≤◌, [], length, Option, Some, Ok, Result, IfOk, IfErr, OnOk, OnErr, MatchBool, ◌≢◌, vec_len, vec_capacity};
+ghost use Rattle.ilp_packet.specs.Packet.{plain_prepare, prepare, reject, IsPrepare, Spells};
 ghost use Rattle.ilp_packet.specs.Writing.{size};
 ghost use Rattle.ilp_book.specs.Configured.{IsKnown};
-ghost use Rattle.ilp_workers.specs.Rejects.{longest_local_reject};
+ghost use Rattle.ilp_replies.specs.Rejects.{local_reject, longest_local_reject};
 ghost use Rattle.ilp_desk.specs.Desk.{PlainDesk};
 ghost use Rattle.ilp_desk.specs.Portion.{holding};
-ghost use Rattle.ilp_link_traits.specs.declared.links.LinkFault.{LinkFault};
-ghost use Rattle.ilp_link_traits.specs.Links.{came_of};
 ghost use Rattle.ilp_workers.specs.Worker.{seat, reply_of, IsKept};
-ghost use Rattle.ilp_workers.specs.Forwarding.{order, onward, IsHoldRefusal, IsHolding, IsSentOn, IsEnded, KeepsFirst, IsTold, late, effect_of, end_of, record_of_end};
+ghost use Rattle.ilp_workers.specs.Pending.{told_order};
+ghost use Rattle.ilp_workers.specs.Booked.{handed_journal};
+ghost use Rattle.ilp_workers.specs.Forwarding.{order, onward, IsHoldRefusal, IsHolding, IsEnded, late, end_of, record_of_end};
 
-use crate::rejects::{LONGEST_LOCAL_REJECT, LocalReject, ToldReject, put_local_reject};
-use crate::reply::Buffer;
-use crate::reply_effect::{ReplyEffect, Told, effect_by};
+use crate::booked::HandedJournal;
+use crate::in_flight::HeldPrepare;
+use crate::reply_effect::{ReplyEffect, Told};
 use ilp_accounts::Config;
 use ilp_book::{Held, Outcome};
 use ilp_desk::{AnsweredHold, Desk, End, HoldEnd, JournalReceipt, Naming, Record, Recorded, Share};
@@ -21,6 +21,7 @@ use ilp_keeping::{Keeper, NotKept};
 use ilp_link_traits::{Clock, EngineLink, LinkFault, ReplyKind, Uplink};
 use ilp_oer::Octets;
 use ilp_packet::{Prepare, write_prepare};
+use ilp_replies::{LONGEST_LOCAL_REJECT, LocalReject, ToldReject, put_local_reject};
 use std::alloc::{AllocError, Allocator, Global};
 use std::sync::Wait;
 
@@ -43,14 +44,17 @@ pub(crate) struct Parts<
     pub(crate) uplink: U,
     pub(crate) engine: E,
     pub(crate) keeper: K,
-    // The Prepare that a peer is handed, or the Fulfill of what an engine answered.
+    // The Prepare of a message for a peer.
     pub(crate) outgoing: Octets<A>,
-    // What comes back for it, or what an engine answers.
+    // What came back for it, or what the sender of the last packet that was forwarded is answered.
     pub(crate) incoming: Octets<A>,
     // The connector's own Reject, for which there is room.
     pub(crate) rejected: Octets<A>,
-    // Which of the three the sender of the last packet is answered with.
+    // Which of the two the sender of the last packet is answered with.
     pub(crate) reply_in: Buffer,
+    // How many packets that it began wait. Room for a record of each is kept.
+    pub(crate) pending: usize,
+    ghost kept: { vec_len records + pending ≤ vec_capacity records },
     ghost room: { longest_local_reject ≤ length rejected.octets + rejected.spare },
 }
 
@@ -62,8 +66,8 @@ impl<
     K: Keeper<J> + Drop,
     A: Allocator,
 > Parts<J, C, U, E, K, A> {
-    // Makes room for all that may come of the Prepare, and then has the desk hold it at the clock's
-    // moment. Where entries aren't kept none is taken on.
+    // Makes room for all that may come of the Prepare, in the worker and in `out`, and then has the desk
+    // hold it at the clock's moment. From then on it waits. Where entries aren't kept none is taken on.
     pub(crate) fn hold(
         &mut self,
         rt: &impl Wait,
@@ -71,17 +75,23 @@ impl<
         from: u32,
         packet: &Prepare<'_>,
         len: usize,
+        out: &mut Octets<A>,
     ) -> Result<Held, LocalReject>
         requires known { IsKnown J.desk.config from }
+        requires cleared { out.old.octets ≡ [] }
         ensures links { (self.new.uplink ≡ self.old.uplink) × (self.new.engine ≡ self.old.engine) }
+        ensures reply_in { self.new.reply_in ≡ self.old.reply_in }
+        ensures buffers { (self.new.incoming ≡ self.old.incoming)
+            × (self.new.outgoing ≡ self.old.outgoing) × (self.new.rejected ≡ self.old.rejected) }
         ensures held { IfOk result (λ held. IsHolding (order J.desk from (plain_prepare packet.now))
             (seat self.old.share self.old.records.items (C.told self.old.clock) self.old.receipt
             (K.told self.old.keeper))
             (seat self.new.share self.new.records.items (C.told self.new.clock) self.new.receipt
             (K.told self.new.keeper)) held) }
-        ensures record { OnOk result (vec_len self.new.records < vec_capacity self.new.records) }
-        ensures cleared { OnOk result (self.new.outgoing.octets ≡ []) }
-        ensures room { OnOk result (len ≤ self.new.outgoing.spare) }
+        ensures waits { OnOk result (self.new.pending ≡ self.old.pending + 1) }
+        ensures cleared { out.new.octets ≡ [] }
+        ensures room { OnOk result (len ≤ out.new.spare) }
+        ensures reject { OnOk result (longest_local_reject ≤ out.new.spare) }
         ensures refused { IfErr result (λ why. IsHoldRefusal (order J.desk from (plain_prepare packet.now))
             (seat self.old.share self.old.records.items (C.told self.old.clock) self.old.receipt
             (K.told self.old.keeper))
@@ -89,105 +99,72 @@ impl<
             (K.told self.new.keeper)) why) }
         ensures share { IfErr result (λ why. self.new.share ≡ self.old.share) }
         ensures records { IfErr result (λ why. self.new.records.items ≡ self.old.records.items) }
+        ensures pending { OnErr result (self.new.pending ≡ self.old.pending) }
     {
         if !self.keeper.keeps() {
             return Err(LocalReject::InternalError);
         }
-        let Ok(()) = self.make_room(len) else {
+        let Ok(()) = self.make_room(len, out) else {
             return Err(LocalReject::InternalError);
         };
         let now = self.clock.now();
         match desk.hold_shown(rt, &mut self.share, &mut self.receipt, from, packet, now) {
-            Ok(held) => Ok(held),
+            Ok(held) => {
+                self.pending += 1;
+                Ok(held)
+            }
             Err(fault) => Err(LocalReject::of_fault(fault, packet.amount)),
         }
     }
 
-    // Room for a record, and for a packet of so many octets.
-    fn make_room(&mut self, len: usize) -> Result<(), AllocError>
+    // Room for the record of one packet more that waits, and for its octets: a packet of so many, and
+    // any Reject of the connector's own.
+    fn make_room(&mut self, len: usize, out: &mut Octets<A>) -> Result<(), AllocError>
         ensures share { self.new.share ≡ self.old.share }
         ensures records { self.new.records.items ≡ self.old.records.items }
         ensures clock { self.new.clock ≡ self.old.clock }
         ensures links { (self.new.uplink ≡ self.old.uplink) × (self.new.engine ≡ self.old.engine) }
         ensures kept { (self.new.receipt ≡ self.old.receipt) × (self.new.keeper ≡ self.old.keeper) }
-        ensures record { OnOk result (vec_len self.new.records < vec_capacity self.new.records) }
-        ensures cleared { OnOk result (self.new.outgoing.octets ≡ []) }
-        ensures room { OnOk result (len ≤ self.new.outgoing.spare) }
+        ensures reply_in { self.new.reply_in ≡ self.old.reply_in }
+        ensures buffers { (self.new.incoming ≡ self.old.incoming)
+            × (self.new.outgoing ≡ self.old.outgoing) × (self.new.rejected ≡ self.old.rejected) }
+        ensures pending { self.new.pending ≡ self.old.pending }
+        ensures record { OnOk result
+            (vec_len self.new.records + self.new.pending < vec_capacity self.new.records) }
+        ensures octets { out.new.octets ≡ out.old.octets }
+        ensures room { OnOk result (len ≤ out.new.spare) }
+        ensures reject { OnOk result (longest_local_reject ≤ out.new.spare) }
     {
-        self.records.reserve(1)?;
-        self.outgoing.clear();
-        self.outgoing.reserve(len)
+        reserve_beside(&mut self.records, self.pending)?;
+        out.reserve(len.max(LONGEST_LOCAL_REJECT))
     }
 
-    // Hands the Prepare on, waits for what comes back, and has the link learn of which hold it is, and
-    // what comes.
-    pub(crate) fn send_on(&mut self, packet: &Prepare<'_>, held: &Held) -> ReplyEffect
-        requires packet { IsPrepare (onward (plain_prepare packet.now) held.now) }
-        requires cleared { self.old.outgoing.octets ≡ [] }
-        requires room { size (prepare (onward (plain_prepare packet.now) held.now)) ≤ self.old.outgoing.spare }
-        ensures share { self.new.share ≡ self.old.share }
-        ensures records { self.new.records ≡ self.old.records }
-        ensures clock { self.new.clock ≡ self.old.clock }
-        ensures engine { self.new.engine ≡ self.old.engine }
-        ensures kept { (self.new.receipt ≡ self.old.receipt) × (self.new.keeper ≡ self.old.keeper) }
-        ensures asked { (answer : Result (Unit {0}) LinkFault)
-            × IsSentOn (plain_prepare packet.now) held.now (U.told self.old.uplink)
-            (U.told self.new.uplink) (came_of answer self.new.incoming.octets)
-            × (result ≡ effect_of packet.now.condition.now (came_of answer self.new.incoming.octets)) }
-    {
-        let onward = Prepare {
-            amount: held.out,
-            expires: held.deadline,
-            condition: packet.condition,
-            destination: packet.destination,
-            payload: packet.payload,
-        };
-        let Ok(()) = write_prepare(&mut self.outgoing, &onward) else {
-            unreachable!();
-        };
-        self.incoming.clear();
-        self.uplink
-            .note_hold(held.number, held.out, packet.condition);
-        let came = self.uplink.send(
-            held.to,
-            self.outgoing.as_slice(),
-            held.deadline,
-            &mut self.incoming,
-        );
-        let effect = effect_by(packet.condition, came, self.incoming.as_slice());
-        note_reply(&mut self.uplink, held.to, came, effect.kind());
-        effect
-    }
-
-    // Has the desk book what came back, and keeps the record of how the hold ended by that.
+    // Has the desk book what came back for the hold of a packet that waits, and keeps the record of how
+    // the hold ended by that.
     pub(crate) fn end(
         &mut self,
         rt: &impl Wait,
         desk: &Desk<J>,
-        from: u32,
-        packet: &Prepare<'_>,
-        held: &Held,
+        prepare: &HeldPrepare,
         effect: &ReplyEffect,
     ) -> Answered
-        requires room { vec_len self.old.records < vec_capacity self.old.records }
-        ensures incoming { self.new.incoming ≡ self.old.incoming }
+        requires waits { 0 < self.old.pending }
         ensures links { (self.new.uplink ≡ self.old.uplink) × (self.new.engine ≡ self.old.engine) }
-        ensures ended { IsEnded (order J.desk from (plain_prepare packet.now)) held.now effect.now
+        ensures reply_in { self.new.reply_in ≡ self.old.reply_in }
+        ensures buffers { (self.new.incoming ≡ self.old.incoming)
+            × (self.new.outgoing ≡ self.old.outgoing) × (self.new.rejected ≡ self.old.rejected) }
+        ensures ended { IsEnded (told_order J.desk prepare.now) prepare.now.held effect.now
             (seat self.old.share self.old.records.items (C.told self.old.clock) self.old.receipt
             (K.told self.old.keeper))
             (seat self.new.share self.new.records.items (C.told self.new.clock) self.new.receipt
             (K.told self.new.keeper)) result.told result.entry }
+        ensures pending { self.new.pending + 1 ≡ self.old.pending }
     {
+        self.pending -= 1;
         let later = self.clock.now();
         let answer = effect.answer;
-        let reply = desk.answer_shown(
-            rt,
-            &mut self.share,
-            &mut self.receipt,
-            held.number,
-            answer,
-            later,
-        );
+        let hold = prepare.held.number;
+        let reply = desk.answer_shown(rt, &mut self.share, &mut self.receipt, hold, answer, later);
         let Ok(outcome) = reply else {
             return Answered::late(None);
         };
@@ -195,31 +172,30 @@ impl<
         if !same(ended, effect.ended) {
             return Answered::late(Some(entry));
         }
-        self.records
-            .push_reserved(record_of(from, packet, held, ended, entry));
+        self.records.push_reserved(record_of(prepare, ended, entry));
         Answered {
             told: effect.told,
             entry: Some(entry),
         }
     }
 
-    // Before the sender is told a Fulfill, has the journal kept, which has its entry. Whatever the
-    // keeper says, the peer has fulfilled, so the sender is told it.
-    pub(crate) fn keep_first(&mut self, told: Told)
-        ensures kept { KeepsFirst told
+    // Has the journal kept that the worker has seen. Tells how many entries that has, and what the keeper
+    // said.
+    pub(crate) fn hand_journal(&mut self) -> HandedJournal<J>
+        ensures entries { result ≡ handed_journal (length self.old.receipt) result.said }
+        ensures kept { IsKept result.said
             (seat self.old.share self.old.records.items (C.told self.old.clock) self.old.receipt
             (K.told self.old.keeper))
             (seat self.new.share self.new.records.items (C.told self.new.clock) self.new.receipt
             (K.told self.new.keeper)) }
         ensures links { (self.new.uplink ≡ self.old.uplink) × (self.new.engine ≡ self.old.engine) }
-        ensures incoming { self.new.incoming ≡ self.old.incoming }
+        ensures reply_in { self.new.reply_in ≡ self.old.reply_in }
+        ensures buffers { (self.new.incoming ≡ self.old.incoming)
+            × (self.new.outgoing ≡ self.old.outgoing) × (self.new.rejected ≡ self.old.rejected) }
+        ensures pending { self.new.pending ≡ self.old.pending }
     {
-        match told {
-            Told::Fulfill => {
-                let _said = self.keep();
-            }
-            Told::Reject(_) => {}
-        }
+        let entries = self.receipt.len();
+        HandedJournal::new(entries, self.keep())
     }
 
     // Has the journal kept that the worker has seen.
@@ -233,39 +209,48 @@ impl<
         ensures reply_in { self.new.reply_in ≡ self.old.reply_in }
         ensures buffers { (self.new.incoming ≡ self.old.incoming)
             × (self.new.outgoing ≡ self.old.outgoing) × (self.new.rejected ≡ self.old.rejected) }
+        ensures pending { self.new.pending ≡ self.old.pending }
     {
         self.keeper.keep(&mut self.receipt)
     }
 
-    // Has the sender answered so.
-    pub(crate) fn tell(&mut self, config: &Config, told: Told)
-        ensures told { IsTold config.now (Some self.old.incoming.octets) told
-            (reply_of self.new.reply_in self.new.incoming.octets self.new.outgoing.octets
-            self.new.rejected.octets) }
+    // Has the sender answered with this Reject of the connector's own.
+    pub(crate) fn reject(&mut self, config: &Config, why: LocalReject)
+        ensures told { Spells (reply_of self.new.reply_in self.new.incoming.octets
+            self.new.rejected.octets) (reject (local_reject config.now why)) }
         ensures share { self.new.share ≡ self.old.share }
         ensures records { self.new.records ≡ self.old.records }
         ensures clock { self.new.clock ≡ self.old.clock }
         ensures links { (self.new.uplink ≡ self.old.uplink) × (self.new.engine ≡ self.old.engine) }
         ensures kept { (self.new.receipt ≡ self.old.receipt) × (self.new.keeper ≡ self.old.keeper) }
+        ensures pending { self.new.pending ≡ self.old.pending }
     {
-        self.reply_in = match told {
-            Told::Fulfill => Buffer::Incoming,
-            Told::Reject(ToldReject::Peer { .. }) => Buffer::Incoming,
-            Told::Reject(ToldReject::Own(why)) => {
-                put_local_reject(&mut self.rejected, config, why);
-                Buffer::Rejected
-            }
-        };
+        put_local_reject(&mut self.rejected, config, why);
+        self.reply_in = Buffer::Rejected;
+    }
+
+    // Has the sender of a packet answered with these octets.
+    pub(crate) fn reply_with(&mut self, octets: Octets<A>)
+        ensures told { reply_of self.new.reply_in self.new.incoming.octets
+            self.new.rejected.octets ≡ octets.octets }
+        ensures share { self.new.share ≡ self.old.share }
+        ensures records { self.new.records ≡ self.old.records }
+        ensures clock { self.new.clock ≡ self.old.clock }
+        ensures links { (self.new.uplink ≡ self.old.uplink) × (self.new.engine ≡ self.old.engine) }
+        ensures kept { (self.new.receipt ≡ self.old.receipt) × (self.new.keeper ≡ self.old.keeper) }
+        ensures pending { self.new.pending ≡ self.old.pending }
+    {
+        self.incoming = octets;
+        self.reply_in = Buffer::Incoming;
     }
 
     // The octets that the sender of the last packet is answered with.
     pub(crate) fn reply(&self) -> &[u8]
         ensures { result.now ≡ reply_of self.now.reply_in self.now.incoming.octets
-            self.now.outgoing.octets self.now.rejected.octets }
+            self.now.rejected.octets }
     {
         match self.reply_in {
             Buffer::Incoming => self.incoming.as_slice(),
-            Buffer::Outgoing => self.outgoing.as_slice(),
             Buffer::Rejected => self.rejected.as_slice(),
         }
     }
@@ -295,9 +280,19 @@ impl<J: Naming, C: Clock + Drop, U: Uplink + Drop, E: EngineLink + Drop, K: Keep
             incoming: _,
             rejected: _,
             reply_in: _,
+            pending: _,
         } = self;
         End::new(share, records)
     }
+}
+
+// Where the octets stand by which the sender of the last packet is answered.
+#[derive(Clone, Copy)]
+pub(crate) enum Buffer {
+    // Where what a peer replied is put, and what the sender of a packet that was forwarded is answered.
+    Incoming,
+    // Where Rejects are written of what is refused at once.
+    Rejected,
 }
 
 // What the sender is told of a hold that ended, and the entry that says so, if it is this one.
@@ -350,21 +345,57 @@ fn same(one: HoldEnd, other: HoldEnd) -> bool
 }
 
 // The record of a hold that ended so, by this entry.
-fn record_of(from: u32, packet: &Prepare<'_>, held: &Held, ended: HoldEnd, entry: u32) -> Record
+fn record_of(prepare: &HeldPrepare, ended: HoldEnd, entry: u32) -> Record
     ensures { (desk : PlainDesk) → result
-        ≡ record_of_end (order desk from (plain_prepare packet.now)) held.now ended entry }
+        ≡ record_of_end (told_order desk prepare.now) prepare.now.held ended entry }
 {
     let ended = AnsweredHold {
-        hold: held.number,
-        from,
-        to: held.to,
-        amount: packet.amount,
-        out: held.out,
-        condition: *packet.condition,
+        hold: prepare.held.number,
+        from: prepare.from,
+        to: prepare.held.to,
+        amount: prepare.amount,
+        out: prepare.held.out,
+        condition: prepare.condition,
         ended,
     };
     Record {
         number: entry,
         what: Recorded::Answered(ended),
     }
+}
+
+// Room for a record more, beside that of so many packets that wait.
+pub(crate) fn reserve_beside<A: Allocator>(
+    records: &mut Vec<Record, A>,
+    pending: usize,
+) -> Result<(), AllocError>
+    ensures items { records.new.items ≡ records.old.items }
+    ensures len { vec_len records.new ≡ vec_len records.old }
+    ensures capacity { vec_capacity records.old ≤ vec_capacity records.new }
+    ensures ok { OnOk result (vec_len records.new + pending < vec_capacity records.new) }
+{
+    let Some(more) = pending.checked_add(1) else {
+        return Err(AllocError);
+    };
+    records.reserve(more)
+}
+
+// Writes the Prepare that the next peer is handed for one that was held, into room that is there.
+pub(crate) fn put_onward<A: Allocator>(out: &mut Octets<A>, packet: &Prepare<'_>, held: &Held)
+    requires packet { IsPrepare (onward (plain_prepare packet.now) held.now) }
+    requires cleared { out.old.octets ≡ [] }
+    requires room { size (prepare (onward (plain_prepare packet.now) held.now)) ≤ out.old.spare }
+    ensures packet { Spells out.new.octets (prepare (onward (plain_prepare packet.now) held.now)) }
+    ensures room { length out.new.octets + out.new.spare ≡ out.old.spare }
+{
+    let onward = Prepare {
+        amount: held.out,
+        expires: held.deadline,
+        condition: packet.condition,
+        destination: packet.destination,
+        payload: packet.payload,
+    };
+    let Ok(()) = write_prepare(out, &onward) else {
+        unreachable!();
+    };
 }

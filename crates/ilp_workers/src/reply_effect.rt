@@ -3,12 +3,12 @@ ghost use Rattle.std.specs.Prelude.{◌≡◌};
 ghost use Rattle.ilp_link_traits.specs.Links.{came_of};
 ghost use Rattle.ilp_workers.specs.Forwarding.{effect_of, effect_of_none, effect_of_fulfill, reject_told, kind_of};
 
-use crate::rejects::{LocalReject, ToldReject};
 use ilp_book::PeerReply;
 use ilp_desk::HoldEnd;
 use ilp_journal::Cause;
 use ilp_link_traits::{LinkFault, ReplyKind};
 use ilp_packet::Packet;
+use ilp_replies::{LocalReject, ToldReject};
 use ilp_terms::meets;
 
 /// What the sender of a Prepare is told.

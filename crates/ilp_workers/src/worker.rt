@@ -1,31 +1,36 @@
-//! A worker: it forwards packets, one at a time.
-ghost use Rattle.std.specs.Prelude.{◌≡◌, [], Some, unwrap_or, IfOk, IfErr};
+//! A worker: it forwards packets, each in two halves.
+ghost use Rattle.std.specs.Prelude.{◌≡◌, ◌+◌, ◌<◌, length, [], Some, unwrap_or, IfOk, IfErr};
 ghost use Rattle.ilp_book.specs.Configured.{IsKnown};
 ghost use Rattle.ilp_book.specs.SettleStep.{payment};
-ghost use Rattle.ilp_packet.specs.Packet.{plain_prepare, prepare, IsPrepare, Spells};
-ghost use Rattle.ilp_packet.specs.Writing.{size};
+ghost use Rattle.ilp_packet.specs.Packet.{prepare};
 ghost use Rattle.ilp_desk.specs.Portion.{holding};
-ghost use Rattle.ilp_workers.specs.Worker.{worker};
+ghost use Rattle.ilp_workers.specs.Worker.{worker, replied};
 ghost use Rattle.ilp_workers.specs.Crediting.{Credits};
-ghost use Rattle.ilp_workers.specs.Messaging.{peer_answer_of, Messages};
-ghost use Rattle.ilp_workers.specs.Forwarding.{order, IsForwardedBy};
-ghost use Rattle.ilp_workers.specs.Arrivals.{arrival, IsBad, Forwards};
+ghost use Rattle.ilp_replies.specs.Messages.{peer_answer_of};
+ghost use Rattle.ilp_workers.specs.Messaging.{Messages};
+ghost use Rattle.ilp_replies.specs.Replies.{octets_of};
+ghost use Rattle.ilp_workers.specs.Booked.{behind_of, handed_journal};
+ghost use Rattle.ilp_workers.specs.MessageHalves.{IsEngineHanded, Addresses};
+ghost use Rattle.ilp_workers.specs.Halves.{Begins, waiting_more, IsHanded, IsBooked, IsHandedOn, IsKeptFor, IsFinished};
+ghost use Rattle.ilp_workers.specs.Arrivals.{arrival, Forwards};
 
+use crate::arrivals::{BadPacket, prepare_in};
+use crate::booked::{Booked, HandedJournal};
 use crate::crediting::NotCredited;
-use crate::messaging::{MessageFault, is_for_engine, peer_answer_in};
-use crate::parts::Parts;
-use crate::rejects::{LONGEST_LOCAL_REJECT, ToldReject};
-use crate::reply::{BadPacket, Buffer, Receipt};
-use crate::reply_effect::Told;
+use crate::in_flight::{Begun, Pending};
+use crate::parts::{Buffer, Parts};
 use ilp_book::Kept;
 use ilp_desk::{Desk, End, JournalReceipt, Naming, Record, Share};
 use ilp_journal::Key;
 use ilp_keeping::Keeper;
 use ilp_link_traits::{Clock, EngineLink, Uplink};
 use ilp_oer::Octets;
-use ilp_packet::{Packet, Prepare};
+use ilp_replies::{
+    Answer, EngineMessage, LONGEST_LOCAL_REJECT, MessageFault, PeerMessage, Receipt, ToldReject,
+    is_for_engine, peer_answer_in,
+};
 use ilp_settlement::Quantity;
-use std::alloc::{AllocError, Allocator, Global};
+use std::alloc::{Allocator, Global};
 use std::marker::Model;
 use std::sync::Wait;
 
@@ -55,7 +60,7 @@ impl<
 
     ghost Value = { PlainWorker };
 
-    ghost view = { λ w. worker w.parts.share w.parts.records.items (C.told w.parts.clock) (U.told w.parts.uplink) (E.told w.parts.engine) w.parts.receipt (K.told w.parts.keeper) (reply_of w.parts.reply_in w.parts.incoming.octets w.parts.outgoing.octets w.parts.rejected.octets) };
+    ghost view = { λ w. worker w.parts.share w.parts.records.items (C.told w.parts.clock) (U.told w.parts.uplink) (E.told w.parts.engine) w.parts.receipt (K.told w.parts.keeper) (reply_of w.parts.reply_in w.parts.incoming.octets w.parts.rejected.octets) w.parts.pending };
 }
 
 /// What was given for a worker that there is no memory for, as it was given.
@@ -104,7 +109,7 @@ impl<
     where
         A: Copy,
         ensures worker { IfOk result (λ w. w ≡ worker share [] (C.told clock) (U.told uplink) (E.told engine)
-            receipt (K.told keeper) []) }
+            receipt (K.told keeper) [] 0) }
         ensures share { IfErr result (λ e. e.share ≡ share) }
         ensures links { IfErr result (λ e. (e.clock ≡ clock) × (e.uplink ≡ uplink) × (e.engine ≡ engine)) }
         ensures kept { IfErr result (λ e. (e.receipt ≡ receipt) × (e.keeper ≡ keeper)) }
@@ -132,6 +137,7 @@ impl<
             incoming: Octets::new(alloc),
             rejected,
             reply_in: Buffer::Incoming,
+            pending: 0,
         };
         Ok(Worker { parts })
     }
@@ -150,21 +156,29 @@ impl<
         self.parts.records.as_slice()
     }
 
-    /// The octets of the Fulfill or the Reject that the sender of the last packet is answered with,
-    /// or of the Fulfill that answered the last message. There are none before the first, and none
-    /// after a message that no answer came for, or no memory was there for.
+    /// The octets of the Fulfill or the Reject that the sender of the last packet is answered with that
+    /// was forwarded or refused at once, or of the Fulfill that answered the last message. There are
+    /// none before the first, and none after a message that no answer came for, or no memory was there
+    /// for. What is finished or booked leaves them.
     pub fn reply(&self) -> &[u8]
         ensures { result.now ≡ self.now.reply }
     {
         self.parts.reply()
     }
 
+    /// How many packets it began that wait.
+    pub fn pending(&self) -> usize
+        ensures { result ≡ self.now.pending }
+    {
+        self.parts.pending
+    }
+
     /// Forwards the octets that a peer sent (RFC 0027): `reply` has the answer then, and the receipt
-    /// names the Reject, where it is one. The amount of a
-    /// Prepare is held against the peer's balance, a Prepare of what is left goes to the peer of the
-    /// destination's route, and what that peer replies is booked and passed on in its own octets.
-    /// Whatever keeps the Prepare from that is a Reject of the connector's own. No lock is held while
-    /// the peer is asked. Octets that are no Prepare are refused, and leave all as it was.
+    /// names the Reject, where it is one. The amount of a Prepare is held against the peer's balance, a
+    /// Prepare of what is left goes to the peer of the destination's route, and what that peer replies
+    /// is booked and passed on in its own octets. Whatever keeps the Prepare from that is a Reject of
+    /// the connector's own. No lock is held while the peer is asked. Octets that are no Prepare are
+    /// refused, and leave all as it was.
     ///
     /// Where the keeper says that entries are not kept, no Prepare is held. Once one is fulfilled, the
     /// keeper is handed the journal that says so before `forward` returns. Whatever it says of it, the
@@ -180,53 +194,161 @@ impl<
         from: u32,
         octets: &[u8],
     ) -> Result<Receipt, BadPacket>
+    where
+        A: Copy,
         requires known { IsKnown J.desk.config from }
-        ensures { Forwards (arrival J.desk from octets.now) self.old self.new result }
+        ensures forwarded { Forwards (arrival J.desk from octets.now) self.old self.new result }
+        ensures pending { self.new.pending ≡ self.old.pending }
+        ensures actor { self.new.share.actor ≡ self.old.share.actor }
+    {
+        match self.begin(rt, desk, from, octets) {
+            Ok(Begun::Waits(pending)) => {
+                let came = self.hand(&pending);
+                let answer = self.finish(rt, desk, pending, came);
+                Ok(self.reply_with(answer))
+            }
+            Ok(Begun::Asks(message)) => {
+                let came = self.ask(&message);
+                let answer = message.answer(desk.config(), came);
+                Ok(self.reply_with(answer))
+            }
+            Ok(Begun::Answered(receipt)) => Ok(receipt),
+            Err(fault) => Err(fault),
+        }
+    }
+
+    /// The first half of a forward: the Prepare that a peer sent is held, and waits with what the next
+    /// peer is to be handed. Where it is refused the sender is answered at once, and `reply` has the
+    /// answer. Any number may wait, for as long as memory lasts; room for the record of each is kept,
+    /// and for the Reject of each. Octets that are no Prepare leave all as it was.
+    ///
+    /// Of a Prepare to `peer.settle` nothing waits in the worker: what the engine here is to be handed
+    /// is the message, which is answered without a worker.
+    pub fn begin(
+        &mut self,
+        rt: &impl Wait,
+        desk: &Desk<J>,
+        from: u32,
+        octets: &[u8],
+    ) -> Result<Begun<J, A>, BadPacket>
+    where
+        A: Copy,
+        requires known { IsKnown J.desk.config from }
+        ensures begun { Begins (arrival J.desk from octets.now) self.old self.new result }
+        ensures pending { self.new.pending ≡ self.old.pending + waiting_more result }
+        ensures actor { self.new.share.actor ≡ self.old.share.actor }
     {
         let prepare = match prepare_in(octets) {
             Ok(prepare) => prepare,
             Err(fault) => return Err(fault),
         };
         if is_for_engine(&prepare) {
-            let rejected = self.parts.hand_over(desk.config(), from, &prepare);
-            return Ok(Receipt::unbooked(rejected));
+            return Ok(self.parts.begin_message(desk.config(), from, &prepare));
         }
-        Ok(self.pass_on(rt, desk, from, &prepare, octets.len()))
+        Ok(self.parts.begin(rt, desk, from, &prepare, octets.len()))
     }
 
-    // Holds a Prepare of so many octets, hands it on, books what came back, and has the sender
-    // answered. The lock is free while the peer is asked.
-    fn pass_on(
+    // Hands what waits to the next peer, and waits for what that replies.
+    fn hand(&mut self, pending: &Pending<J, A>) -> Option<Octets<A>>
+    where
+        A: Copy,
+        ensures handed { IsHanded pending.now (octets_of result) self.old self.new }
+        ensures pending { self.new.pending ≡ self.old.pending }
+        ensures actor { self.new.share.actor ≡ self.old.share.actor }
+    {
+        self.parts.hand(pending)
+    }
+
+    // Hands a message to the engine here, and waits for what that answers.
+    fn ask(&mut self, message: &EngineMessage<A>) -> Option<Octets<A>>
+    where
+        A: Copy,
+        ensures handed { IsEngineHanded message.now (octets_of result) self.old self.new }
+        ensures pending { self.new.pending ≡ self.old.pending }
+        ensures actor { self.new.share.actor ≡ self.old.share.actor }
+    {
+        self.parts.ask(message)
+    }
+
+    // Has the sender of a packet answered so.
+    fn reply_with(&mut self, answer: Answer<A>) -> Receipt
+        ensures replied { self.new ≡ replied self.old answer.octets.octets }
+        ensures receipt { result ≡ answer.receipt }
+    {
+        let Answer { receipt, octets } = answer;
+        self.parts.reply_with(octets);
+        receipt
+    }
+
+    /// The second half of a forward: what came for a packet of this worker that waits, or that nothing
+    /// did, is booked, a Fulfill is kept, and the sender's answer is handed back. It takes no memory.
+    /// What waits may be finished in any order.
+    pub fn finish(
         &mut self,
         rt: &impl Wait,
         desk: &Desk<J>,
-        from: u32,
-        packet: &Prepare<'_>,
-        len: usize,
-    ) -> Receipt
-        requires known { IsKnown J.desk.config from }
-        requires packet { IsPrepare (plain_prepare packet.now) }
-        requires len { len ≡ size (prepare (plain_prepare packet.now)) }
-        ensures { IsForwardedBy (order J.desk from (plain_prepare packet.now)) self.old self.new
-            result.hold result.answer result.rejected }
+        pending: Pending<J, A>,
+        came: Option<Octets<A>>,
+    ) -> Answer<A>
+    where
+        A: Copy,
+        requires mine { pending.actor ≡ self.old.share.actor }
+        requires waits { 0 < self.old.pending }
+        ensures finished { IsFinished J.desk pending (octets_of came) self.old self.new
+            result.receipt result.octets.octets }
+        ensures pending { self.new.pending + 1 ≡ self.old.pending }
+        ensures actor { self.new.share.actor ≡ self.old.share.actor }
     {
-        let held = match self.parts.hold(rt, desk, from, packet, len) {
-            Ok(held) => held,
-            Err(why) => {
-                let reject = ToldReject::Own(why);
-                self.parts.tell(desk.config(), Told::Reject(reject));
-                return Receipt::unbooked(Some(reject));
-            }
-        };
-        let effect = self.parts.send_on(packet, &held);
-        let ended = self.parts.end(rt, desk, from, packet, &held, &effect);
-        self.parts.keep_first(ended.told);
-        self.parts.tell(desk.config(), ended.told);
-        Receipt {
-            hold: Some(held.number),
-            answer: ended.entry,
-            rejected: ended.told.rejected(),
+        let booked = self.book(rt, desk, pending, came);
+        let handed = self.keep_for(booked.receipt().rejected);
+        booked.tell(&handed)
+    }
+
+    // Has the keeper keep what is booked, unless the sender is told a Reject.
+    fn keep_for(&mut self, rejected: Option<ToldReject>) -> HandedJournal<J>
+        ensures kept { IsKeptFor rejected self.old self.new }
+        ensures entries { result.entries ≡ behind_of rejected (length self.old.seen) }
+        ensures pending { self.new.pending ≡ self.old.pending }
+        ensures actor { self.new.share.actor ≡ self.old.share.actor }
+    {
+        match rejected {
+            None => self.keep(),
+            Some(_) => HandedJournal::none(),
         }
+    }
+
+    /// The first part of `finish`: what came for a packet of this worker that waits, or that nothing
+    /// did, is booked. The sender is to be told what is booked, a Fulfill once `keep` was called: one
+    /// call serves all that is booked by then. It takes no memory.
+    pub fn book(
+        &mut self,
+        rt: &impl Wait,
+        desk: &Desk<J>,
+        pending: Pending<J, A>,
+        came: Option<Octets<A>>,
+    ) -> Booked<J, A>
+    where
+        A: Copy,
+        requires mine { pending.actor ≡ self.old.share.actor }
+        requires waits { 0 < self.old.pending }
+        ensures booked { IsBooked J.desk pending (octets_of came) self.old self.new result }
+        ensures pending { self.new.pending + 1 ≡ self.old.pending }
+        ensures actor { self.new.share.actor ≡ self.old.share.actor }
+    {
+        let prepare = pending.prepare();
+        let room = pending.into_room();
+        self.parts.book(rt, desk, &prepare, room, came)
+    }
+
+    /// Has the keeper keep all that the worker has booked, and waits for that. What it says changes
+    /// nothing that is booked.
+    pub fn keep(&mut self) -> HandedJournal<J>
+        ensures kept { IsHandedOn result.said self.old self.new }
+        ensures entries { result ≡ handed_journal (length self.old.seen) result.said }
+        ensures pending { self.new.pending ≡ self.old.pending }
+        ensures actor { self.new.share.actor ≡ self.old.share.actor }
+    {
+        self.parts.hand_journal()
     }
 
     /// Credits a settlement that a peer's engine tells of (RFC 0038), once for each of the peer's
@@ -243,7 +365,9 @@ impl<
         quantity: &Quantity,
     ) -> Result<Kept, NotCredited>
         requires known { IsKnown J.desk.config peer }
-        ensures { Credits J.desk (payment peer key quantity.now) self.old self.new result }
+        ensures credited { Credits J.desk (payment peer key quantity.now) self.old self.new result }
+        ensures pending { self.new.pending ≡ self.old.pending }
+        ensures actor { self.new.share.actor ≡ self.old.share.actor }
     {
         self.parts.credit(rt, desk, peer, key, quantity)
     }
@@ -253,9 +377,27 @@ impl<
     /// `Ok`, `message_answer` has what the peer's engine answered. A message of more than 32,767 octets
     /// is refused, and leaves all as it was. After another fault `reply` and `message_answer` are empty.
     pub fn message(&mut self, desk: &Desk<J>, peer: u32, octets: &[u8]) -> Result<(), MessageFault>
-        ensures { Messages J.desk.config peer octets.now self.old self.new result }
+        ensures messages { Messages J.desk.config peer octets.now self.old self.new result }
+        ensures pending { self.new.pending ≡ self.old.pending }
+        ensures actor { self.new.share.actor ≡ self.old.share.actor }
     {
         self.parts.send_message(desk.config(), peer, octets)
+    }
+
+    /// The first half of a message to the engine of a peer: what the peer is to be handed, and until
+    /// when its reply counts. `peer_answer_in` reads the reply. A message of more than 32,767 octets is
+    /// refused, and leaves all as it was; `Memory` tells that memory for its packet was denied.
+    pub fn begin_message(
+        &mut self,
+        desk: &Desk<J>,
+        peer: u32,
+        octets: &[u8],
+    ) -> Result<PeerMessage<A>, MessageFault>
+    where
+        A: Copy,
+        ensures addresses { Addresses J.desk.config peer octets.now self.old self.new result }
+    {
+        self.parts.begin_send(desk.config(), peer, octets)
     }
 
     /// The data of the Fulfill of 32 zero octets that `reply` has; none where it has no such Fulfill.
@@ -274,24 +416,13 @@ impl<
     E: EngineLink + Drop,
     K: Keeper<J> + Drop,
 > Worker<J, C, U, E, K> {
-    /// What the worker hands back in the end: its share and its records.
+    /// What the worker hands back in the end, when none of its packets waits: its share and its
+    /// records.
     pub fn into_end(self) -> End<J>
+        requires none { self.pending ≡ 0 }
         ensures { result ≡ holding self.share self.records }
     {
         let Worker { parts } = self;
         parts.into_end()
-    }
-}
-
-// The Prepare that the octets stand for.
-fn prepare_in(octets: &[u8]) -> Result<Prepare<'_>, BadPacket>
-    ensures ok { IfOk result (λ p. Spells octets.now (prepare (plain_prepare p))) }
-    ensures err { IfErr result (λ fault. IsBad octets.now fault) }
-{
-    match Packet::read(octets) {
-        Ok(Packet::Prepare(prepare)) => Ok(prepare),
-        Ok(Packet::Fulfill(_)) => Err(BadPacket::NotPrepare),
-        Ok(Packet::Reject(_)) => Err(BadPacket::NotPrepare),
-        Err(fault) => Err(BadPacket::Unread(fault)),
     }
 }

@@ -42,6 +42,7 @@ fn print_numbers(rt: &impl Print, config: &Config) -> io::Result<()> {
     println!(rt; "sweep_ms {}", config.sweep_ms())?;
     println!(rt; "settle_ms {}", config.settle_ms())?;
     println!(rt; "sync {:?}", config.sync())?;
+    println!(rt; "in_flight {}", config.in_flight())?;
     println!(rt; "peers {}", config.peers())?;
     println!(rt; "routes {}", config.routes())
 }

@@ -1,4 +1,5 @@
 //! A connection: what comes in, and what is answered.
+ghost use Rattle.std.specs.Prelude.{◌≡◌};
 
 use super::Given;
 use super::steps::{Connection, Step};
@@ -22,14 +23,16 @@ pub(crate) fn answer<
     U: Uplink + Drop,
     E: EngineLink + Drop,
     K: Keeper<J> + Drop,
-    A: Allocator,
+    A: Allocator + Copy,
 >(
     rt: &(impl Print + Wait),
     desk: &Desk<J>,
     worker: &mut Worker<J, C, U, E, K, A>,
     buffer: &mut Buffer,
     connection: &Connection<'_>,
-) -> io::Result<()> {
+) -> io::Result<()>
+    ensures pending { worker.new.pending ≡ worker.old.pending }
+{
     let alloc = desk.config().allocator();
     let octets = connection.octets(alloc)?;
     let mut source = match connection.fails_after {
@@ -59,13 +62,15 @@ pub(crate) fn answer_each<
     U: Uplink + Drop,
     E: EngineLink + Drop,
     K: Keeper<J> + Drop,
-    A: Allocator,
+    A: Allocator + Copy,
 >(
     rt: &(impl Print + Wait),
     desk: &Desk<J>,
     worker: &mut Worker<J, C, U, E, K, A>,
     given: &Given<'_>,
-) -> io::Result<()> {
+) -> io::Result<()>
+    ensures pending { worker.new.pending ≡ worker.old.pending }
+{
     let mut buffer = Buffer::new(desk.config().allocator())?;
     for step in given.steps.split("-- ").skip(1) {
         if let Some(Step::Connection(connection)) = Step::of(step) {

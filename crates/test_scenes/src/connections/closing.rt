@@ -1,4 +1,5 @@
 //! The end of a desk whose worker and settler have taken their steps.
+ghost use Rattle.std.specs.Prelude.{◌≡◌};
 
 use super::Given;
 use super::answering::answer_each;
@@ -84,7 +85,9 @@ fn end_of_answers<J: Naming, C: Clock + Drop, U: Uplink + Drop, E: EngineLink + 
     desk: &Desk<J>,
     worker: Worker<J, C, U, E, Forgetful>,
     given: &Given<'_>,
-) -> End<J> {
+) -> End<J>
+    requires idle { worker.pending ≡ 0 }
+{
     let mut worker = worker;
     let _ = answer_each(rt, desk, &mut worker, given);
     worker.into_end()
@@ -116,7 +119,9 @@ fn end_of_turns<J: Naming, C: Clock + Drop, E: EngineLink + Drop>(
     desk: &Desk<J>,
     settler: Settler<J, C, E, Forgetful>,
     given: &Given<'_>,
-) -> End<J> {
+) -> End<J>
+    requires idle { settler.pending ≡ 0 }
+{
     let mut settler = settler;
     let _ = settle_each(rt, desk, &mut settler, given);
     settler.into_end()

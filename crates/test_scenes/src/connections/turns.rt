@@ -1,4 +1,5 @@
 //! Turns of a settler.
+ghost use Rattle.std.specs.Prelude.{◌≡◌};
 
 use super::Given;
 use super::steps::Step;
@@ -16,13 +17,15 @@ pub(crate) fn settle<
     C: Clock + Drop,
     E: EngineLink + Drop,
     K: Keeper<J> + Drop,
-    A: Allocator,
+    A: Allocator + Copy,
 >(
     rt: &(impl Print + Wait),
     desk: &Desk<J>,
     settler: &mut Settler<J, C, E, K, A>,
     peer: u32,
-) -> io::Result<()> {
+) -> io::Result<()>
+    ensures pending { settler.new.pending ≡ settler.old.pending }
+{
     if peer >= desk.config().peers() {
         return println!(rt; "no peer");
     }
@@ -38,13 +41,15 @@ pub(crate) fn settle_each<
     C: Clock + Drop,
     E: EngineLink + Drop,
     K: Keeper<J> + Drop,
-    A: Allocator,
+    A: Allocator + Copy,
 >(
     rt: &(impl Print + Wait),
     desk: &Desk<J>,
     settler: &mut Settler<J, C, E, K, A>,
     given: &Given<'_>,
-) -> io::Result<()> {
+) -> io::Result<()>
+    ensures pending { settler.new.pending ≡ settler.old.pending }
+{
     for step in given.steps.split("-- ").skip(1) {
         if let Some(Step::Turn { peer }) = Step::of(step) {
             settle(rt, desk, settler, peer)?;

@@ -1,4 +1,5 @@
 //! One packet of alice: what bob is handed, what alice is answered, and what is booked.
+ghost use Rattle.std.specs.Prelude.{◌≡◌};
 
 use super::Given;
 use crate::links::bob::Bob;
@@ -57,7 +58,7 @@ pub(crate) fn print_forward<J: Naming, C: Clock + Drop, U: Uplink + Drop>(
 }
 
 /// Prints what a worker answers alice for a packet, and what it books.
-pub(crate) fn print_answer<J: Naming, C: Clock + Drop, U: Uplink + Drop, A: Allocator>(
+pub(crate) fn print_answer<J: Naming, C: Clock + Drop, U: Uplink + Drop, A: Allocator + Copy>(
     rt: &(impl Print + Wait),
     desk: &Desk<J>,
     worker: &mut Worker<J, C, U, NoEngine, Forgetful, A>,
@@ -95,7 +96,9 @@ pub(crate) fn forward<J: Naming, C: Clock + Drop, U: Uplink + Drop>(
     desk: &Desk<J>,
     from: u32,
     packet: &[u8],
-) -> Option<Receipt> {
+) -> Option<Receipt>
+    ensures pending { worker.new.pending ≡ worker.old.pending }
+{
     if from < desk.config().peers() {
         worker.forward(rt, desk, from, packet).ok()
     } else {

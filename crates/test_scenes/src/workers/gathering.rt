@@ -1,4 +1,5 @@
 //! The end of a desk: what its actors hand back, and what is gathered of it.
+ghost use Rattle.std.specs.Prelude.{◌≡◌};
 
 use super::Given;
 use super::forwards::forward;
@@ -149,7 +150,9 @@ fn end_after<J: Naming, U: Uplink + Drop>(
     desk: &Desk<J>,
     worker: Worker<J, Still, U, NoEngine, Forgetful>,
     packet: &[u8],
-) -> End<J> {
+) -> End<J>
+    requires idle { worker.pending ≡ 0 }
+{
     let mut worker = worker;
     let _ = forward(rt, &mut worker, desk, ALICE, packet);
     worker.into_end()

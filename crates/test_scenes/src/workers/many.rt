@@ -1,4 +1,5 @@
 //! Many workers that forward at once, and what their ends add up to.
+ghost use Rattle.std.specs.Prelude.{◌≡◌};
 
 use super::Given;
 use super::forwards::forward;
@@ -148,7 +149,9 @@ fn end_after<J: Naming>(
     worker: Worker<J, Still, Fickle, NoEngine, Forgetful>,
     given: &Given<'_>,
     fulfilled: &AtomicU64,
-) -> End<J> {
+) -> End<J>
+    requires idle { worker.pending ≡ 0 }
+{
     let mut worker = worker;
     let dice = Dice::of_worker(worker.share().actor());
     let forwarded = forward_many(rt, desk, &mut worker, given, dice);
@@ -163,7 +166,9 @@ fn forward_many<J: Naming>(
     worker: &mut Worker<J, Still, Fickle, NoEngine, Forgetful>,
     given: &Given<'_>,
     dice: Dice,
-) -> u64 {
+) -> u64
+    ensures pending { worker.new.pending ≡ worker.old.pending }
+{
     let mut dice = dice;
     let mut fulfilled = 0u64;
     for _packet in 0..PACKETS {
@@ -182,7 +187,9 @@ fn is_fulfilled<J: Naming>(
     worker: &mut Worker<J, Still, Fickle, NoEngine, Forgetful>,
     given: &Given<'_>,
     amount: u64,
-) -> bool {
+) -> bool
+    ensures pending { worker.new.pending ≡ worker.old.pending }
+{
     let alloc = desk.config().allocator();
     let (from, packet) = if amount % 2 == 0 {
         (ALICE, given.packet)

@@ -2,6 +2,7 @@
 //! `docs/PROTOCOL.md`, written out by hand.
 
 mod calls;
+mod driven;
 mod events;
 mod hearing;
 mod lines;
@@ -11,9 +12,10 @@ mod stand_in;
 use super::sockets::accept;
 use super::{FULFILL, START, Still};
 use calls::{Scene, answer_of, reply_of};
+use driven::Driven;
 use hearing::{At, Hearing};
 use ilp_link_traits::{Clock, EngineLink, EngineReply, ReplyKind, Uplink};
-use ilp_links::{Links, SystemClock, TcpLinks, TimedReader, TimedWriter, instant_after};
+use ilp_links::{Outside, SystemClock};
 use stage::{Play, stage};
 use stand_in::Does;
 use std::alloc::Global;
@@ -23,7 +25,7 @@ use std::net::{Net, TcpListener, TcpStream};
 use std::process::Abort;
 use std::test::*;
 use std::thread::Threads;
-use std::time::Duration;
+use std::time::{Duration, Instant};
 
 const CREATED: &[u8] = b"HTTP/1.1 201 Created\r\nContent-Length: 0\r\n\r\n";
 
@@ -133,13 +135,12 @@ where
     R: Threads + std::time::Clock + Abort + Copy + Sync,
     H: Net<Stream = TcpStream> + std::time::Clock + Eprint + Sync,
 {
-    let mut link = TcpLinks::new(
-        hearing,
-        scene.config,
-        Still,
-        scene.notices,
-        scene.hurry,
-    ).uplink()?;
+    let outside = Outside {
+        rt: hearing,
+        config: scene.config,
+        notices: scene.notices,
+    };
+    let mut link = Driven::new(outside, scene.alloc)?;
     send_to_alice(scene, &mut link)
 }
 
@@ -190,13 +191,12 @@ where
     R: Abort,
     H: Net<Stream = TcpStream> + std::time::Clock + Eprint + Sync,
 {
-    let mut link = TcpLinks::new(
-        hearing,
-        scene.config,
-        Still,
-        scene.notices,
-        scene.hurry,
-    ).uplink()?;
+    let outside = Outside {
+        rt: hearing,
+        config: scene.config,
+        notices: scene.notices,
+    };
+    let mut link = Driven::new(outside, scene.alloc)?;
     send_to_nobody(scene.rt, scene.alloc, &mut link);
     Ok(())
 }
@@ -265,6 +265,22 @@ fn ask_no_engine<E: EngineLink>(rt: &impl Abort, alloc: Global, link: &mut E) {
     }
 }
 
+// Once the connector ends, an engine of bob's that does not answer has a second left.
+fn hurry<R, H>(scene: Scene<'_, R>, link: &mut Driven<'_, H>) -> io::Result<()>
+where
+    R: Threads + std::time::Clock + Abort + Sync,
+    H: Net + std::time::Clock + Eprint,
+{
+    let begun = Instant::now(scene.rt)?;
+    link.hurries = true;
+    let (_, has) = scene.asked_in_vain(link);
+    let took = begun.elapsed(scene.rt)?;
+    assert!(scene.rt; !has);
+    assert!(scene.rt; took >= Duration::from_millis(990));
+    assert!(scene.rt; took < Duration::from_secs(5));
+    Ok(())
+}
+
 fn play_engines<R>(scene: Scene<'_, R>) -> io::Result<()>
 where
     R: Net<Stream = TcpStream, Listener = TcpListener>
@@ -289,79 +305,22 @@ where
     R: Threads + std::time::Clock + Abort + Copy + Sync,
     H: Net<Stream = TcpStream> + std::time::Clock + Eprint + Sync,
 {
-    let mut link = TcpLinks::new(
-        hearing,
-        scene.config,
-        Still,
-        scene.notices,
-        scene.hurry,
-    ).engine()?;
+    let outside = Outside {
+        rt: hearing,
+        config: scene.config,
+        notices: scene.notices,
+    };
+    let mut link = Driven::new(outside, scene.alloc)?;
     ask_no_engine(scene.rt, scene.alloc, &mut link);
     ask_for_accounts(scene, &mut link)?;
     ask_for_settlements(scene, &mut link)?;
     send_messages(scene, &mut link)?;
-    scene.hurries(&mut link)
+    hurry(scene, &mut link)
 }
 
 #[test]
 fn calls_of_engines(rt: HostRuntime) -> Result<(), Fail> {
     stage(&rt, rt.alloc(), Play::Engines)?;
-    Ok(())
-}
-
-// Writes to a connection that was closed fail, and don't end the process.
-fn write_until_closed<R: std::time::Clock + Abort>(rt: &R, stream: &TcpStream) -> io::Result<()> {
-    let mut sink = TimedWriter::new(rt, stream, instant_after(rt, Duration::from_secs(30))?);
-    for _ in 0..10_000 {
-        if let Err(error) = sink.write(b"octets") {
-            assert!(rt; error.kind() != ErrorKind::TimedOut);
-            return Ok(());
-        }
-    }
-    Err(io::Error::from(ErrorKind::Other))
-}
-
-// A read has what is left of the time, and none when that is over.
-fn read_until_late<R: std::time::Clock + Abort>(rt: &R, stream: &TcpStream) -> io::Result<()> {
-    let mut source = TimedReader::new(rt, stream, instant_after(rt, Duration::from_millis(50))?);
-    let mut room = [0; 8];
-    let first = source.read(&mut room);
-    assert!(rt; first.is_err_and(|error| error.kind() == ErrorKind::WouldBlock));
-    let second = source.read(&mut room);
-    assert!(rt; second.is_err_and(|error| error.kind() == ErrorKind::TimedOut));
-    Ok(())
-}
-
-// The other side of a connection is open, and then closed.
-fn read_and_write<R: std::time::Clock + Abort>(
-    rt: &R,
-    listener: &TcpListener,
-    stream: &TcpStream,
-) -> io::Result<()> {
-    let theirs = accept(rt, listener)?;
-    read_until_late(rt, stream)?;
-    drop(theirs);
-    write_until_closed(rt, stream)
-}
-
-fn play_timed<R>(scene: Scene<'_, R>) -> io::Result<()>
-where
-    R: Net<Stream = TcpStream, Listener = TcpListener>
-        + Threads
-        + std::time::Clock
-        + Eprint
-        + Abort
-        + Copy
-        + Send
-        + Sync,
-{
-    let stream = TcpStream::connect(scene.rt, scene.place)?;
-    read_and_write(scene.rt, scene.listener, &stream)
-}
-
-#[test]
-fn timed_streams(rt: HostRuntime) -> Result<(), Fail> {
-    stage(&rt, rt.alloc(), Play::Timed)?;
     Ok(())
 }
 

@@ -15,7 +15,7 @@ use conversation::{Others, converse};
 use ilp_accounts::Config;
 use ilp_book::Book;
 use ilp_config_file::BUILT_IN;
-use ilp_links::{Hurry, TcpLinks};
+use ilp_links::TcpLinks;
 use ilp_notices::Notices;
 use ilp_running::serve;
 use messages::{PRINTED, PRINTED_OF_PARTS, PRINTED_OF_SILENCE, SWEPT};
@@ -47,8 +47,7 @@ where
         + Sync,
     C: ilp_link_traits::Clock + Copy + Drop + Send,
 {
-    let hurry = Hurry::new();
-    let links = TcpLinks::new(*rt, config, clock, notices, &hurry);
+    let links = TcpLinks::new(clock, notices);
     let mut writer = Vec::new(config.allocator());
     let book = Book::new(config.allocator(), config)?;
     match serve(rt, config, book, &links, &mut writer) {

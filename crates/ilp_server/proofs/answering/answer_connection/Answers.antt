@@ -4,8 +4,8 @@ use Rattle.ilp_server.proofs.Responses.{none_failed_unread}
 use Rattle.ilp_server.proofs.answering.answer_connection.Goals as goal
 
 -- a request was read, and served
-pub returns-in-Ok : goal.returns-in-Ok
-returns-in-Ok g c = record {
+pub returns-in-Ok-clause-answers : goal.returns-in-Ok-clause-answers
+returns-in-Ok-clause-answers g c = record {
   request = Ok c.in-Ok.request;
   read = c.in-Ok.ensures.answer;
   begun = c.in-Ok.ensures.begun;
@@ -13,14 +13,14 @@ returns-in-Ok g c = record {
   counted = c.in-Ok.ensures.counted;
   patient = c.in-Ok.ensures.patient;
   outcome = Ok c.serve-outcome.result;
-  served = c.serve-outcome.ensures;
+  served = c.serve-outcome.ensures.served;
   told = c.respond.ensures.written;
   failed = c.respond.ensures.failed;
 }
 
 -- what was read is refused
-pub returns-in-Ok-unread : goal.returns-in-Ok-unread
-returns-in-Ok-unread g c = record {
+pub returns-in-Ok-unread-clause-answers : goal.returns-in-Ok-unread-clause-answers
+returns-in-Ok-unread-clause-answers g c = record {
   request = Err c.in-Err.fault;
   read = c.in-Err.ensures.answer;
   begun = tt;
@@ -34,8 +34,8 @@ returns-in-Ok-unread g c = record {
 }
 
 -- there is nothing to answer
-pub returns-in-Err-unread : goal.returns-in-Err-unread
-returns-in-Err-unread g c = record {
+pub returns-in-Err-unread-clause-answers : goal.returns-in-Err-unread-clause-answers
+returns-in-Err-unread-clause-answers g c = record {
   request = Err c.in-Err.fault;
   read = c.in-Err.ensures.answer;
   begun = tt;

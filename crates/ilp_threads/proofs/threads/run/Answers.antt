@@ -13,12 +13,8 @@ scoped-requires g c =
         search sendable depth 20,
         search sendable depth 20,
         search sendable depth 20,
-        search sendable depth 20,
-        search sendable depth 20,
       ),
       (
-        search sendable depth 20,
-        search sendable depth 20,
         search sendable depth 20,
         search sendable depth 20,
         search sendable depth 20,

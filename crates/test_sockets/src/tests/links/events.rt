@@ -106,7 +106,7 @@ fn happen<R: Clock + Eprint + Wait>(rt: &R, notices: &Notices, config: &Config, 
             notices.wrong_token(rt, Some(IpAddr::V4(Ipv4Addr::new(192, 0, 2, last))));
         }
         Event::Rejected(peer, code) => notices.rejected(rt, peer, code),
-        Event::WorkWaits(seconds) => notices.work_waits(rt, config, seconds),
+        Event::WorkWaits(seconds) => notices.work_waits(rt, config, 4, seconds),
         Event::WorkGoesOn => notices.work_goes_on(),
         Event::JournalHas(entries) => notices.journal(rt, entries, 65_536),
         Event::JournalIsFull => notices.journal_full(rt, 65_536, 65_536),

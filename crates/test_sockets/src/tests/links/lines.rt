@@ -163,7 +163,7 @@ fn who_waits_for_whom(rt: HostRuntime) -> Result<(), Fail> {
         Row(
             0,
             WorkWaits(5),
-            "1970-01-01T00:00:00.000Z warn work waits for a worker, for 5 seconds now: of 4 workers none waits for a peer or an engine\n",
+            "1970-01-01T00:00:00.000Z warn work waits for its turn, for 5 seconds now: of 4 in flight none waits for a peer or an engine\n",
         ),
         Row(1, Waits(1), ""),
         Row(2, Waits(1), ""),
@@ -172,20 +172,20 @@ fn who_waits_for_whom(rt: HostRuntime) -> Result<(), Fail> {
         Row(
             1_000,
             WorkWaits(6),
-            "1970-01-01T00:00:01.000Z warn work waits for a worker, for 6 seconds now: of 4 workers 2 wait for peer bob, 1 for the engine of alice (1 more since the last line)\n",
+            "1970-01-01T00:00:01.000Z warn work waits for its turn, for 6 seconds now: of 4 in flight 2 wait for peer bob, 1 for the engine of alice (1 more since the last line)\n",
         ),
         Row(1_001, IsOver(1), ""),
         Row(1_002, EngineIsOver(0), ""),
         Row(
             3_000,
             WorkWaits(8),
-            "1970-01-01T00:00:03.000Z warn work waits for a worker, for 8 seconds now: of 4 workers 1 waits for peer bob\n",
+            "1970-01-01T00:00:03.000Z warn work waits for its turn, for 8 seconds now: of 4 in flight 1 waits for peer bob\n",
         ),
         Row(7_000, WorkGoesOn, ""),
         Row(
             7_000,
             Looks,
-            "1970-01-01T00:00:07.000Z info no work waits for a worker any more, after 8 seconds\n",
+            "1970-01-01T00:00:07.000Z info no work waits for its turn any more, after 8 seconds\n",
         ),
     ];
     play(&rt, rt.alloc(), &rows)?;
@@ -347,8 +347,7 @@ fn a_journal_that_is_not_kept(rt: HostRuntime) -> Result<(), Fail> {
 
 // What is told once.
 fn tell_once<R: Clock + Eprint>(rt: &R, config: &Config) {
-    ilp_notices::listening(rt, config);
-    ilp_notices::one_worker(rt, config);
+    ilp_notices::listening(rt, config, 374, 3_063_808);
     ilp_notices::not_listening(rt, "here", &io::Error::from(ErrorKind::InvalidInput));
     ilp_notices::not_listening(rt, "127.0.0.1:1", &io::Error::from(ErrorKind::AddrInUse));
     ilp_notices::no_thread(rt);
@@ -368,7 +367,7 @@ fn what_is_told_once(rt: HostRuntime) -> Result<(), Fail> {
     tell_once(&hearing, &config);
     assert!(rt;
         hearing.wrote_only(
-            "2026-11-30T01:05:15.123Z info listening at 127.0.0.1:7768 for peers and at 127.0.0.1:7769 for engines: 4 workers, 3 peers, alice without an engine, bob with the engine at 127.0.0.1:7000, carol without an engine
+            "2026-11-30T01:05:15.123Z info listening at 127.0.0.1:7768 for peers and at 127.0.0.1:7769 for engines: 4 workers, 374 in flight with 3063808 octets, 3 peers, alice without an engine, bob with the engine at 127.0.0.1:7000, carol without an engine
 2026-11-30T01:05:15.123Z error can't listen at here: it is no IP:PORT in digits
 2026-11-30T01:05:15.123Z error can't listen at 127.0.0.1:1: address in use
 2026-11-30T01:05:15.123Z error a thread can't be started

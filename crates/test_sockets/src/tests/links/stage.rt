@@ -2,9 +2,8 @@
 
 use super::calls::Scene;
 use super::stand_in::config_at;
-use super::{play_engines, play_nobody, play_packets, play_timed};
+use super::{play_engines, play_nobody, play_packets};
 use ilp_accounts::Config;
-use ilp_links::Hurry;
 use ilp_notices::Notices;
 use std::alloc::Global;
 use std::io;
@@ -23,8 +22,6 @@ pub(super) enum Play {
     Nobody,
     /// Calls of engines.
     Engines,
-    /// Reads and writes until a moment.
-    Timed,
 }
 
 /// Plays at a listener of its own.
@@ -79,7 +76,6 @@ where
 {
     let place = listener.local_addr()?;
     let notices = Notices::new(alloc, config)?;
-    let hurry = Hurry::new();
     let scene = Scene {
         rt,
         alloc,
@@ -87,12 +83,10 @@ where
         place,
         config,
         notices: &notices,
-        hurry: &hurry,
     };
     match play {
         Play::Packets => play_packets(scene),
         Play::Nobody => play_nobody(scene),
         Play::Engines => play_engines(scene),
-        Play::Timed => play_timed(scene),
     }
 }

@@ -28,7 +28,7 @@ returns-then-kept-clause-told g c =
     (seat c.args.self.now.share kept (g.C.Clock.told c.args.self.now.clock) c.args.self.now.receipt (g.K.Keeper.told c.args.self.now.keeper))
     (seat c.credit_shown.new.share c.push_reserved.new.self.items (g.C.Clock.told c.now-now.new.self) c.credit_shown.new.receipt (g.K.Keeper.told c.args.self.now.keeper)) now reply
     (small c.config.result.now desk.config c.args.quantity.now c.args.peer c.scale.result c.config.ensures c.scale.ensures c.in-Ok.ensures.0) c.now-now.ensures at
-    (c.push_reserved.ensures.items ∙ (ap (λ r. c.reserve.new.self.items ++ r ∷ []) (c.record_of.ensures p refl) ∙ (ap (λ k. k ++ record_of_credit p told ∷ []) c.in-Ok-reserve.ensures.items ∙ ap (λ rs. kept ++ rs) (sym one)))) refl)
+    (c.push_reserved.ensures.items ∙ (ap (λ r. c.reserve_beside.new.records.items ++ r ∷ []) (c.record_of.ensures p refl) ∙ (ap (λ k. k ++ record_of_credit p told ∷ []) c.in-Ok-reserve_beside.ensures.items ∙ ap (λ rs. kept ++ rs) (sym one)))) refl)
 
 -- an earlier credit is answered
 pub returns-else-kept-clause-told : goal.returns-else-kept-clause-told
@@ -44,9 +44,9 @@ returns-else-kept-clause-told g c =
     let none : kept_of p reply ≡ [] = rw c.if-kept.false refl in
     inr (credited_by desk p
     (seat c.args.self.now.share kept (g.C.Clock.told c.args.self.now.clock) c.args.self.now.receipt (g.K.Keeper.told c.args.self.now.keeper))
-    (seat c.credit_shown.new.share c.reserve.new.self.items (g.C.Clock.told c.now-now.new.self) c.credit_shown.new.receipt (g.K.Keeper.told c.args.self.now.keeper)) now reply
+    (seat c.credit_shown.new.share c.reserve_beside.new.records.items (g.C.Clock.told c.now-now.new.self) c.credit_shown.new.receipt (g.K.Keeper.told c.args.self.now.keeper)) now reply
     (small c.config.result.now desk.config c.args.quantity.now c.args.peer c.scale.result c.config.ensures c.scale.ensures c.in-Ok.ensures.0) c.now-now.ensures at
-    (c.in-Ok-reserve.ensures.items ∙ (sym (append-nil kept) ∙ ap (λ rs. kept ++ rs) (sym none))) refl)
+    (c.in-Ok-reserve_beside.ensures.items ∙ (sym (append-nil kept) ∙ ap (λ rs. kept ++ rs) (sym none))) refl)
 
 -- the book refused it
 pub returns-in-Err-clause-told : goal.returns-in-Err-clause-told
@@ -61,6 +61,6 @@ returns-in-Err-clause-told g c =
     subst (λ t. IsCreditedAt desk p t c.args.self.now.receipt c.credit_shown.new.receipt c.args.self.now.share c.credit_shown.new.share reply) (to_z-of_z w64 now fits) c.in-Err.ensures in
     inr (credited_by desk p
     (seat c.args.self.now.share kept (g.C.Clock.told c.args.self.now.clock) c.args.self.now.receipt (g.K.Keeper.told c.args.self.now.keeper))
-    (seat c.credit_shown.new.share c.reserve.new.self.items (g.C.Clock.told c.now-now.new.self) c.credit_shown.new.receipt (g.K.Keeper.told c.args.self.now.keeper)) now reply
+    (seat c.credit_shown.new.share c.reserve_beside.new.records.items (g.C.Clock.told c.now-now.new.self) c.credit_shown.new.receipt (g.K.Keeper.told c.args.self.now.keeper)) now reply
     (small c.config.result.now desk.config c.args.quantity.now c.args.peer c.scale.result c.config.ensures c.scale.ensures c.in-Ok.ensures.0) c.now-now.ensures at
-    (c.in-Ok-reserve.ensures.items ∙ sym (append-nil kept)) refl)
+    (c.in-Ok-reserve_beside.ensures.items ∙ sym (append-nil kept)) refl)

@@ -3,13 +3,15 @@ use Rattle.std.specs.Prelude.{FitsSigned, is_some}
 use Rattle.std.specs.Int.{w64}
 use Rattle.std.proofs.lemmas.Int.{to_z-of_z}
 use Rattle.ilp_link_traits.specs.Links.{Tells, sending, came_of}
-use Rattle.ilp_workers.specs.Messaging.{message_expiry, peer_answer_of, IsPassedOn}
-use Rattle.ilp_workers.proofs.EngineMessages.{answer_came, no_answer_came, passed_on}
+use Rattle.ilp_replies.specs.Messages.{message_expiry, peer_answer_of}
+use Rattle.ilp_workers.specs.Messaging.{IsPassedOn}
+use Rattle.ilp_replies.proofs.EngineMessages.{answer_came, no_answer_came}
+use Rattle.ilp_workers.proofs.EngineMessages.{passed_on}
 use Rattle.ilp_workers.proofs.parts.Parts.send_message.Goals as goal
 
 -- an answer came
-pub returns-then-reply : goal.returns-then-reply
-returns-then-reply g c =
+pub returns-then-reply-clause-messages : goal.returns-then-reply-clause-messages
+returns-then-reply-clause-messages g c =
     let C = c.args.config.now in
     let now = c.now.result in
     let expires = c.message_expiry-expires.result in
@@ -36,8 +38,8 @@ returns-then-reply g c =
     }
 
 -- none came
-pub returns : goal.returns
-returns g c =
+pub returns-clause-messages : goal.returns-clause-messages
+returns-clause-messages g c =
     let C = c.args.config.now in
     let now = c.now.result in
     let expires = c.message_expiry-expires.result in

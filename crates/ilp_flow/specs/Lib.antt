@@ -1,0 +1,5 @@
+pub mod Flow
+pub mod Counts
+pub mod Closing
+pub mod Fullest
+pub mod Rows

@@ -1,0 +1,5 @@
+pub mod Rejects
+pub mod Rows
+pub mod Replies
+pub mod Messages
+pub mod EngineMessage

@@ -1,0 +1,163 @@
+//! The first half of serving a request: all of it, where nobody outside is asked.
+ghost use Rattle.std.specs.Prelude.{◌≡◌};
+ghost use Rattle.ilp_book.specs.Configured.{IsKnown};
+ghost use Rattle.ilp_server.specs.Serving.{inquiry};
+ghost use Rattle.ilp_server.specs.Response.{IsToPacket};
+ghost use Rattle.ilp_server.specs.Course.{flight_of, BeginsPacket, BeginsMessage, BeginsInquiry, BeginsRequest};
+
+use crate::fields::sender_of;
+use crate::handled::ConnectionFault;
+use crate::response::Response;
+use crate::served::Served;
+use crate::serving::{serve_report, serve_settlement};
+use crate::target::{Side, Target, target_of};
+use crate::unserved::{NotServed, unread};
+use ilp_desk::{Desk, Naming};
+use ilp_flight::{Flight, NoStart, Started};
+use ilp_http::{Buffer, Request, read_request};
+use ilp_oer::Octets;
+use ilp_workers::{Answer, Clock, EngineLink, EngineMessage, Keeper, PeerMessage, Receipt, Uplink};
+use std::alloc::Global;
+use std::sync::Wait;
+
+/// How a request goes on.
+#[derive(Drop)]
+pub enum Course {
+    /// It is answered so.
+    Answered(Response),
+    /// The next peer is to be handed the packet of this sender that waits under the key.
+    Packet { sender: u32, key: usize },
+    /// The settlement engine here is to be handed a message.
+    ToEngine(EngineMessage),
+    /// A peer is to be handed a message of the engine here.
+    ToPeer(PeerMessage),
+    /// Nothing is written.
+    Unanswered(ConnectionFault),
+}
+
+/// Begins to serve the request that the octets of a connection at a side begin with (RFC 0035 at the
+/// side of the peers, RFC 0038 at that of the engines). A packet is held, and waits with the worker
+/// until it is finished; a message is ready for whom it is handed to; all else is done. Nobody outside
+/// is waited for.
+///
+/// What is refused is answered with a status and an empty body, and leaves the flight as it was unless
+/// a packet, a credit or a message was tried. The copy of a Reject that a packet is answered at once
+/// takes memory: where that is denied the packet is answered 503.
+pub fn begin_request<
+    J: Naming,
+    C: Clock + Drop,
+    U: Uplink + Drop,
+    E: EngineLink + Drop,
+    K: Keeper<J> + Drop,
+>(
+    rt: &impl Wait,
+    flight: &mut Flight<J, C, U, E, K>,
+    desk: &Desk<J>,
+    side: Side,
+    octets: &[u8],
+    buffer: &mut Buffer,
+) -> Course
+    ensures begun { BeginsRequest J.desk side octets.now (flight_of flight.old.worker flight.old.waiting)
+        (flight_of flight.new.worker flight.new.waiting) result }
+{
+    let alloc = desk.config().allocator();
+    let mut source = octets;
+    match read_request(alloc, &mut source, buffer) {
+        Ok(request) => begin(rt, alloc, flight, desk, side, &request),
+        Err(fault) => match unread(fault) {
+            Ok(why) => Course::Answered(Response::refusal(why)),
+            Err(fault) => Course::Unanswered(fault),
+        },
+    }
+}
+
+// Begins to serve a request that was read.
+fn begin<J: Naming, C: Clock + Drop, U: Uplink + Drop, E: EngineLink + Drop, K: Keeper<J> + Drop>(
+    rt: &impl Wait,
+    alloc: Global,
+    flight: &mut Flight<J, C, U, E, K>,
+    desk: &Desk<J>,
+    side: Side,
+    request: &Request<'_>,
+) -> Course
+    ensures begun { BeginsInquiry J.desk
+        (inquiry side request.now.path.now request.now.headers request.now.body.now)
+        (flight_of flight.old.worker flight.old.waiting)
+        (flight_of flight.new.worker flight.new.waiting) result }
+{
+    match target_of(desk.config(), side, request.path) {
+        None => Course::Answered(Response::refusal(NotServed::UnknownTarget)),
+        Some(Target::Packet) => begin_packet(rt, alloc, flight, desk, request),
+        Some(Target::Settlement { peer }) => {
+            let outcome = serve_settlement(rt, alloc, &mut flight.worker, desk, peer, request);
+            Course::Answered(Response::to_outcome(outcome))
+        }
+        Some(Target::Message { peer }) => begin_message(flight, desk, peer, request.body),
+        Some(Target::Report) => {
+            let report = serve_report(rt, alloc, desk);
+            Course::Answered(Response::to_outcome(report))
+        }
+        Some(Target::Close) => Course::Answered(Response::to_outcome(Ok(Served::Close))),
+    }
+}
+
+// Begins the body as a packet of the peer whose token the request shows.
+fn begin_packet<
+    J: Naming,
+    C: Clock + Drop,
+    U: Uplink + Drop,
+    E: EngineLink + Drop,
+    K: Keeper<J> + Drop,
+>(
+    rt: &impl Wait,
+    alloc: Global,
+    flight: &mut Flight<J, C, U, E, K>,
+    desk: &Desk<J>,
+    request: &Request<'_>,
+) -> Course
+    ensures begun { BeginsPacket J.desk request.now.headers request.now.body.now
+        (flight_of flight.old.worker flight.old.waiting)
+        (flight_of flight.new.worker flight.new.waiting) result }
+{
+    let Some(sender) = sender_of(desk.config(), &request.headers) else {
+        return Course::Answered(Response::refusal(NotServed::UnknownSender));
+    };
+    match flight.begin(rt, desk, sender, request.body) {
+        Ok(Started::Waits(key)) => Course::Packet { sender, key },
+        Ok(Started::Asks(message)) => Course::ToEngine(message),
+        Ok(Started::Answered(receipt)) => {
+            Course::Answered(refused(alloc, sender, receipt, flight.worker.reply()))
+        }
+        Err(NoStart::Bad(fault)) => Course::Answered(Response::refusal(NotServed::Packet(fault))),
+        Err(NoStart::Memory) => Course::Answered(Response::refusal(NotServed::Memory)),
+    }
+}
+
+// The sender of a packet is answered at once, with these octets.
+fn refused(alloc: Global, sender: u32, receipt: Receipt, reply: &[u8]) -> Response
+    ensures { IsToPacket sender receipt.rejected reply.now result }
+{
+    let mut octets = Octets::new(alloc);
+    match octets.append(reply) {
+        Ok(()) => Response::to_packet(sender, Answer { receipt, octets }),
+        Err(_) => Response::refusal(NotServed::Memory),
+    }
+}
+
+// Begins to send the body as a message to the peer's engine.
+fn begin_message<
+    J: Naming,
+    C: Clock + Drop,
+    U: Uplink + Drop,
+    E: EngineLink + Drop,
+    K: Keeper<J> + Drop,
+>(flight: &mut Flight<J, C, U, E, K>, desk: &Desk<J>, peer: u32, body: &[u8]) -> Course
+    ensures begun { BeginsMessage J.desk peer body.now
+        (flight_of flight.old.worker flight.old.waiting)
+        (flight_of flight.new.worker flight.new.waiting) result }
+{
+    match flight.worker.begin_message(desk, peer, body) {
+        Ok(message) => Course::ToPeer(message),
+        Err(fault) => Course::Answered(Response::refusal(NotServed::Message(fault))),
+    }
+}

@@ -1,0 +1,66 @@
+//! How far a peer's turn is.
+
+use ilp_links::EngineCall;
+use ilp_settler::Asking;
+use std::time::Duration;
+
+/// How far a peer's turn is. Times are by the clock that never goes back.
+#[derive(Drop)]
+pub(crate) enum Course {
+    /// The next one begins then.
+    Rests { until: Duration },
+    /// The peer's engine is asked whether it has the account.
+    AsksForAccount(EngineCall),
+    /// The peer's engine is asked for a settlement.
+    Settles { asking: Asking, call: EngineCall },
+}
+
+/// The turns of a peer.
+#[derive(Drop)]
+pub(crate) struct PeerTurns {
+    pub(crate) course: Course,
+    /// How long its last pause was after a refusal, in milliseconds; 0 where none was since a settlement was
+    /// accepted.
+    pub(crate) pause: u64,
+}
+
+impl PeerTurns {
+    /// The first turn begins at once.
+    pub(crate) fn new() -> PeerTurns {
+        PeerTurns {
+            course: Course::Rests {
+                until: Duration::ZERO,
+            },
+            pause: 0,
+        }
+    }
+}
+
+impl Course {
+    /// By when it is to be looked at, whatever comes. Once the connector ends no turn begins.
+    pub(crate) fn due(&self, ends: bool) -> Option<Duration> {
+        match self {
+            Course::Rests { until: _ } if ends => None,
+            Course::Rests { until } => Some(*until),
+            Course::AsksForAccount(call) => Some(call.due()),
+            Course::Settles { asking: _, call } => Some(call.due()),
+        }
+    }
+
+    /// Whether no engine is asked.
+    pub(crate) fn is_resting(&self) -> bool {
+        match self {
+            Course::Rests { .. } => true,
+            _ => false,
+        }
+    }
+
+    /// The connector ends: the engine has little time left.
+    pub(crate) fn hurry(&mut self, now: Duration) {
+        match self {
+            Course::Rests { .. } => {}
+            Course::AsksForAccount(call) => call.hurry(now),
+            Course::Settles { asking: _, call } => call.hurry(now),
+        }
+    }
+}

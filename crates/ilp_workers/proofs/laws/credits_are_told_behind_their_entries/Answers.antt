@@ -1,5 +1,0 @@
-use Rattle.ilp_workers.proofs.CreditBehind.{credit_behind}
-use Rattle.ilp_workers.proofs.laws.credits_are_told_behind_their_entries.Goals as goal
-
-pub returns : goal.returns
-returns c = credit_behind

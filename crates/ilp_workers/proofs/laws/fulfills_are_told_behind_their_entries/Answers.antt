@@ -1,5 +1,0 @@
-use Rattle.ilp_workers.proofs.Behind.{told_behind}
-use Rattle.ilp_workers.proofs.laws.fulfills_are_told_behind_their_entries.Goals as goal
-
-pub returns : goal.returns
-returns c = told_behind
