@@ -5,7 +5,7 @@ ghost use Rattle.ilp_intake.specs.declared.limits.TheConstants.{MOST_WAITING};
 use crate::admission::Admission;
 use crate::closing::Closing;
 use crate::connection::Connection;
-use crate::limits::MOST_WAITING;
+use crate::limits::{MOST_WAITING, SPARED_US};
 use crate::lingering::Lingering;
 use crate::ready::ReadyConnection;
 use crate::stage::Stage;
@@ -108,6 +108,22 @@ impl<K: Copy> Connections<K> {
         ensures { IsTrue result → vec_len self.now.waiting + vec_len self.now.lingering < self.now.most }
     {
         !self.is_full()
+    }
+
+    /// How long the next one is left with the system: where there is no room for it, as long as all that may
+    /// be closed for it are spared. None where it may be accepted now.
+    pub(crate) fn spared_for(&self, now: Duration) -> Option<Duration> {
+        if self.has_room() || !self.lingering.is_empty() {
+            return None;
+        }
+        let mut waiting = self.waiting.iter();
+        let oldest = waiting.find(|connection| connection.is_waiting())?;
+        let spared = Duration::from_micros(SPARED_US.saturating_mul(self.most as u64));
+        let until = oldest.accepted().saturating_add(spared);
+        if until <= now {
+            return None;
+        }
+        Some(until.saturating_sub(now))
     }
 
     /// Adds a connection that was accepted at this time, and reads it: mostly its request has come

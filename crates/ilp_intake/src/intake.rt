@@ -27,9 +27,10 @@ const LOOK: Token = Token(usize::MAX - 2);
 ///
 /// What no clause can say, since the system holds it: connections are accepted and read without
 /// waiting for any one client, nor for whoever takes them; at most so many wait as it was made for,
-/// and past that one is closed; where the system has no descriptor for one more, the oldest goes whose
-/// request has not come whole; each has 10 seconds in all for its request, and is closed without an answer then; and its octets take 81,920
-/// of memory at most, and none while nothing came. One that was answered although more of its request
+/// and past that one is closed, where no more than 10,000 a second come, and else later; where the system
+/// has no descriptor for one more, the oldest goes whose request has not come whole; each has 10 seconds
+/// in all for its request, and is closed without an answer then; and its octets take 81,920 of memory at
+/// most, and none while nothing came. One that was answered although more of its request
 /// may come is read for a second more and to 1 MiB, which takes no memory, and counts among those that
 /// wait.
 #[derive(Drop)]
@@ -87,6 +88,8 @@ enum Backlog {
     Pending,
     // One waits, or did, and could not be accepted.
     Blocked,
+    // One waits, or did, and is accepted once so much time is over.
+    Spared(Duration),
 }
 
 impl<K: Copy> Intake<K> {
@@ -179,12 +182,7 @@ impl<K: Copy> Intake<K> {
         }
         // Connections that came before the close are accepted.
         if closing || self.backlog != Backlog::Empty {
-            let most = if closing {
-                MOST_AT_THE_CLOSE
-            } else {
-                MOST_AT_ONCE
-            };
-            self.accept_pending(now, admission, most);
+            self.accept_pending(now, admission, closing);
         }
         if closing {
             self.listener = None;
@@ -208,6 +206,7 @@ impl<K: Copy> Intake<K> {
                 let rest = Duration::from_millis(REST_MS);
                 Some(left.unwrap_or(rest).min(rest))
             }
+            Backlog::Spared(rest) => Some(left.unwrap_or(rest).min(rest)),
         }
     }
 
@@ -222,7 +221,8 @@ impl<K: Copy> Intake<K> {
         }
     }
 
-    // Accepts the connections that wait at the listener, so many of them at most.
+    // Accepts the connections that wait at the listener, so many of them at most. Before the close none is
+    // accepted for which another would go that is spared: it waits at the listener for as long.
     //
     // Where the system is short of descriptors it says so also while none waits. So a connection is
     // given up only for one that is known to wait, and else the listener's event tells whether one does.
@@ -230,15 +230,26 @@ impl<K: Copy> Intake<K> {
         &mut self,
         now: Duration,
         admission: &mut D,
-        most: usize,
+        closing: bool,
     ) {
         let Some(listener) = &mut self.listener else {
             return;
+        };
+        let most = if closing {
+            MOST_AT_THE_CLOSE
+        } else {
+            MOST_AT_ONCE
         };
         let registry = self.poll.registry();
         let mut one_waits = self.backlog != Backlog::Empty;
         self.backlog = Backlog::Empty;
         for _ in 0..most {
+            if let Some(rest) = self.connections.spared_for(now) {
+                if !closing {
+                    self.backlog = Backlog::Spared(rest);
+                    return;
+                }
+            }
             match listener.accept() {
                 Ok(stream) => {
                     self.connections.add(stream, now, admission);

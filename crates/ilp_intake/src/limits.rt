@@ -5,6 +5,10 @@
 /// else the newest of the sender with most.
 pub const MOST_WAITING: usize = 1_024;
 
+// For how long a connection whose request has not come whole is closed for no other, in microseconds for
+// each that may wait. So where 10,000 a second come or fewer, none is left with the system for that.
+pub(crate) const SPARED_US: u64 = 100;
+
 /// How long a request may take to come, in milliseconds from the moment at which its connection was
 /// accepted. The time in which an intake waits for whoever takes its connections is not counted.
 pub const ALLOWANCE_MS: u64 = 10_000;
