@@ -70,6 +70,25 @@ where
     }
 }
 
+/// Keeps the books of a period that a connector has closed, whose journal is at a path, and begins the next one by the
+/// same configuration: as `new_period` does, and a stop at any moment leaves what it leaves.
+///
+/// Refusals: those of `next_of`, and then nothing was changed; a file can't be written.
+pub fn begin_behind<R>(file: &BookFile<'_, R, File>, ended: &Book) -> Result<Book, Refused>
+where
+    R: Runtime + AllocGlobal + Files<File = File> + PlacesFiles<File = File> + Copy,
+    requires { ended.now.config ≡ file.now.config.now }
+{
+    let closing = Closing {
+        rt: file.rt,
+        config: file.config,
+        next: file.config,
+        file: file.file,
+        path: file.path,
+    };
+    closing.begin_behind(ended)
+}
+
 // A journal whose books are closed by one configuration for a period of the next one.
 #[derive(Clone, Copy)]
 struct Closing<'r, R, F> {
