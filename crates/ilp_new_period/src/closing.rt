@@ -70,14 +70,19 @@ where
     }
 }
 
-/// Keeps the books of a period that a connector has closed, whose journal is at a path, and begins the next one by the
+/// Keeps the books of a period that a connector has closed, and has its journal begin with those of the next one, by the
 /// same configuration: as `new_period` does, and a stop at any moment leaves what it leaves.
 ///
-/// Refusals: those of `next_of`, and then nothing was changed; a file can't be written.
-pub fn begin_behind<R>(file: &BookFile<'_, R, File>, ended: &Book) -> Result<Book, Refused>
+/// It is refused where a file can't be written, of which a line says more.
+pub fn keep_behind<R>(
+    file: &BookFile<'_, R, File>,
+    ended: &Book,
+    next: &Book,
+) -> Result<(), Refused>
 where
     R: Runtime + AllocGlobal + Files<File = File> + PlacesFiles<File = File> + Copy,
-    requires { ended.now.config ≡ file.now.config.now }
+    requires ended { ended.now.config ≡ file.now.config.now }
+    requires next { next.now.config ≡ file.now.config.now }
 {
     let closing = Closing {
         rt: file.rt,
@@ -86,7 +91,7 @@ where
         file: file.file,
         path: file.path,
     };
-    closing.begin_behind(ended)
+    closing.put(ended, next)
 }
 
 // A journal whose books are closed by one configuration for a period of the next one.

@@ -32,5 +32,5 @@ mod serving;
 pub use fault::ServeFault;
 pub use ilp_threads::Unprinted;
 pub use logging::ClosedRun;
-pub use periods::{BegunPeriod, Periods};
+pub use periods::{BegunPeriod, Following, Periods};
 pub use serving::{run_periods, run_to_close, serve, write_report};

@@ -11,7 +11,7 @@ ghost use Rattle.ilp_running.specs.Serving.{Refuses};
 
 use crate::fault::ServeFault;
 use crate::logging::{AckList, ClosedRun, RunningLog};
-use crate::periods::{BegunPeriod, Periods};
+use crate::periods::{BegunPeriod, Following, Periods};
 use crate::printing::tell_report;
 use ilp_accounts::{Config, LogSync};
 use ilp_book::Book;
@@ -138,7 +138,13 @@ where
             return Ok(run);
         };
         sides = left;
-        begun = periods.begin_next(run)?;
+        begun = match periods.follow(run)? {
+            Following::Next(next) => next,
+            Following::Same(same) => {
+                sides.go_on_for_now(rt);
+                same
+            }
+        };
     }
     unreachable!()
 }

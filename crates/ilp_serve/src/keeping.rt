@@ -7,8 +7,9 @@ use crate::run::Run;
 use ilp_book::Book;
 use ilp_io::Recording;
 use ilp_journal_file::{JournalFile, LogDevice, PlacesFiles};
-use ilp_new_period::begin_behind;
-use ilp_running::{BegunPeriod, ClosedRun, Periods, ServeFault};
+use ilp_new_period::{keep_behind, next_of};
+use ilp_notices::no_next_period;
+use ilp_running::{BegunPeriod, ClosedRun, Following, Periods, ServeFault};
 use ilp_starting::{Begun, BookFile, Host, Refused, RunFault};
 use std::fs::File;
 use std::net::{Net, TcpListener, TcpStream};
@@ -24,19 +25,35 @@ impl<'r, R> Periods<LogDevice<'r, R, File>> for FilePeriods<'_, 'r, R>
 where
     R: Host + Files<File = File> + PlacesFiles<File = File>,
 {
-    fn begin_next(
+    fn follow(
         &mut self,
         ended: ClosedRun<LogDevice<'r, R, File>>,
-    ) -> Result<BegunPeriod<LogDevice<'r, R, File>>, ServeFault> {
+    ) -> Result<Following<LogDevice<'r, R, File>>, ServeFault> {
         let ClosedRun { book, log } = ended;
         drop(log);
-        match self.begin_behind(&book) {
-            Ok(Begun { book, log }) => Ok(BegunPeriod {
-                book,
-                log: Some(log),
-            }),
-            Err(refused) => Err(ServeFault::NextRefused(refused.refusal)),
-        }
+        let rt = self.file.rt;
+        let begun = match next_of(rt.alloc(), &book, self.file.config) {
+            Ok(next) => match self.begin(&book, next) {
+                Ok(begun) => Following::Next(begun),
+                Err(refused) => return Err(ServeFault::NextRefused(refused.refusal)),
+            },
+            Err(refused) => {
+                no_next_period(rt, self.file.path, &refused.refusal, text_of(&refused));
+                match self.go_on(book) {
+                    Ok(begun) => Following::Same(begun),
+                    Err(refused) => return Err(ServeFault::NextRefused(refused.refusal)),
+                }
+            }
+        };
+        Ok(begun)
+    }
+}
+
+// Why it was refused.
+fn text_of(refused: &Refused) -> &str {
+    match &refused.why {
+        Some(why) => why.as_str(),
+        None => "",
     }
 }
 
@@ -44,10 +61,31 @@ impl<'r, R> FilePeriods<'_, 'r, R>
 where
     R: Host + Files<File = File> + PlacesFiles<File = File>,
 {
-    fn begin_behind(&self, ended: &Book) -> Result<Begun<LogDevice<'r, R, File>>, Refused> {
-        let book = begin_behind(self.file, ended)?;
+    // Keeps the books of a period, and begins the next one with this book.
+    fn begin(
+        &self,
+        ended: &Book,
+        next: Book,
+    ) -> Result<BegunPeriod<LogDevice<'r, R, File>>, Refused> {
+        keep_behind(self.file, ended, &next)?;
+        self.logged(next)
+    }
+
+    // Goes on with a book behind which no period can begin.
+    fn go_on(&self, ended: Book) -> Result<BegunPeriod<LogDevice<'r, R, File>>, Refused> {
+        let mut book = ended;
+        // The holds of a desk that was gathered are over, once its packets are.
+        let _ = book.reopen();
+        self.logged(book)
+    }
+
+    // A period of this book, whose text the file has, and a log that goes on from it.
+    fn logged(&self, book: Book) -> Result<BegunPeriod<LogDevice<'r, R, File>>, Refused> {
         let log = self.file.go_on(&book)?;
-        Ok(Begun { book, log })
+        Ok(BegunPeriod {
+            book,
+            log: Some(log),
+        })
     }
 }
 

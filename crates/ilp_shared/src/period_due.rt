@@ -1,6 +1,7 @@
 //! When the period of a desk ends by itself.
 
 use ilp_book::Book;
+use std::time::Duration;
 
 /// When the period of a desk ends by itself: once so many entries are taken, and there are twice as many
 /// as the period begins with. So a long beginning does not begin one after the other.
@@ -8,21 +9,28 @@ use ilp_book::Book;
 pub struct PeriodDue {
     taken: u64,
     entries: u64,
+    not_before: Duration,
 }
 
 impl PeriodDue {
-    /// That of a desk with this book; none where its configuration has none.
-    pub fn of(book: &Book) -> Option<PeriodDue> {
+    /// That of a desk with this book, not before a time of the clock that never goes back; none where its
+    /// configuration has none.
+    pub fn of(book: &Book, not_before: Duration) -> Option<PeriodDue> {
         let config = book.config();
         let percent = config.new_period_at()?;
         let taken = u64::from(config.journal()) * u64::from(percent) / 100;
         let entries = u64::from(head_of(book)) * 2;
-        Some(PeriodDue { taken, entries })
+        Some(PeriodDue {
+            taken,
+            entries,
+            not_before,
+        })
     }
 
-    /// Whether the period of this book ends now.
-    pub fn is_reached(self, book: &Book) -> bool {
-        self.taken <= book.taken() && self.entries <= u64::from(book.len())
+    /// Whether the period of this book ends at this time.
+    pub fn is_reached(self, book: &Book, now: Duration) -> bool {
+        let has_enough = self.taken <= book.taken() && self.entries <= u64::from(book.len());
+        has_enough && self.not_before <= now
     }
 }
 

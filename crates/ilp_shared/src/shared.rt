@@ -10,6 +10,7 @@ use ilp_desk::{Desk, Naming};
 use ilp_links::Outside;
 use ilp_notices::Notices;
 use std::sync::Wait;
+use std::time::Duration;
 
 /// What the threads of a connector work on.
 #[derive(Drop)]
@@ -28,9 +29,9 @@ pub struct Shared<'a, J: Naming, R> {
 
 impl<'a, J: Naming, R: Wait> Shared<'a, J, R> {
     /// Has the desk's period end where that is due.
-    pub fn look_at_period(&self) {
+    pub fn look_at_period(&self, now: Duration) {
         if let Some(due) = self.due {
-            if due.is_reached(self.desk.lock(self.rt).book()) {
+            if due.is_reached(self.desk.lock(self.rt).book(), now) {
                 let asks = self.places.end_period(self.rt);
                 self.intakes.look_again(asks);
             }

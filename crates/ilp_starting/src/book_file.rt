@@ -63,10 +63,23 @@ where
         ensures base { IfOk result (λ b. b.log.start.base ≤ length b.book.entries) }
     {
         let book = self.carried()?;
+        self.forget_kept(&book)?;
         match self.go_on(&book) {
             Ok(log) => Ok(Begun { book, log }),
             Err(refused) => Err(refused),
         }
+    }
+
+    // This book's period goes on, so a text of it that is kept beside goes.
+    fn forget_kept(&self, book: &Book) -> Result<(), FileFault>
+        requires { book.now.config ≡ self.now.config.now }
+    {
+        let own = Saved {
+            book,
+            config: self.config,
+        };
+        let (rt, alloc) = (self.rt, self.rt.alloc());
+        self.file.forget_period(rt, alloc, book.period(), &own)
     }
 
     /// The book of a journal whose books are to be closed: the one with which a run would begin, so no hold is

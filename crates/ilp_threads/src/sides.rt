@@ -15,13 +15,16 @@ use ilp_keeping::SharedKeeper;
 use ilp_links::Links;
 use ilp_notices::{few_files, listening, no_thread, not_listening};
 use ilp_server::Side;
-use ilp_shared::{Intakes, KeptJournal, PeriodDue, Places, Seen, Shared, ending_after};
+use ilp_shared::{Intakes, KeptJournal, PeriodDue, Places, Seen, Shared, ending_after, monotonic};
 use std::io::{Eprint, ErrorKind};
 use std::net::{Net, TcpListener, TcpStream};
 use std::rt::Files;
 use std::sync::Wait;
 use std::thread::Threads;
-use std::time::Clock;
+use std::time::{Clock, Duration};
+
+// After how many milliseconds a period may end again behind which no other could begin.
+const AGAIN_MS: u64 = 60_000;
 
 /// What takes connections in at both sides, and what reaches it.
 #[derive(Drop)]
@@ -32,9 +35,18 @@ pub struct Sides {
     open_files: Option<u64>,
     // Whether periods of the desk may end by themselves.
     has_periods: bool,
+    // When one may, by the clock that never goes back.
+    not_before: Duration,
+    // Whether no desk was run between them yet.
+    is_first: bool,
 }
 
 impl Sides {
+    /// Has no period of a desk end by itself for a minute: the last one had none behind it.
+    pub fn go_on_for_now(&mut self, rt: &impl Clock) {
+        self.not_before = monotonic(rt).saturating_add(Duration::from_millis(AGAIN_MS));
+    }
+
     /// Listens at both sides, at the places of the configuration. Periods of a desk between them may end by
     /// themselves, or not.
     ///
@@ -59,6 +71,8 @@ impl Sides {
             intakes: Intakes::new(peer_handle, engine_handle, after),
             open_files,
             has_periods,
+            not_before: Duration::ZERO,
+            is_first: true,
         })
     }
 }
@@ -146,6 +160,8 @@ where
         intakes,
         open_files,
         has_periods,
+        not_before,
+        is_first,
     } = sides;
     let in_flight = most_in_flight(open_files, config);
     let Actors {
@@ -159,11 +175,13 @@ where
     let places = Places::new(config.allocator(), in_flight, config.peers())?;
     let seen = Seen::new();
     let due = if has_periods {
-        PeriodDue::of(desk.lock(rt).book())
+        PeriodDue::of(desk.lock(rt).book(), not_before)
     } else {
         None
     };
-    tell_start(rt, config, in_flight, places.room(), open_files);
+    if is_first {
+        tell_start(rt, config, in_flight, places.room(), open_files);
+    }
     let shared = Shared {
         rt,
         desk,
@@ -188,6 +206,8 @@ where
                     intakes,
                     open_files,
                     has_periods,
+                    not_before,
+                    is_first: false,
                 }),
                 None => None,
             };
