@@ -2,7 +2,7 @@
 //! script from standard input over a configuration, or runs a connector of one.
 //!
 //! All of it is proved safe, and no more: what its commands do is promised by `ilp_described`,
-//! `ilp_offline` and `ilp_serve`.
+//! `ilp_offline` and `ilp_starting`.
 #![tactic(auto)]
 
 mod asking;
@@ -17,8 +17,7 @@ use helping::{USAGE, run_help, run_version};
 use ilp_described::{describe_packet, reject_words};
 use ilp_new_period::{follows, new_period};
 use ilp_refusals::Refusal;
-use ilp_serve::serve;
-use ilp_starting::{Host, PlacesFiles, Refused, RunFault};
+use ilp_starting::{Host, PlacesFiles, Refused, RunFault, serve};
 use replaying::run_replay;
 use std::env;
 use std::fs::File;

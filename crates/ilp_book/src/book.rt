@@ -3,14 +3,14 @@ mod bringing_forward;
 mod carrying_over;
 mod settling;
 
-ghost use Rattle.std.specs.Prelude.{◌≡◌, ℕ, ◌+◌, ◌^◌, ◌<◌, ◌≤◌, pos, ◌≤ℤ◌, length, Option, IfOk, OnOk, OnErr, slice_get};
+ghost use Rattle.std.specs.Prelude.{◌≡◌, ℕ, ◌^◌, ◌<◌, ◌≤◌, pos, ◌≤ℤ◌, length, Option, IfOk, OnOk, OnErr, slice_get};
 ghost use Rattle.std.specs.Option.{option_copied};
 ghost use Rattle.ilp_terms.specs.Expiry.{last_of_all};
 ghost use Rattle.ilp_lookup.specs.Route.{IsRoute};
 ghost use Rattle.ilp_packet.specs.Packet.{plain_prepare};
 ghost use Rattle.ilp_accounts.specs.Configuration.{peer_at};
 ghost use Rattle.ilp_accounts.specs.Valid.{IsValid};
-ghost use Rattle.ilp_journal.specs.Journal.{opening, closing, last_moment, open_holds, open_count, open_hold_at, fulfilled_since, IsBase};
+ghost use Rattle.ilp_journal.specs.Journal.{opening, closing, last_moment, open_holds, open_hold_at, fulfilled_since, IsBase};
 ghost use Rattle.ilp_journal.specs.Balance.{balance};
 ghost use Rattle.ilp_journal.specs.TrialBalance.{held, fees, bought, sold, settled, total_in, total_out, IsBalanced};
 ghost use Rattle.ilp_rules.specs.Book.{by, moment_at, new_book, pushed, has_room, Does};
@@ -118,15 +118,6 @@ impl<A: Allocator> Book<A> {
         ensures { result ≡ length self.now.entries }
     {
         self.journal.len()
-    }
-
-    /// How many entries are taken: those that there are, and as many as end or close what is open, which
-    /// are kept for that.
-    pub fn taken(&self) -> u64
-        ensures value { result ≡ length self.now.entries + open_count self.now.entries }
-        ensures within { result ≤ self.now.config.settings.journal }
-    {
-        u64::from(self.journal.len()) + u64::from(self.tables.tallies.open_count())
     }
 
     /// The entry of this number, in a journal that is lawful.

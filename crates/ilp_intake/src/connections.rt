@@ -293,21 +293,6 @@ impl<K: Copy> Connections<K> {
         None
     }
 
-    /// Looks anew at those whose request has come whole, by an admission whose senders' numbers are not
-    /// above the last.
-    pub(crate) fn look_anew<D: Admission<Kind = K>>(
-        &mut self,
-        last: u32,
-        admission: &mut D,
-    ) -> Result<(), AllocError> {
-        let alloc = *self.waiting.allocator();
-        self.closing = Closing::new(alloc, self.most, last)?;
-        for connection in self.waiting.iter_mut() {
-            connection.look_anew(admission);
-        }
-        Ok(())
-    }
-
     /// Closes the intake: what has not come in a second from now is not waited for.
     pub(crate) fn close(&mut self, now: Duration) {
         self.closed = Some(now);

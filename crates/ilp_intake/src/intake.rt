@@ -9,7 +9,7 @@ use crate::times::earlier;
 use crate::watch::Watch;
 use crossbeam_channel::{Receiver, Sender, bounded};
 use mio::{Events, Poll, Token, Waker};
-use std::alloc::{AllocError, Global};
+use std::alloc::Global;
 use std::net::{Net, TcpStream};
 use std::sync::Wait;
 use std::time::{Clock, Duration};
@@ -79,17 +79,6 @@ impl IntakeHandle {
     }
 }
 
-/// What an intake has next.
-#[derive(Drop)]
-pub enum Next<K> {
-    /// A connection that is to be given on.
-    Ready(ReadyConnection<K>),
-    /// Nothing for now, as the admission says. Those that wait go on waiting.
-    Paused,
-    /// Nothing any more: it was closed.
-    Ended,
-}
-
 // Whether connections wait at the listener to be accepted.
 #[derive(Clone, Copy, PartialEq, Eq)]
 enum Backlog {
@@ -141,43 +130,30 @@ impl<K: Copy> Intake<K> {
 
     /// The next connection that is to be given on: of those whose request has come whole, is refused
     /// as it stands, or whose client sends nothing more, the one that is admitted. Waits until there
-    /// is one, or the admission pauses. `Ended` once the intake was closed and no connection waits, or its
-    /// time is over: those that wait then are closed with it, as are those that linger.
+    /// is one. None once the intake was closed and no connection waits, or its time is over: those
+    /// that wait then are closed with it, as are those that linger.
     pub fn next<R: Clock + Wait, D: Admission<Kind = K>>(
         &mut self,
         rt: &R,
         admission: &mut D,
-    ) -> Next<K> {
+    ) -> Option<ReadyConnection<K>> {
         self.watch.resume(rt);
         for _ in rt.forever() {
-            if admission.pauses() {
-                return Next::Paused;
-            }
             let now = self.watch.last();
             let left = self.connections.ending_left(self.ending, now);
             if left == Some(Duration::ZERO) {
-                return Next::Ended;
+                return None;
             }
             let registry = self.poll.registry();
             if let Some(ready) = self.connections.take_ready(registry, admission) {
-                return Next::Ready(ready);
+                return Some(ready);
             }
             if self.listener.is_none() && self.connections.is_empty() {
-                return Next::Ended;
+                return None;
             }
             self.handle_events(rt, admission);
         }
         unreachable!()
-    }
-
-    /// Looks anew at those that wait, by an admission that may know them otherwise, whose senders' numbers
-    /// are not above the last.
-    pub fn look_anew<D: Admission<Kind = K>>(
-        &mut self,
-        last: u32,
-        admission: &mut D,
-    ) -> Result<(), AllocError> {
-        self.connections.look_anew(last, admission)
     }
 
     // Waits until events come or a connection's time is up, and handles both.

@@ -452,7 +452,6 @@ impl<J: Naming, C: Clock + Drop, K: Keeper<J> + Drop> Serving<J, C, K> {
         now: Duration,
     ) {
         if !self.booked.is_empty() {
-            shared.look_at_period(now);
             self.answer_booked(shared, asker, now);
             self.send_answers(shared, registry, now);
         }

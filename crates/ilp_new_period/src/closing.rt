@@ -70,30 +70,6 @@ where
     }
 }
 
-/// Keeps the books of a period that a connector has closed, and has its journal begin with those of the next one, by the
-/// same configuration: as `new_period` does, and a stop at any moment leaves what it leaves.
-///
-/// It is refused where a file can't be written, of which a line says more.
-pub fn keep_behind<R>(
-    file: &BookFile<'_, R, File>,
-    ended: &Book,
-    next: &Book,
-) -> Result<(), Refused>
-where
-    R: Runtime + AllocGlobal + Files<File = File> + PlacesFiles<File = File> + Copy,
-    requires ended { ended.now.config ≡ file.now.config.now }
-    requires next { next.now.config ≡ file.now.config.now }
-{
-    let closing = Closing {
-        rt: file.rt,
-        config: file.config,
-        next: file.config,
-        file: file.file,
-        path: file.path,
-    };
-    closing.put(ended, next)
-}
-
 // A journal whose books are closed by one configuration for a period of the next one.
 #[derive(Clone, Copy)]
 struct Closing<'r, R, F> {

@@ -44,9 +44,9 @@ pub use doubling::doubled;
 pub use journal_file::{
     journal_absent, journal_carried, journal_in_use, journal_not_locked, journal_of_another_asset,
     journal_of_another_run, journal_saved, journal_too_long, journal_unfit, journal_unread,
-    keys_left_out, left_unsaved, log_begun, log_left, log_unwritten, no_journal, no_next_period,
-    not_made, not_saved, not_saved_at_start, not_saved_yet, not_synced, nothing_to_save,
-    period_begun, period_differs, period_kept, period_unwritten, stopped_unsaved,
+    keys_left_out, left_unsaved, log_begun, log_left, log_unwritten, no_journal, not_made,
+    not_saved, not_saved_at_start, not_saved_yet, not_synced, nothing_to_save, period_begun,
+    period_differs, period_kept, period_unwritten, stopped_unsaved,
 };
 pub use notices::Notices;
 pub use recovery::{RecoveryNote, recovery_note};

@@ -16,9 +16,6 @@ pub enum ServeFault {
     /// Nothing was printed, since what the actors handed in is not what the book has.
     #[error("{0}")]
     NotGathered(WhyNotGathered),
-    /// Nothing was printed, since the next period was refused. The books of the one before are kept.
-    #[error("{0}")]
-    NextRefused(Refusal),
     /// A write of the report failed or took no octet. A part of it was printed.
     #[error("a write failed or took no octet")]
     Write,
@@ -31,7 +28,6 @@ impl ServeFault {
     {
         match self {
             ServeFault::Write => Refusal::WriteFault,
-            ServeFault::NextRefused(refusal) => refusal,
             ServeFault::Unprinted(Unprinted::Memory) => Refusal::Memory,
             ServeFault::NotGathered(WhyNotGathered::Missing { actor }) => {
                 Refusal::MissingEnd { actor }

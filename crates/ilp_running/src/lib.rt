@@ -25,12 +25,10 @@
 
 mod fault;
 mod logging;
-mod periods;
 mod printing;
 mod serving;
 
 pub use fault::ServeFault;
 pub use ilp_threads::Unprinted;
-pub use logging::ClosedRun;
-pub use periods::{BegunPeriod, Following, Periods};
-pub use serving::{run_periods, run_to_close, serve, write_report};
+pub use logging::{BegunLog, ClosedRun};
+pub use serving::{run_to_close, serve, write_report};

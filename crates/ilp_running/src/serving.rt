@@ -10,8 +10,7 @@ ghost use Rattle.ilp_running.specs.Serving.{desk_of, ClosesDesk, IsClosed, IsWhy
 ghost use Rattle.ilp_running.specs.Serving.{Refuses};
 
 use crate::fault::ServeFault;
-use crate::logging::{AckList, ClosedRun, RunningLog};
-use crate::periods::{BegunPeriod, Following, Periods};
+use crate::logging::{AckList, BegunLog, ClosedRun, RunningLog};
 use crate::printing::tell_report;
 use ilp_accounts::{Config, LogSync};
 use ilp_book::Book;
@@ -20,10 +19,10 @@ use ilp_io::Sink;
 use ilp_keeping::Forgetful;
 use ilp_line_file::{Device, MemoryDevice};
 use ilp_links::Links;
-use ilp_log::{BegunLog, LogNaming};
+use ilp_log::LogNaming;
 use ilp_log_keeper::{KeepingState, LogKeeper};
 use ilp_report::{Snapshot, print};
-use ilp_threads::{KeepingWay, RunDesk, Sides, Unprinted, run_desk};
+use ilp_threads::{KeepingWay, Unprinted, run_desk};
 use std::io::Eprint;
 use std::marker::Brand;
 use std::net::{Net, TcpListener, TcpStream};
@@ -105,75 +104,6 @@ where
         (form_of D.seen config.now log) (began_at D.moment log) run.book.entries run.log) }
     ensures refused { IfErr result (IsWhyUnclosed (desk_of config.now book)) }
 {
-    let sides = open_sides(rt, config, false)?;
-    let begun = BegunPeriod { book, log };
-    Ok(run_period(rt, config, begun, links, sides)?.run)
-}
-
-/// Runs a connector as `run_to_close` does, and goes on from one period to the next, as these begin it.
-pub fn run_periods<R, L, D, P>(
-    rt: &R,
-    config: &Config,
-    first: BegunPeriod<D>,
-    links: &L,
-    periods: &mut P,
-) -> Result<ClosedRun<D>, ServeFault>
-where
-    R: Net<Listener = TcpListener, Stream = TcpStream>
-        + Threads
-        + Wait
-        + Clock
-        + Eprint
-        + Files
-        + Sync,
-    L: Links,
-    D: Device + Drop + Send,
-    P: Periods<D>,
-{
-    let mut sides = open_sides(rt, config, true)?;
-    let mut begun = first;
-    for _ in rt.forever() {
-        let RunPeriod { run, sides: left } = run_period(rt, config, begun, links, sides)?;
-        let Some(left) = left else {
-            return Ok(run);
-        };
-        sides = left;
-        begun = match periods.follow(run)? {
-            Following::Next(next) => next,
-            Following::Same(same) => {
-                sides.go_on_for_now(rt);
-                same
-            }
-        };
-    }
-    unreachable!()
-}
-
-// Listens at both sides, where periods may end by themselves or not.
-fn open_sides<R>(rt: &R, config: &Config, has_periods: bool) -> Result<Sides, ServeFault>
-where
-    R: Net<Listener = TcpListener, Stream = TcpStream> + Clock + Eprint + Files,
-{
-    match Sides::open(rt, config, has_periods) {
-        Ok(sides) => Ok(sides),
-        Err(why) => Err(ServeFault::Unprinted(why)),
-    }
-}
-
-// Runs a connector for a period, between these sides.
-fn run_period<R, L, D>(
-    rt: &R,
-    config: &Config,
-    begun: BegunPeriod<D>,
-    links: &L,
-    sides: Sides,
-) -> Result<RunPeriod<D>, ServeFault>
-where
-    R: Net<Listener = TcpListener, Stream = TcpStream> + Threads + Wait + Clock + Eprint + Sync,
-    L: Links,
-    D: Device + Drop + Send,
-{
-    let BegunPeriod { book, log } = begun;
     let blanks = Blank::new(u64::from(config.workers()) + 2);
     let Ok(list) = EntryList::new(config.allocator()) else {
         return Err(ServeFault::Unprinted(Unprinted::Memory));
@@ -181,17 +111,10 @@ where
     let Ok(acks) = AckList::new(config.allocator()) else {
         return Err(ServeFault::Unprinted(Unprinted::Memory));
     };
-    serve_desk::<Brand, Brand, R, L, D>(rt, config, book, blanks, list, log, acks, links, sides)
+    serve_desk::<Brand, Brand, R, L, D>(rt, config, book, blanks, list, log, acks, links)
 }
 
-// A period that is over, and the sides where connections wait for the next one, if one is to begin.
-#[derive(Drop)]
-struct RunPeriod<D: Device + Drop> {
-    run: ClosedRun<D>,
-    sides: Option<Sides>,
-}
-
-// Opens a desk over this book, runs it between these sides, and closes it.
+// Opens a desk over this book, runs it, and closes it.
 fn serve_desk<J, K, R, L, D>(
     rt: &R,
     config: &Config,
@@ -201,12 +124,17 @@ fn serve_desk<J, K, R, L, D>(
     log: Option<BegunLog<D>>,
     acks: AckList<D>,
     links: &L,
-    sides: Sides,
-) -> Result<RunPeriod<D>, ServeFault>
+) -> Result<ClosedRun<D>, ServeFault>
 where
     J: Naming + Send + Sync,
     K: LogNaming + Send + Sync,
-    R: Net<Listener = TcpListener, Stream = TcpStream> + Threads + Wait + Clock + Eprint + Sync,
+    R: Net<Listener = TcpListener, Stream = TcpStream>
+        + Threads
+        + Wait
+        + Clock
+        + Eprint
+        + Files
+        + Sync,
     L: Links,
     D: Device + Drop + Send,
     requires config { (config.now ≡ J.desk.config) × (book.config ≡ J.desk.config) }
@@ -220,9 +148,9 @@ where
     requires log { IfSome log (λ l. IsLogOf K.form J.desk l.start.base) }
     requires begun { D.claims → IfSome log (IsBegun D.seen D.may_leave) }
     requires head { D.claims → IfSome log (HasHead D.seen K.form) }
-    ensures closed { IfOk result (λ period. IsClosed J.desk period.run.book) }
-    ensures logged { D.claims → IfOk result (λ period. EndsLog D.seen D.may_leave D.left_since
-        K.form (began_at D.moment log) period.run.book.entries period.run.log) }
+    ensures closed { IfOk result (λ run. IsClosed J.desk run.book) }
+    ensures logged { D.claims → IfOk result (λ run. EndsLog D.seen D.may_leave D.left_since
+        K.form (began_at D.moment log) run.book.entries run.log) }
     ensures refused { IfErr result (IsWhyUnclosed J.desk) }
 {
     let workers = config.workers();
@@ -238,22 +166,13 @@ where
     };
     match log {
         None => {
-            let RunDesk { ends, sides } = ran(run_desk(
-                rt,
-                &desk,
-                shares,
-                links,
-                sides,
-                Forgetful,
-                KeepingWay::InLoops,
-            ))?;
+            let ends = run_desk(rt, &desk, shares, links, Forgetful, KeepingWay::InLoops);
             let book = close_desk(desk, ends)?.into_book();
-            let run = ClosedRun { book, log: None };
-            Ok(RunPeriod { run, sides })
+            Ok(ClosedRun { book, log: None })
         }
         Some(begun) => {
             let log = RunningLog::<J, K, D>::begin(begun, desk.receipt(rt), acks);
-            serve_logged(rt, desk, shares, log, links, sides)
+            serve_logged(rt, desk, shares, log, links)
         }
     }
 }
@@ -265,36 +184,32 @@ fn serve_logged<J, K, R, L, D>(
     shares: Vec<Share<J>>,
     log: RunningLog<J, K, D>,
     links: &L,
-    sides: Sides,
-) -> Result<RunPeriod<D>, ServeFault>
+) -> Result<ClosedRun<D>, ServeFault>
 where
     J: Naming + Send + Sync,
     K: LogNaming + Send + Sync,
-    R: Net<Listener = TcpListener, Stream = TcpStream> + Threads + Wait + Clock + Eprint + Sync,
+    R: Net<Listener = TcpListener, Stream = TcpStream>
+        + Threads
+        + Wait
+        + Clock
+        + Eprint
+        + Files
+        + Sync,
     L: Links,
     D: Device + Drop + Send,
     requires shares { 2 ≤ vec_len shares }
     requires begun { D.claims → IfSome log.begun (λ first. first.lines ≡ K.form.head) }
-    ensures closed { IfOk result (λ period. IsClosed J.desk period.run.book) }
-    ensures logged { D.claims → IfOk result (λ period. EndsLog D.seen D.may_leave D.left_since
-        K.form (told_at log.begun) period.run.book.entries period.run.log) }
+    ensures closed { IfOk result (λ run. IsClosed J.desk run.book) }
+    ensures logged { D.claims → IfOk result (λ run. EndsLog D.seen D.may_leave D.left_since
+        K.form (told_at log.begun) run.book.entries run.log) }
     ensures refused { IfErr result (IsWhyUnclosed J.desk) }
 {
     let state = KeepingState::new();
     let keeper = LogKeeper::new(rt, &desk, &log.log, &state);
     let way = keeping_way(desk.config());
-    let RunDesk { ends, sides } = ran(run_desk(rt, &desk, shares, links, sides, keeper, way))?;
+    let ends = run_desk(rt, &desk, shares, links, keeper, way);
     let book = close_desk(desk, ends)?;
-    let run = log.close(rt, book);
-    Ok(RunPeriod { run, sides })
-}
-
-// What a desk that was run comes to.
-fn ran<J: Naming>(run: Result<RunDesk<J>, Unprinted>) -> Result<RunDesk<J>, ServeFault> {
-    match run {
-        Ok(run) => Ok(run),
-        Err(why) => Err(ServeFault::Unprinted(why)),
-    }
+    Ok(log.close(rt, book))
 }
 
 // Where nothing waits for the disk, each loop has the journal kept.
@@ -306,12 +221,18 @@ fn keeping_way(config: &Config) -> KeepingWay {
 }
 
 // Closes a desk whose actors handed these in.
-fn close_desk<J: Naming>(desk: Desk<J>, ends: Vec<End<J>>) -> Result<LockedBook<J>, ServeFault>
+fn close_desk<J: Naming>(
+    desk: Desk<J>,
+    ends: Result<Vec<End<J>>, Unprinted>,
+) -> Result<LockedBook<J>, ServeFault>
     ensures { ClosesDesk J.desk result }
 {
-    match gather(desk, ends) {
-        Ok(Closed { book }) => Ok(book),
-        Err(left) => Err(ServeFault::NotGathered(left.why)),
+    match ends {
+        Ok(ends) => match gather(desk, ends) {
+            Ok(Closed { book }) => Ok(book),
+            Err(left) => Err(ServeFault::NotGathered(left.why)),
+        },
+        Err(why) => Err(ServeFault::Unprinted(why)),
     }
 }
 

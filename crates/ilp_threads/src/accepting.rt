@@ -5,11 +5,11 @@ use crossbeam_channel::Sender;
 use ilp_accounts::Config;
 use ilp_desk::Naming;
 use ilp_http::Buffer;
-use ilp_intake::{Admission, Intake, Next};
+use ilp_intake::{Admission, Intake};
 use ilp_notices::Notices;
 use ilp_replies::LocalReject;
 use ilp_server::{Side, Work, work_of};
-use ilp_shared::{Intakes, Job, Places, Shared};
+use ilp_shared::{Job, Places, Shared};
 use mio::net::TcpStream;
 use std::sync::Wait;
 use std::time::Clock;
@@ -31,7 +31,6 @@ struct Placing<'a, R> {
     rt: &'a R,
     config: &'a Config,
     places: &'a Places,
-    intakes: &'a Intakes,
     side: Side,
     buffer: Buffer,
     busy: Busy,
@@ -56,10 +55,6 @@ impl<R: Wait + Clock> Admission for Placing<'_, R> {
         self.places.admit(self.rt, self.side, ready)
     }
 
-    fn pauses(&self) -> bool {
-        self.places.is_over()
-    }
-
     fn sender_of(&self, kind: Work) -> u32 {
         match kind {
             Work::Remote { passage } => passage.sender,
@@ -78,9 +73,8 @@ impl<R: Wait + Clock> Admission for Placing<'_, R> {
     }
 
     fn give_back(&mut self, kind: Work) {
-        // This intake asks again at once, and the other one when the next job is done, or the period is over.
-        let asks = self.places.give_back(self.rt, kind);
-        self.intakes.look_again(asks);
+        // This intake asks again at once, and the other one when the next job is done.
+        self.places.give_back(self.rt, kind);
     }
 }
 
@@ -90,22 +84,14 @@ pub(crate) fn last_sender(config: &Config) -> u32 {
     config.peers() * 2
 }
 
-/// What takes connections in at one side, once it handed none on any more.
-#[derive(Drop)]
-pub(crate) struct Accepted {
-    pub(crate) acceptor: Acceptor,
-    /// Whether those that wait there are for the next period of the desk.
-    pub(crate) goes_on: bool,
-}
-
 /// Hands the connections of one side to the loops, as far as there are places for them, until the
-/// intake is closed and none waits there, or its time is over, or the period of the desk is. Then its
-/// sender of jobs is dropped: once both sides' are, the loops know that no more come.
+/// intake is closed and none waits there, or its time is over. Then its sender of jobs is dropped:
+/// once both sides' are, the loops know that no more come.
 pub(crate) fn accept_all<J: Naming, R: Wait + Clock>(
     shared: Shared<'_, J, R>,
     acceptor: Acceptor,
     jobs: Sender<Job>,
-) -> Accepted {
+) {
     let Acceptor {
         side,
         mut intake,
@@ -117,34 +103,18 @@ pub(crate) fn accept_all<J: Naming, R: Wait + Clock>(
         rt,
         config: shared.desk.config(),
         places: shared.places,
-        intakes: shared.intakes,
         side,
         buffer,
         busy,
         notices: shared.notices,
     };
-    let mut goes_on = false;
     for _ in rt.forever() {
-        match intake.next(rt, &mut placing) {
-            Next::Ready(connection) => {
-                if jobs.send(rt, Job { side, connection }).is_err() {
-                    break;
-                }
-                shared.bells.ring_one();
-            }
-            Next::Paused => {
-                goes_on = true;
-                break;
-            }
-            Next::Ended => break,
+        let Some(connection) = intake.next(rt, &mut placing) else {
+            break;
+        };
+        if jobs.send(rt, Job { side, connection }).is_err() {
+            break;
         }
+        shared.bells.ring_one();
     }
-    let Placing { buffer, busy, .. } = placing;
-    let acceptor = Acceptor {
-        side,
-        intake,
-        buffer,
-        busy,
-    };
-    Accepted { acceptor, goes_on }
 }

@@ -22,4 +22,4 @@ mod watching;
 
 pub use actors::KeepingWay;
 pub use fault::Unprinted;
-pub use sides::{RunDesk, Sides, run_desk};
+pub use sides::run_desk;

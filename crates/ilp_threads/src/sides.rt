@@ -6,7 +6,7 @@ use crate::actors::{Actors, KeepingWay, actors_of};
 use crate::busy::Busy;
 use crate::fault::Unprinted;
 use crate::open_files::{in_flight_by, open_files, waiting_by, wanted};
-use crate::threads::{Acceptors, RunPeriod, Running, run};
+use crate::threads::{Acceptors, Running, run};
 use ilp_accounts::Config;
 use ilp_desk::{Desk, End, Naming, Share};
 use ilp_http::Buffer;
@@ -15,43 +15,26 @@ use ilp_keeping::SharedKeeper;
 use ilp_links::Links;
 use ilp_notices::{few_files, listening, no_thread, not_listening};
 use ilp_server::Side;
-use ilp_shared::{Intakes, KeptJournal, PeriodDue, Places, Seen, Shared, ending_after, monotonic};
+use ilp_shared::{Intakes, KeptJournal, Places, Seen, Shared, ending_after};
 use std::io::{Eprint, ErrorKind};
 use std::net::{Net, TcpListener, TcpStream};
 use std::rt::Files;
 use std::sync::Wait;
 use std::thread::Threads;
-use std::time::{Clock, Duration};
+use std::time::Clock;
 
-// After how many milliseconds a period may end again behind which no other could begin.
-const AGAIN_MS: u64 = 60_000;
-
-/// What takes connections in at both sides, and what reaches it.
+// What takes connections in at both sides, and what reaches it.
 #[derive(Drop)]
-pub struct Sides {
+struct Sides {
     acceptors: Acceptors,
     intakes: Intakes,
     // How many files the process may have open, where the system says so.
     open_files: Option<u64>,
-    // Whether periods of the desk may end by themselves.
-    has_periods: bool,
-    // When one may, by the clock that never goes back.
-    not_before: Duration,
-    // Whether no desk was run between them yet.
-    is_first: bool,
 }
 
 impl Sides {
-    /// Has no period of a desk end by itself for a minute: the last one had none behind it.
-    pub fn go_on_for_now(&mut self, rt: &impl Clock) {
-        self.not_before = monotonic(rt).saturating_add(Duration::from_millis(AGAIN_MS));
-    }
-
-    /// Listens at both sides, at the places of the configuration. Periods of a desk between them may end by
-    /// themselves, or not.
-    ///
-    /// Refusals: `Listen` where a side can't be listened at, and a line says so; `Memory`.
-    pub fn open<R>(rt: &R, config: &Config, has_periods: bool) -> Result<Sides, Unprinted>
+    // Listens at both sides, at the places of the configuration.
+    fn open<R>(rt: &R, config: &Config) -> Result<Sides, Unprinted>
     where
         R: Net<Listener = TcpListener, Stream = TcpStream> + Clock + Eprint + Files,
     {
@@ -70,9 +53,6 @@ impl Sides {
             acceptors: Acceptors { peers, engines },
             intakes: Intakes::new(peer_handle, engine_handle, after),
             open_files,
-            has_periods,
-            not_before: Duration::ZERO,
-            is_first: true,
         })
     }
 }
@@ -122,23 +102,40 @@ where
     }
 }
 
-/// What a run of a desk comes to.
-#[derive(Drop)]
-pub struct RunDesk<J: Naming> {
-    /// What its actors hand in.
-    pub ends: Vec<End<J>>,
-    /// The sides, where connections wait for the next period; none where the connector was closed.
-    pub sides: Option<Sides>,
+/// Listens at both sides, at the places of the configuration, and runs the actors whose shares of the desk
+/// these are, the settler's last and the sweeper's before it, until the connector is closed and what was
+/// accepted is answered. Then it gives what they hand in. Each has a keeper of its own of the same journal,
+/// which is kept in that way before senders are told.
+///
+/// Refusals: `Listen` where a side can't be listened at, and `Spawn` where a thread can't be started, and a
+/// line says so; `Memory`. All that ran has ended then.
+pub fn run_desk<J, R, L, K>(
+    rt: &R,
+    desk: &Desk<J>,
+    shares: Vec<Share<J>>,
+    links: &L,
+    keeper: K,
+    way: KeepingWay,
+) -> Result<Vec<End<J>>, Unprinted>
+where
+    J: Naming + Send + Sync,
+    R: Net<Listener = TcpListener, Stream = TcpStream>
+        + Threads
+        + Wait
+        + Clock
+        + Eprint
+        + Files
+        + Sync,
+    L: Links,
+    K: SharedKeeper<J> + Drop + Send,
+    requires { 2 ≤ vec_len shares }
+{
+    let sides = Sides::open(rt, desk.config())?;
+    run_between(rt, desk, shares, links, sides, keeper, way)
 }
 
-/// Runs the actors whose shares of the desk these are, the settler's last and the sweeper's before it,
-/// between these sides, until the connector is closed and what was accepted is answered, or the period of
-/// the desk ends and nothing waits for anybody outside. Then it gives what they hand in. Each has a keeper
-/// of its own of the same journal, which is kept in that way before senders are told.
-///
-/// Refusals: `Spawn` where a thread can't be started, and a line says so; `Memory`. All that ran has ended
-/// then, and the sides are closed.
-pub fn run_desk<J, R, L, K>(
+// The same between these sides.
+fn run_between<J, R, L, K>(
     rt: &R,
     desk: &Desk<J>,
     shares: Vec<Share<J>>,
@@ -146,7 +143,7 @@ pub fn run_desk<J, R, L, K>(
     sides: Sides,
     keeper: K,
     way: KeepingWay,
-) -> Result<RunDesk<J>, Unprinted>
+) -> Result<Vec<End<J>>, Unprinted>
 where
     J: Naming + Send + Sync,
     R: Net<Listener = TcpListener, Stream = TcpStream> + Threads + Wait + Clock + Eprint + Sync,
@@ -159,9 +156,6 @@ where
         acceptors,
         intakes,
         open_files,
-        has_periods,
-        not_before,
-        is_first,
     } = sides;
     let in_flight = most_in_flight(open_files, config);
     let Actors {
@@ -174,14 +168,7 @@ where
     let kept = KeptJournal::new();
     let places = Places::new(config.allocator(), in_flight, config.peers())?;
     let seen = Seen::new();
-    let due = if has_periods {
-        PeriodDue::of(desk.lock(rt).book(), not_before)
-    } else {
-        None
-    };
-    if is_first {
-        tell_start(rt, config, in_flight, places.room(), open_files);
-    }
+    tell_start(rt, config, in_flight, places.room(), open_files);
     let shared = Shared {
         rt,
         desk,
@@ -191,35 +178,17 @@ where
         kept: &kept,
         notices: links.notices(),
         seen: &seen,
-        due,
     };
     let running = Running {
         loops,
         keeping,
         turning,
     };
-    match run(shared, running, acceptors, &settler_bell) {
-        Ok(RunPeriod { ends, acceptors }) => {
-            let sides = match acceptors {
-                Some(acceptors) => Some(Sides {
-                    acceptors,
-                    intakes,
-                    open_files,
-                    has_periods,
-                    not_before,
-                    is_first: false,
-                }),
-                None => None,
-            };
-            Ok(RunDesk { ends, sides })
-        }
-        Err(fault) => {
-            if let Unprinted::Spawn = fault {
-                no_thread(rt);
-            }
-            Err(fault)
-        }
+    let ends = run(shared, running, acceptors, &settler_bell);
+    if let Err(Unprinted::Spawn) = &ends {
+        no_thread(rt);
     }
+    ends
 }
 
 // How many packets and messages may be in flight.

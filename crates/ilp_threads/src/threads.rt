@@ -1,7 +1,7 @@
 //! The threads of a running connector.
 ghost use denote.Param.Send.{IsSend, IsSync};
 
-use crate::accepting::{Accepted, Acceptor, accept_all};
+use crate::accepting::{Acceptor, accept_all};
 use crate::actors::{Keeping, Turning, WatcherLinks};
 use crate::fault::Unprinted;
 use crate::sweeping::sweep;
@@ -186,31 +186,13 @@ where
     })
 }
 
-// What takes connections in at both sides, once neither hands any on.
-#[derive(Drop)]
-struct BothAccepted {
-    acceptors: Acceptors,
-    goes_on: bool,
-}
-
-impl BothAccepted {
-    fn of(peers: Accepted, engines: Accepted) -> BothAccepted {
-        let goes_on = peers.goes_on || engines.goes_on;
-        let acceptors = Acceptors {
-            peers: peers.acceptor,
-            engines: engines.acceptor,
-        };
-        BothAccepted { acceptors, goes_on }
-    }
-}
-
-// Accepts connections at both sides, each in a thread, until both are closed, or the period is over.
+// Accepts connections at both sides, each in a thread, until both are closed.
 fn accept_at_both<'s, S, J, R>(
     scope: &'s Scope<'s, S>,
     shared: &Shared<'s, J, R>,
     acceptors: Acceptors,
     jobs: Sender<Job>,
-) -> Result<BothAccepted, Unprinted>
+) -> Result<(), Unprinted>
 where
     J: Naming + Send + Sync + 's,
     R: Threads + Wait + time::Clock + Sync + 's,
@@ -221,16 +203,15 @@ where
     let (of_peers, of_engines) = (shared.another(), shared.another());
     let peer_thread = scope.spawn(move || accept_all(of_peers, peers, jobs))?;
     match scope.spawn(move || accept_all(of_engines, engines, engine_jobs)) {
-        Ok(thread) => {
-            let engines = thread.join(rt);
-            Ok(BothAccepted::of(peer_thread.join(rt), engines))
-        }
+        Ok(thread) => thread.join(rt),
         Err(_) => {
             shared.intakes.accept_no_more();
-            drop(peer_thread.join(rt));
-            Err(Unprinted::Spawn)
+            peer_thread.join(rt);
+            return Err(Unprinted::Spawn);
         }
     }
+    peer_thread.join(rt);
+    Ok(())
 }
 
 // What the workers hand in.
@@ -355,17 +336,8 @@ fn join_actors<J: Naming, R: Threads>(
     with_turns(rt, turns, ends?)
 }
 
-/// What a period of a desk comes to.
-#[derive(Drop)]
-pub(crate) struct RunPeriod<J: Naming> {
-    /// What its actors hand in.
-    pub(crate) ends: Vec<End<J>>,
-    /// What takes connections in for the next period; none where the connector was closed.
-    pub(crate) acceptors: Option<Acceptors>,
-}
-
 /// Runs the actors of a desk, each in a thread, until the connector is closed and what was accepted
-/// is answered, or the period of the desk is over, and gives what they hand in. Where a thread can't be started those that run are ended
+/// is answered, and gives what they hand in. Where a thread can't be started those that run are ended
 /// and joined: workers end once all senders of jobs are dropped, the sweeper and the settler once
 /// `KeepRunning` is, and an intake once it is closed.
 pub(crate) fn run<J, C, K, R>(
@@ -373,7 +345,7 @@ pub(crate) fn run<J, C, K, R>(
     actors: Running<J, C, K>,
     acceptors: Acceptors,
     settler_bell: &SettlerBell,
-) -> Result<RunPeriod<J>, Unprinted>
+) -> Result<Vec<End<J>>, Unprinted>
 where
     J: Naming + Send + Sync,
     C: Clock + Drop + Send,
@@ -392,7 +364,7 @@ where
     thread::scope(
         thread::scope_env(),
         shared.rt,
-        move |scope| -> Result<RunPeriod<J>, Unprinted>
+        move |scope| -> Result<Vec<End<J>>, Unprinted>
             requires { IsSend J.row × IsSync J.row × IsSend C.row × IsSend K.row × IsSync R.row }
         {
             let threads = match start_actors(scope, &shared, actors, jobs) {
@@ -407,23 +379,13 @@ where
             let accepted = accept_at_both(scope, &shared, acceptors, sender);
             // No job comes any more.
             shared.bells.ring_out();
-            let BothAccepted { acceptors, goes_on } = match accepted {
-                Ok(accepted) => accepted,
-                Err(fault) => {
-                    drop(threads);
-                    settler_bell.ring();
-                    return Err(fault);
-                }
-            };
-            let acceptors = if goes_on {
-                Some(acceptors)
-            } else {
-                drop(acceptors);
-                closing(shared.rt);
-                None
-            };
-            let ends = join_actors(shared.rt, threads, settler_bell)?;
-            Ok(RunPeriod { ends, acceptors })
+            if let Err(fault) = accepted {
+                drop(threads);
+                settler_bell.ring();
+                return Err(fault);
+            }
+            closing(shared.rt);
+            join_actors(shared.rt, threads, settler_bell)
         },
     )
 }

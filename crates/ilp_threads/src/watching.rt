@@ -53,7 +53,7 @@ where
 #[derive(Clone, Copy)]
 struct BookState {
     entries: u32,
-    // How many entries there are, and how many are kept for what is open.
+    // How many entries there are, and how many more those that end open holds will be.
     taken: u64,
     // The moment of the last entry, and 0 where there is none, in milliseconds since 1970.
     last: i64,
@@ -68,10 +68,19 @@ impl BookState {
         };
         BookState {
             entries,
-            taken: book.taken(),
+            taken: u64::from(entries).saturating_add(open_holds(book)),
             last,
         }
     }
+}
+
+// How many holds are open, of all peers.
+fn open_holds(book: &Book) -> u64 {
+    let mut count = 0u64;
+    for peer in 0..book.config().peers() {
+        count = count.saturating_add(u64::from(book.open_holds(peer)));
+    }
+    count
 }
 
 impl<J: Naming, C: Clock + Drop, K: SharedKeeper<J> + Drop> Watcher<'_, J, C, K> {
@@ -95,7 +104,7 @@ impl<J: Naming, C: Clock + Drop, K: SharedKeeper<J> + Drop> Watcher<'_, J, C, K>
         }
     }
 
-    // What was refused for want of room tells it too, where that came and went between two looks.
+    // Open settlements keep room back too. Where they have the last of it, what was refused tells.
     fn look_at_journal<R: time::Clock + Eprint>(&self, rt: &R, state: BookState) {
         let limit = self.desk.config().journal();
         if state.taken >= u64::from(limit) || self.seen.was_full() {

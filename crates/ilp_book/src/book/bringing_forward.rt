@@ -1,7 +1,5 @@
 //! The closing of a period's books, and the book of the next period.
-ghost use Rattle.std.specs.Prelude.{◌≡◌, IfOk, IfErr, OnOk, IsTrue, IsFalse, IsSome};
-ghost use Rattle.ilp_rules.specs.Open.{earliest};
-ghost use Rattle.ilp_book.specs.Reopened.{reopened};
+ghost use Rattle.std.specs.Prelude.{◌≡◌, IfOk, IfErr, OnOk};
 ghost use Rattle.ilp_next_period.specs.NextPeriod.{MayFollow, HasRoomForHead, IsWhyNotClosed, next_book};
 
 use crate::book::Book;
@@ -36,21 +34,5 @@ impl<A: Allocator + Clone> Book<A> {
         };
         let beginning = ending.bring_forward(alloc, config, now)?;
         Ok(Book::of(beginning))
-    }
-}
-
-impl<A: Allocator> Book<A> {
-    /// Opens the book anew, with all that it has, for a desk that goes on from it. False where a hold is open:
-    /// then it stays as it is.
-    pub fn reopen(&mut self) -> bool
-        ensures opened { IsTrue result → self.new ≡ reopened self.old }
-        ensures stays { IsFalse result → self.new ≡ self.old }
-        ensures open { IsFalse result → IsSome (earliest self.old.entries) }
-    {
-        if self.earliest_open().is_some() {
-            return false;
-        }
-        self.base = self.journal.len();
-        true
     }
 }

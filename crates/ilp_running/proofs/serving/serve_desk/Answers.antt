@@ -4,7 +4,7 @@ use Rattle.std.proofs.lemmas.Result.{IfOk-weaker}
 use Rattle.std.specs.Prelude.{Option, IfOk}
 use Rattle.ilp_desk.specs.Desk.{actors_of}
 use Rattle.ilp_desk.specs.Portion.{portion}
-use Rattle.ilp_log.specs.declared.start.BegunLog.{BegunLog}
+use Rattle.ilp_running.specs.declared.logging.BegunLog.{BegunLog}
 use Rattle.ilp_running.specs.Logging.{began_at, EndsLog}
 use Rattle.ilp_running.proofs.Logged.{ends_since}
 use Rattle.ilp_running.proofs.serving.serve_desk.Goals as goal

@@ -1,10 +1,12 @@
 //! The command `serve`.
 
+use crate::configuring::noticed;
+use crate::host::Host;
+use crate::refused::RunFault;
 use crate::run::Run;
 use ilp_accounts::Config;
 use ilp_journal_file::PlacesFiles;
 use ilp_notices::Notices;
-use ilp_starting::{Host, RunFault, noticed};
 use std::fs::File;
 use std::net::{Net, TcpListener, TcpStream};
 use std::rt::Files;

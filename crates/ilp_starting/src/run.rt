@@ -3,16 +3,16 @@ ghost use Rattle.std.specs.Prelude.{◌≡◌, ◌≤◌, length, IfSome};
 ghost use Rattle.ilp_running.specs.Logging.{IsBegun};
 ghost use Rattle.ilp_running.specs.Serving.{desk_of, ClosesDesk};
 
-use crate::ending::run_fault;
+use crate::carrying::new_book;
+use crate::host::Host;
+use crate::refused::RunFault;
 use crate::report::{print_report, room_for_report};
 use ilp_accounts::Config;
 use ilp_book::Book;
 use ilp_line_file::{Device, MemoryDevice};
 use ilp_links::{SystemClock, TcpLinks};
-use ilp_log::BegunLog;
 use ilp_notices::{Notices, no_journal};
-use ilp_running::{BegunPeriod, ClosedRun, Periods, ServeFault, run_periods, run_to_close};
-use ilp_starting::{Host, RunFault, new_book};
+use ilp_running::{BegunLog, ClosedRun, ServeFault, run_to_close};
 use std::fs::File;
 use std::net::{Net, TcpListener, TcpStream};
 use std::rt::Files;
@@ -47,7 +47,7 @@ where
         let unlogged: Option<BegunLog<MemoryDevice>> = None;
         match self.serve(book, unlogged) {
             Ok(book) => print_report(self.rt, &book, &mut report),
-            Err(fault) => Err(run_fault(fault)),
+            Err(fault) => Err(RunFault::from(fault)),
         }
     }
 
@@ -67,22 +67,6 @@ where
         let clock = SystemClock::new(*self.rt);
         let links = TcpLinks::new(clock, self.notices);
         let ClosedRun { book, log: _ } = run_to_close(self.rt, self.config, book, &links, log)?;
-        Ok(book)
-    }
-
-    /// The same from the book of a period on, and from each to the next. Gives the last one's back.
-    pub(crate) fn serve_periods<D, P>(
-        &self,
-        first: BegunPeriod<D>,
-        periods: &mut P,
-    ) -> Result<Book, ServeFault>
-    where
-        D: Device + Drop + Send,
-        P: Periods<D>,
-    {
-        let clock = SystemClock::new(*self.rt);
-        let links = TcpLinks::new(clock, self.notices);
-        let ClosedRun { book, log: _ } = run_periods(self.rt, self.config, first, &links, periods)?;
         Ok(book)
     }
 }
