@@ -2,7 +2,7 @@
 //! script from standard input over a configuration, or runs a connector of one.
 //!
 //! All of it is proved safe, and no more: what its commands do is promised by `ilp_described`,
-//! `ilp_offline` and `ilp_starting`.
+//! `ilp_offline` and `ilp_serve`.
 #![tactic(auto)]
 
 mod asking;
@@ -17,7 +17,8 @@ use helping::{USAGE, run_help, run_version};
 use ilp_described::{describe_packet, reject_words};
 use ilp_new_period::{follows, new_period};
 use ilp_refusals::Refusal;
-use ilp_starting::{Host, PlacesFiles, Refused, RunFault, serve};
+use ilp_serve::{ReadsConfigs, serve};
+use ilp_starting::{Host, PlacesFiles, Refused, RunFault};
 use replaying::run_replay;
 use std::env;
 use std::fs::File;
@@ -86,6 +87,7 @@ where
     R: Host
         + Files<File = File>
         + PlacesFiles<File = File>
+        + ReadsConfigs
         + Net<Listener = TcpListener, Stream = TcpStream>,
 {
     match words.asked() {
@@ -100,6 +102,7 @@ where
     R: Host
         + Files<File = File>
         + PlacesFiles<File = File>
+        + ReadsConfigs
         + Net<Listener = TcpListener, Stream = TcpStream>,
 {
     match asked {

@@ -87,6 +87,9 @@ number_ranged least most which t none = required_holds (is_natural least most) n
 pub number_ranged_or : (least most : ℕ) (which : Field) (t : Members) (default : ℕ) → IsWithin least most default → optional (is_natural least most) which t ≡ None → IsWithin least most (unwrap_or (natural_in which t) default)
 number_ranged_or least most which t default h none = defaulted_holds (is_natural least most) natural (IsWithin least most) (λ value. ranged least most (natural value)) which t default h none
 
+pub number_ranged_if : (least most : ℕ) (which : Field) (t : Members) → optional (is_natural least most) which t ≡ None → IfSome (natural_in which t) (IsWithin least most)
+number_ranged_if least most which t none = optional_holds (is_natural least most) natural (IsWithin least most) (λ value. ranged least most (natural value)) which t none
+
 written : (n : Option ℕ) → is_natural_within 0 most_written n ≡ true → IsSomeAnd n IsMaxPacket
 written None fits = cc
 written (Some n) fits = inl (within_parts 0 most_written n fits).1

@@ -21,11 +21,11 @@ use Rattle.ilp_fields.specs.declared.form.Form.TheVariants as form
 use Rattle.ilp_fields.specs.FromAssets.{from_assets}
 use Rattle.ilp_fields.specs.Fields.{elements_of, tables}
 use Rattle.ilp_accounts.specs.Configuration.{PlainArrays, settings_of, asset_from, price_from, peer_of, route_of, arrays_of, assets_of, prices_of, peers_of, peer_names, configuration}
-use Rattle.ilp_accounts.specs.Limits.{most_assets, most_prices, most_peers, most_routes, most_workers, most_in_flight, least_journal, most_journal, longest_ms, longest_rest_ms, most_scale, most_term}
+use Rattle.ilp_accounts.specs.Limits.{most_assets, most_prices, most_peers, most_routes, most_workers, most_in_flight, most_percent, least_journal, most_journal, longest_ms, longest_rest_ms, most_scale, most_term}
 use Rattle.ilp_accounts.specs.Faults.{settings_checks, settings_fault, arrays_checks, arrays_fault, asset_checks, asset_fault, price_checks, price_fault, assets_checks, assets_fault, peer_fault, route_fault, all_checks, first_fault}
 use Rattle.ilp_accounts.specs.Valid.{IsValid, AreSettings, IsAsset, IsPrice, IsPeer, IsRouteTo, IsWithin}
 use Rattle.ilp_accounts.proofs.Passing.{All-mapped, All-beside, distinct_beside, distinct_none}
-use Rattle.ilp_accounts.proofs.FieldLaws.{text_formed, text_formed_or, number_ranged, number_ranged_or, AreTables, tables_counted}
+use Rattle.ilp_accounts.proofs.FieldLaws.{text_formed, text_formed_or, number_ranged, number_ranged_if, number_ranged_or, AreTables, tables_counted}
 use Rattle.ilp_accounts.proofs.PeerLaws.{is_peer, name_fresh, token_fresh, is_route, prefix_fresh}
 
 -- top fields without a fault are settings
@@ -46,6 +46,7 @@ are_settings t none =
       sweep_ms = number_ranged_or 1 longest_rest_ms field.SweepMs t 100 (omega arith, omega arith) (passed checks none 9);
       settle_ms = number_ranged_or 1 longest_rest_ms field.SettleMs t 1000 (omega arith, omega arith) (passed checks none 10);
       in_flight = number_ranged_or 1 most_in_flight field.InFlight t 4096 (omega arith, omega arith) (passed checks none 12);
+      new_period_at = number_ranged_if 1 most_percent field.NewPeriodAt t (passed checks none 13);
     }
 
 -- how many tables the arrays have

@@ -11,7 +11,7 @@ use Rattle.ilp_accounts.specs.declared.settings.LogSync.{LogSync}
 use Rattle.ilp_accounts.specs.declared.settings.LogSync.TheVariants.{Group, Off}
 use Rattle.ilp_fields.specs.Fields.{text_of, text_in, integer_of, integer_in, natural_of, natural_in, asset_of, elements_of, tables}
 
--- what stands at the top; times in milliseconds, the journal in entries
+-- what stands at the top; times in milliseconds, the journal in entries, and the new period's beginning in percent of it
 pub record PlainSettings : Type 0 where
   pub address : List ℕ
   pub run : List ℕ
@@ -26,6 +26,7 @@ pub record PlainSettings : Type 0 where
   pub settle_ms : ℕ
   pub sync : LogSync
   pub in_flight : ℕ
+  pub new_period_at : Option ℕ
 
 -- a peer; amounts in units of its asset
 pub record PlainPeer : Type 0 where
@@ -83,6 +84,7 @@ settings_of t = record {
   settle_ms = unwrap_or (natural_in field.SettleMs t) 1000;
   sync = sync_of (unwrap_or (text_in field.Sync t) (codes "group"));
   in_flight = unwrap_or (natural_in field.InFlight t) 4096;
+  new_period_at = natural_in field.NewPeriodAt t;
 }
 
 -- the elements of the arrays

@@ -15,7 +15,7 @@ use Rattle.ilp_fields.specs.declared.fault.ConfigFault.TheVariants.{Missing, Bad
 use Rattle.ilp_fields.specs.FromAssets.{from_assets}
 use Rattle.ilp_fields.specs.Checks.{required, optional, first_beside}
 use Rattle.ilp_fields.specs.Fields.{is_text, is_natural, is_integer, is_asset, are_tables, text_of, elements_of, tables}
-use Rattle.ilp_accounts.specs.Limits.{most_assets, most_prices, most_peers, most_routes, most_workers, most_in_flight, least_journal, most_journal, longest_ms, longest_rest_ms, most_scale, most_term, most_written}
+use Rattle.ilp_accounts.specs.Limits.{most_assets, most_prices, most_peers, most_routes, most_workers, most_in_flight, most_percent, least_journal, most_journal, longest_ms, longest_rest_ms, most_scale, most_term, most_written}
 use Rattle.ilp_accounts.specs.Configuration.{PlainPeer, PlainFields, PlainArrays, peer_names, peer_tokens, place_named, fields_of, peer_of, route_of, arrays_of, assets_of, prices_of, peers_of}
 
 -- the top fields
@@ -34,6 +34,7 @@ settings_checks t =
     ∷ optional (is_natural 1 longest_rest_ms) field.SettleMs t
     ∷ optional (is_text form.Sync) field.Sync t
     ∷ optional (is_natural 1 most_in_flight) field.InFlight t
+    ∷ optional (is_natural 1 most_percent) field.NewPeriodAt t
     ∷ []
 
 unfoldable pub settings_fault : Members → Option ConfigFault

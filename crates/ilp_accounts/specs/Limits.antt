@@ -22,6 +22,10 @@ most_workers = 64
 abbrev pub most_in_flight : ℕ
 most_in_flight = 65536
 
+-- the percent of a journal at which a new period begins
+abbrev pub most_percent : ℕ
+most_percent = 95
+
 -- the entries of a journal: a hold and its answer at least
 abbrev pub least_journal : ℕ
 least_journal = 2

@@ -10,7 +10,7 @@ use Rattle.ilp_fields.specs.declared.form.Form.{Form}
 use Rattle.ilp_fields.specs.declared.form.Form.TheVariants as form
 use Rattle.ilp_accounts.specs.declared.peer.Levels.{Levels}
 use Rattle.ilp_fields.specs.Forms.{admits}
-use Rattle.ilp_accounts.specs.Limits.{most_assets, most_prices, most_peers, most_routes, most_workers, most_in_flight, least_journal, most_journal, longest_ms, longest_rest_ms, most_scale, most_term, most_written}
+use Rattle.ilp_accounts.specs.Limits.{most_assets, most_prices, most_peers, most_routes, most_workers, most_in_flight, most_percent, least_journal, most_journal, longest_ms, longest_rest_ms, most_scale, most_term, most_written}
 use Rattle.ilp_accounts.specs.Configuration.{PlainSettings, PlainPeer, Configuration, peer_names, peer_tokens}
 
 -- no two texts are equal
@@ -37,6 +37,7 @@ pub record AreSettings (s : PlainSettings) : Type 0 where
   pub sweep_ms : IsWithin 1 longest_rest_ms s.sweep_ms
   pub settle_ms : IsWithin 1 longest_rest_ms s.settle_ms
   pub in_flight : IsWithin 1 most_in_flight s.in_flight
+  pub new_period_at : IfSome s.new_period_at (IsWithin 1 most_percent)
 
 pub record IsAsset (a : PlainAsset) : Type 0 where
   pub code : HasForm form.Code a.code

@@ -24,6 +24,7 @@ plain_settings text s = record {
   settle_ms = s.settle_ms;
   sync = s.sync;
   in_flight = s.in_flight;
+  new_period_at = s.new_period_at;
 }
 
 abbrev pub plain_arrays : Arrays → PlainArrays

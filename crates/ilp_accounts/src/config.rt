@@ -235,6 +235,14 @@ impl Config {
         self.settings.in_flight
     }
 
+    /// At how many percent of the journal a new period begins, with the room that is kept for what is
+    /// open: 1 to 95. None where none begins by itself.
+    pub fn new_period_at(&self) -> Option<u32>
+        ensures { result ≡ self.now.settings.new_period_at }
+    {
+        self.settings.new_period_at
+    }
+
     /// The assets and their prices.
     pub fn assets(&self) -> &AssetTable
         ensures value { result.now ≡ self.now.table }

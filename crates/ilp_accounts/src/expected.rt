@@ -76,6 +76,7 @@ fn expected_number(field: Field) -> &'static str {
         Field::Workers => "a whole number from 1 to 64",
         Field::Journal => "a whole number from 2 to 16777216",
         Field::InFlight => "a whole number from 1 to 65536",
+        Field::NewPeriodAt => "a whole number from 1 to 95",
         Field::WindowMs => "a whole number from 0 to 3600000",
         Field::MaxHoldMs => "a whole number from 1 to 3600000",
         Field::SweepMs | Field::SettleMs => "a whole number from 1 to 60000",

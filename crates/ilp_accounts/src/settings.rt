@@ -6,7 +6,9 @@ ghost use Rattle.ilp_accounts.specs.Views.{plain_settings};
 ghost use Rattle.ilp_accounts.specs.Configuration.{settings_of, sync_of};
 ghost use Rattle.ilp_accounts.specs.Faults.{settings_fault};
 
-use ilp_fields::{ConfigFault, Field, Form, defaulted_number, defaulted_text, required_text};
+use ilp_fields::{
+    ConfigFault, Field, Form, defaulted_number, defaulted_text, optional_number, required_text,
+};
 use std::alloc::{AllocError, Global};
 use toml::Table;
 
@@ -41,6 +43,7 @@ pub(crate) struct Settings<T> {
     pub(crate) settle_ms: u32,
     pub(crate) sync: LogSync,
     pub(crate) in_flight: u32,
+    pub(crate) new_period_at: Option<u32>,
 }
 
 /// Reads the top fields.
@@ -67,6 +70,7 @@ pub(crate) fn settings_of(table: &Table) -> Result<Settings<&str>, ConfigFault>
     let settle_ms = defaulted_number(table, Field::SettleMs, 1, MINUTE_MS, 1_000)?;
     let sync = defaulted_text(table, Field::Sync, Form::Sync, "group")?;
     let in_flight = defaulted_number(table, Field::InFlight, 1, 65_536, 4_096)?;
+    let new_period_at = optional_number(table, Field::NewPeriodAt, 1, 95)?;
     Ok(Settings {
         address,
         run,
@@ -81,6 +85,7 @@ pub(crate) fn settings_of(table: &Table) -> Result<Settings<&str>, ConfigFault>
         settle_ms,
         sync: sync_of(sync),
         in_flight,
+        new_period_at,
     })
 }
 
@@ -114,6 +119,7 @@ impl Settings<&str> {
             settle_ms: self.settle_ms,
             sync: self.sync,
             in_flight: self.in_flight,
+            new_period_at: self.new_period_at,
         })
     }
 }
@@ -137,6 +143,7 @@ impl Settings<String> {
             settle_ms: self.settle_ms,
             sync: self.sync,
             in_flight: self.in_flight,
+            new_period_at: self.new_period_at,
         }
     }
 }

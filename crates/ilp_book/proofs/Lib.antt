@@ -1,4 +1,5 @@
 pub mod OpenAsks
+pub mod Reopening
 pub mod HoldSteps
 pub mod AnswerSteps
 pub mod SettleSteps

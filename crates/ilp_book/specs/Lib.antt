@@ -34,3 +34,4 @@ pub use Rattle.ilp_rules.specs.Carry
 pub use Rattle.ilp_rules.specs.Recover
 pub use Rattle.ilp_rules.specs.TakenUp
 pub use Rattle.ilp_next_period.specs.NextPeriod
+pub mod Reopened

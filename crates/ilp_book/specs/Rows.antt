@@ -40,7 +40,7 @@ bob_in_parts = record alice { levels = Some (record { threshold = pos 1000; sett
 
 abbrev pub between : PlainPeer → PlainPeer → Configuration
 between one other = record {
-  settings = record { address = []; run = []; listen = []; engine_listen = []; path = []; workers = 1; journal = 65536; window_ms = 1000; max_hold_ms = 30000; sweep_ms = 100; settle_ms = 1000; sync = Group; in_flight = 4096 };
+  settings = record { address = []; run = []; listen = []; engine_listen = []; path = []; workers = 1; journal = 65536; window_ms = 1000; max_hold_ms = 30000; sweep_ms = 100; settle_ms = 1000; sync = Group; in_flight = 4096; new_period_at = None };
   table = record { assets = record { code = codes "USD"; scale = 2 } ∷ []; prices = [] };
   peers = one ∷ other ∷ [];
   routes = [];

@@ -3,20 +3,21 @@ mod bringing_forward;
 mod carrying_over;
 mod settling;
 
-ghost use Rattle.std.specs.Prelude.{◌≡◌, ℕ, ◌^◌, ◌<◌, ◌≤◌, pos, ◌≤ℤ◌, length, Option, IfOk, OnOk, OnErr, slice_get};
+ghost use Rattle.std.specs.Prelude.{◌≡◌, ℕ, ◌+◌, ◌^◌, ◌<◌, ◌≤◌, pos, ◌≤ℤ◌, length, Option, IfOk, OnOk, OnErr, slice_get};
 ghost use Rattle.std.specs.Option.{option_copied};
 ghost use Rattle.ilp_terms.specs.Expiry.{last_of_all};
 ghost use Rattle.ilp_lookup.specs.Route.{IsRoute};
 ghost use Rattle.ilp_packet.specs.Packet.{plain_prepare};
 ghost use Rattle.ilp_accounts.specs.Configuration.{peer_at};
 ghost use Rattle.ilp_accounts.specs.Valid.{IsValid};
-ghost use Rattle.ilp_journal.specs.Journal.{opening, closing, last_moment, open_holds, open_hold_at, fulfilled_since, IsBase};
+ghost use Rattle.ilp_journal.specs.Journal.{opening, closing, last_moment, open_holds, open_count, open_hold_at, fulfilled_since, IsBase};
 ghost use Rattle.ilp_journal.specs.Balance.{balance};
 ghost use Rattle.ilp_journal.specs.TrialBalance.{held, fees, bought, sold, settled, total_in, total_out, IsBalanced};
 ghost use Rattle.ilp_rules.specs.Book.{by, moment_at, new_book, pushed, has_room, Does};
 ghost use Rattle.ilp_rules.specs.Configured.{IsKnown, peer_assets};
 ghost use Rattle.ilp_rules.specs.Open.{earliest};
 ghost use Rattle.ilp_rules.specs.Lawful.{IsLawful, HasTerms};
+ghost use Rattle.ilp_book.specs.Reopened.{IsHead};
 ghost use Rattle.ilp_book.specs.Sums.{IsWithin, AreWithin};
 ghost use Rattle.ilp_book.specs.HoldStep.{incoming, given_route, has_total, hold_fitted, hold_booked, hold_step, growth_of};
 ghost use Rattle.ilp_book.specs.AnswerStep.{answer_step, expire_step};
@@ -117,6 +118,28 @@ impl<A: Allocator> Book<A> {
     pub fn len(&self) -> u32
         ensures { result ≡ length self.now.entries }
     {
+        self.journal.len()
+    }
+
+    /// How many entries are taken: those that there are, and as many as end or close what is open, which
+    /// are kept for that.
+    pub fn taken(&self) -> u64
+        ensures value { result ≡ length self.now.entries + open_count self.now.entries }
+        ensures within { result ≤ self.now.config.settings.journal }
+    {
+        u64::from(self.journal.len()) + u64::from(self.tables.tallies.open_count())
+    }
+
+    /// How many entries stand at the head of the journal that were brought forward from an earlier period.
+    pub fn head(&self) -> u32
+        ensures { IsHead self.now.entries result }
+    {
+        for number in 0..self.journal.len() {
+            match self.journal.get(number) {
+                Some(entry) if entry.what.is_brought_forward() => {}
+                _ => return number,
+            }
+        }
         self.journal.len()
     }
 

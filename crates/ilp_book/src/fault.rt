@@ -90,6 +90,14 @@ pub struct NotOpen {
     pub closer: Option<u32>,
 }
 
+/// A hold is open.
+#[derive(Clone, Copy, Debug, PartialEq, Eq, Error)]
+#[error("the hold {number} is open")]
+pub struct HoldOpen {
+    /// Its number: of several that of the one whose deadline comes first.
+    pub number: u32,
+}
+
 /// Why a settlement from a peer was refused, in the order in which these are looked for.
 #[derive(Clone, Copy, Debug, PartialEq, Eq, Error)]
 pub enum CreditFault {

@@ -34,6 +34,8 @@
 //!   (`MayFollow`) and there is room; else it tells which of these is wanting (`IsWhyNotClosed`), or
 //!   memory. The book that it is asked of stays as it is. What this leaves as it was is said by the laws
 //!   of `ilp_next_period::periods`.
+//! - `reopen` makes of a book without an open hold the one that a desk goes on from, with all that it has
+//!   (`specs/Reopened.antt`); else it names an open hold, and the book stays as it is.
 //! - `runs_are_lawful`: over a valid configuration, for every list of the six calls within their
 //!   conditions (known peers, the destination's own route, a key of 1 to 128 octets), of any
 //!   actors, at any times, however short memory is, the journal is lawful, and the books of each
@@ -58,7 +60,7 @@ mod terms;
 
 pub use book::Book;
 pub use calls::{Asked, Held, Kept, Outcome, PeerReply, Sums};
-pub use fault::{AskFault, CreditFault, HoldFault, NotOpen};
+pub use fault::{AskFault, CreditFault, HoldFault, HoldOpen, NotOpen};
 pub use ilp_next_period::ForwardFault;
 pub use ilp_rules::{BrokenRule, CarryFault, RecoverFault};
 pub use ilp_settlement::EngineVerdict;

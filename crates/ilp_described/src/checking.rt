@@ -30,8 +30,8 @@ pub fn check(alloc: Global, octets: &[u8]) -> Result<String, ConfigFault>
     }
 }
 
-// The line of a configuration.
-fn line_of(alloc: Global, config: &Config) -> Result<String, AllocError>
+/// The same of a configuration that was read. `AllocError` tells that memory is short.
+pub fn line_of(alloc: Global, config: &Config) -> Result<String, AllocError>
     ensures { IfOk result (λ line. string_bytes line ≡ check_line config.now) }
 {
     let peers = config.peers();

@@ -17,6 +17,6 @@ mod checking;
 mod describe;
 mod text;
 
-pub use checking::{check, check_book};
+pub use checking::{check, check_book, line_of};
 pub use describe::{describe_packet, reject_words};
 pub use text::{decode, is_printable};

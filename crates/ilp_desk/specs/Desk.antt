@@ -1,5 +1,5 @@
 -- The desk that is named, and which books are its own.
-use Rattle.std.specs.Prelude.{◌≡◌, ℕ, ◌+◌, ◌<◌, List, [], ◌++◌, length, drop, All}
+use Rattle.std.specs.Prelude.{◌≡◌, ℕ, ◌+◌, ◌<◌, List, [], ◌++◌, length, drop, All, None}
 use Rattle.ilp_accounts.specs.Configuration.{Configuration}
 use Rattle.ilp_accounts.specs.declared.settings.LogSync.TheVariants.{Group}
 use Rattle.ilp_journal.specs.declared.entry.Entry.{Entry}
@@ -53,7 +53,7 @@ settlement_key_in desk n = settlement_key_at desk.config desk.period desk.openin
 
 -- a configuration of nothing
 abbrev pub nothing : Configuration
-nothing = record { settings = record { address = []; run = []; listen = []; engine_listen = []; path = []; workers = 0; journal = 0; window_ms = 0; max_hold_ms = 0; sweep_ms = 0; settle_ms = 0; sync = Group; in_flight = 0 }; table = record { assets = []; prices = [] }; peers = []; routes = [] }
+nothing = record { settings = record { address = []; run = []; listen = []; engine_listen = []; path = []; workers = 0; journal = 0; window_ms = 0; max_hold_ms = 0; sweep_ms = 0; settle_ms = 0; sync = Group; in_flight = 0; new_period_at = None }; table = record { assets = []; prices = [] }; peers = []; routes = [] }
 
 -- what stands for the desk where none is named
 abbrev pub no_desk : PlainDesk

@@ -25,6 +25,7 @@ pub enum Field {
     SettleMs,
     Sync,
     InFlight,
+    NewPeriodAt,
     /// The array of assets, and a peer's asset.
     Asset,
     Price,
@@ -71,6 +72,7 @@ impl Field {
             Field::SettleMs => "settle_ms",
             Field::Sync => "sync",
             Field::InFlight => "in_flight",
+            Field::NewPeriodAt => "new_period_at",
             Field::Asset => "asset",
             Field::Price => "price",
             Field::Peer => "peer",

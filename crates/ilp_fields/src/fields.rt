@@ -151,6 +151,27 @@ pub fn defaulted_number(
     }
 }
 
+/// A number from the least to the most that needn't be there. It is refused with `BadValue` where the
+/// value is no integer or lies outside.
+pub fn optional_number(
+    table: &Table,
+    field: Field,
+    least: u32,
+    most: u32,
+) -> Result<Option<u32>, ConfigFault>
+    ensures { Gives (λ number. number) result
+        (optional (is_natural least most) field (table_view table.now))
+        (natural_in field (table_view table.now)) }
+{
+    match value_at(table, field) {
+        None => Ok(None),
+        Some(value) => match number_within(value, least, most) {
+            Some(number) => Ok(Some(number)),
+            None => Err(ConfigFault::BadValue { field }),
+        },
+    }
+}
+
 // A number from the least to the most.
 fn number_within(value: &Value, least: u32, most: u32) -> Option<u32>
     ensures fits { is_some result ≡ is_natural least most (view value.now) }

@@ -16,6 +16,7 @@ mod named;
 pub use fault::{ConfigFault, Field};
 pub use fields::{
     defaulted_amount, defaulted_number, defaulted_text, optional_amount, optional_integer,
-    optional_text, required_asset, required_integer, required_number, required_text, tables_at,
+    optional_number, optional_text, required_asset, required_integer, required_number,
+    required_text, tables_at,
 };
 pub use form::Form;

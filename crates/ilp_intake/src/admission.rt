@@ -18,6 +18,9 @@ pub trait Admission {
     /// order in which they came; none where none may be given on now. It counts as given on then.
     fn admit(&mut self, ready: &[Self::Kind]) -> Option<usize>;
 
+    /// Whether nothing is given on for now, also of what is ready.
+    fn pauses(&self) -> bool;
+
     /// The number of whoever sent the request of a connection of this kind. Of many that wait, those of
     /// one sender are closed first.
     fn sender_of(&self, kind: Self::Kind) -> u32;

@@ -122,6 +122,16 @@ impl<K: Copy> Connection<K> {
         }
     }
 
+    /// Looks anew of which kind it is, where its request has come whole.
+    pub(crate) fn look_anew<D: Admission<Kind = K>>(&mut self, admission: &mut D) {
+        if let Stage::Ready { kind: _, refused } = self.stage {
+            self.stage = Stage::Ready {
+                kind: admission.kind_of(self.incoming.octets()),
+                refused,
+            };
+        }
+    }
+
     fn read_piece(&mut self) -> io::Result<Reading> {
         let mut piece = [0; PIECE];
         match self.stream.read(&mut piece)? {

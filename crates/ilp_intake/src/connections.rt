@@ -293,6 +293,20 @@ impl<K: Copy> Connections<K> {
         None
     }
 
+    /// From now on the senders' numbers are not above this last one.
+    pub(crate) fn set_last(&mut self, last: u32) -> Result<(), AllocError> {
+        let alloc = *self.waiting.allocator();
+        self.closing = Closing::new(alloc, self.most, last)?;
+        Ok(())
+    }
+
+    /// Looks anew at those whose request has come whole.
+    pub(crate) fn look_anew<D: Admission<Kind = K>>(&mut self, admission: &mut D) {
+        for connection in self.waiting.iter_mut() {
+            connection.look_anew(admission);
+        }
+    }
+
     /// Closes the intake: what has not come in a second from now is not waited for.
     pub(crate) fn close(&mut self, now: Duration) {
         self.closed = Some(now);

@@ -9,7 +9,7 @@ use crate::times::earlier;
 use crate::watch::Watch;
 use crossbeam_channel::{Receiver, Sender, bounded};
 use mio::{Events, Poll, Token, Waker};
-use std::alloc::Global;
+use std::alloc::{AllocError, Global};
 use std::net::{Net, TcpStream};
 use std::sync::Wait;
 use std::time::{Clock, Duration};
@@ -79,6 +79,17 @@ impl IntakeHandle {
     }
 }
 
+/// What an intake has next.
+#[derive(Drop)]
+pub enum Next<K> {
+    /// A connection that is to be given on.
+    Ready(ReadyConnection<K>),
+    /// Nothing for now, as the admission says. Those that wait go on waiting.
+    Paused,
+    /// Nothing any more: it was closed.
+    Ended,
+}
+
 // Whether connections wait at the listener to be accepted.
 #[derive(Clone, Copy, PartialEq, Eq)]
 enum Backlog {
@@ -130,30 +141,46 @@ impl<K: Copy> Intake<K> {
 
     /// The next connection that is to be given on: of those whose request has come whole, is refused
     /// as it stands, or whose client sends nothing more, the one that is admitted. Waits until there
-    /// is one. None once the intake was closed and no connection waits, or its time is over: those
-    /// that wait then are closed with it, as are those that linger.
+    /// is one, or the admission pauses. `Ended` once the intake was closed and no connection waits, or its
+    /// time is over: those that wait then are closed with it, as are those that linger.
     pub fn next<R: Clock + Wait, D: Admission<Kind = K>>(
         &mut self,
         rt: &R,
         admission: &mut D,
-    ) -> Option<ReadyConnection<K>> {
+    ) -> Next<K> {
         self.watch.resume(rt);
         for _ in rt.forever() {
+            if admission.pauses() {
+                return Next::Paused;
+            }
             let now = self.watch.last();
             let left = self.connections.ending_left(self.ending, now);
             if left == Some(Duration::ZERO) {
-                return None;
+                return Next::Ended;
             }
             let registry = self.poll.registry();
             if let Some(ready) = self.connections.take_ready(registry, admission) {
-                return Some(ready);
+                return Next::Ready(ready);
             }
             if self.listener.is_none() && self.connections.is_empty() {
-                return None;
+                return Next::Ended;
             }
             self.handle_events(rt, admission);
         }
         unreachable!()
+    }
+
+    /// From now on the senders' numbers are not above this last one, and once it is closed connections are
+    /// given on for so long at most. An admission that knows them is to look anew.
+    pub fn set_last(&mut self, last: u32, ending: Duration) -> Result<(), AllocError> {
+        self.connections.set_last(last)?;
+        self.ending = ending;
+        Ok(())
+    }
+
+    /// Looks anew at those that wait, by an admission that may know them otherwise.
+    pub fn look_anew<D: Admission<Kind = K>>(&mut self, admission: &mut D) {
+        self.connections.look_anew(admission);
     }
 
     // Waits until events come or a connection's time is up, and handles both.

@@ -10,10 +10,10 @@ use crate::taking::JournalFile;
 use crate::writing::Content;
 use ilp_notices::{period_begun, period_differs, period_kept, period_unwritten};
 use std::alloc::Global;
-use std::io;
 use std::io::Eprint;
 use std::rt::Files;
 use std::time::Clock;
+use std::{fs, io};
 
 impl<F> JournalFile<F> {
     /// The text of a period that has ended, `J.P` for its number P, or nothing where there is no file.
@@ -65,6 +65,31 @@ impl<F> JournalFile<F> {
         let journal = self.names.journal.as_str();
         period_kept(rt, journal, period, path, content.entries());
         Ok(())
+    }
+
+    /// Removes `J.P` where it has this text, which is the journal's own: a stop came between the two files of a
+    /// next period, so that did not begin, and this one goes on. Any other text stays.
+    ///
+    /// Refusals: those of `read_period`; `Unwritten` where it can't be removed, and a line says so.
+    pub fn forget_period<R, C>(
+        &self,
+        rt: &R,
+        alloc: Global,
+        period: u32,
+        content: &C,
+    ) -> Result<(), FileFault>
+    where
+        R: Files + Clock + Eprint,
+        C: Content,
+    {
+        match self.read_period(rt, alloc, period)? {
+            Some(text) if has_text(content, &text) => {
+                let path = self.names.period(alloc, period)?;
+                unless_unwritten(rt, path.as_str(), fs::remove_file(rt, path.as_str()))?;
+                unless_unwritten(rt, path.as_str(), self.names.sync_folder(rt))
+            }
+            _ => Ok(()),
+        }
     }
 
     /// Has the text of a period take the place of the journal, whose text is kept elsewhere: as `save` does, but

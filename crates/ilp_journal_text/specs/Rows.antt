@@ -1,5 +1,5 @@
 -- Worked texts. Alice and bob are the peers 0 and 1.
-use Rattle.std.specs.Prelude.{◌≡◌, ℕ, pos, negsuc, List, [], ◌∷◌, ◌++◌, codes, replicate}
+use Rattle.std.specs.Prelude.{◌≡◌, ℕ, pos, negsuc, List, [], ◌∷◌, ◌++◌, codes, replicate, None}
 use Rattle.ilp_accounts.specs.Configuration.{Configuration, PlainPeer, nobody}
 use Rattle.ilp_accounts.specs.declared.settings.LogSync.TheVariants.{Group}
 use Rattle.ilp_journal.specs.declared.entry.Entry.{Entry}
@@ -27,6 +27,7 @@ config = record {
     settle_ms = 1000;
     sync = Group;
     in_flight = 4096;
+    new_period_at = None;
   };
   table = record { assets = []; prices = [] };
   peers = named (codes "alice") ∷ named (codes "bob") ∷ [];

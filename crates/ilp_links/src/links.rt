@@ -18,20 +18,20 @@ pub trait Links {
 
 /// The links of a connector that calls peers and engines over TCP, and tells its notices what comes of
 /// that.
-#[derive(Clone, Copy)]
-pub struct TcpLinks<'c, C: Clock + Copy> {
+#[derive(Drop)]
+pub struct TcpLinks<C: Clock + Copy> {
     clock: C,
-    notices: &'c Notices,
+    notices: Notices,
 }
 
-impl<'c, C: Clock + Copy> TcpLinks<'c, C> {
+impl<C: Clock + Copy> TcpLinks<C> {
     /// Links with this clock, whose calls these notices are told of.
-    pub fn new(clock: C, notices: &'c Notices) -> TcpLinks<'c, C> {
+    pub fn new(clock: C, notices: Notices) -> TcpLinks<C> {
         TcpLinks { clock, notices }
     }
 }
 
-impl<C: Clock + Copy + Drop + Send> Links for TcpLinks<'_, C> {
+impl<C: Clock + Copy + Drop + Send> Links for TcpLinks<C> {
     type Clock = C;
 
     fn clock(&self) -> C {
@@ -39,6 +39,6 @@ impl<C: Clock + Copy + Drop + Send> Links for TcpLinks<'_, C> {
     }
 
     fn notices(&self) -> &Notices {
-        self.notices
+        &self.notices
     }
 }

@@ -46,4 +46,4 @@ pub use kept::Kept;
 pub use log::Log;
 pub use naming::LogNaming;
 pub use open_log::OpenLog;
-pub use start::LogStart;
+pub use start::{BegunLog, LogStart};

@@ -1,5 +1,5 @@
 -- Worked lines, of a configuration with two peers. The digests are those of `sha256sum`.
-use Rattle.std.specs.Prelude.{◌≡◌, ℕ, List, [], ◌∷◌, ◌++◌, codes}
+use Rattle.std.specs.Prelude.{◌≡◌, ℕ, List, [], ◌∷◌, ◌++◌, codes, None}
 use Rattle.ilp_accounts.specs.Configuration.{Configuration, PlainPeer, nobody}
 use Rattle.ilp_accounts.specs.declared.settings.LogSync.TheVariants.{Group}
 use Rattle.ilp_line_file.specs.Text.{recovered}
@@ -26,6 +26,7 @@ config = record {
     settle_ms = 1000;
     sync = Group;
     in_flight = 4096;
+    new_period_at = None;
   };
   table = record { assets = record { code = codes "USD"; scale = 2 } ∷ record { code = codes "XRP"; scale = 9 } ∷ []; prices = [] };
   peers = in_asset (codes "alice") 1 ∷ in_asset (codes "bob") 0 ∷ [];

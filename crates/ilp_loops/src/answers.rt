@@ -5,7 +5,7 @@ use crate::guest::{Guest, Stage};
 use ilp_desk::Naming;
 use ilp_oer::Octets;
 use ilp_server::{Response, Work};
-use ilp_shared::Shared;
+use ilp_shared::{Asker, Shared};
 use ilp_workers::{EngineMessage, HandedJournal};
 use mio::Registry;
 use std::io::Eprint;
@@ -76,6 +76,20 @@ pub(crate) fn leave<J: Naming, R: Wait>(
     let work = guest.work;
     if let Some((side, stream)) = guest.into_lingering(registry) {
         shared.intakes.linger(shared.rt, side, stream);
+    }
+    give_back(shared, work);
+}
+
+/// A connection leaves to wait until the configuration was read again, and gives its place back.
+pub(crate) fn ask_reload<J: Naming, R: Wait>(
+    shared: &Shared<'_, J, R>,
+    registry: &Registry,
+    guest: Guest<J>,
+) {
+    let work = guest.work;
+    match guest.into_stream(registry) {
+        Some(stream) => shared.reloading.ask(shared.rt, Asker::new(stream)),
+        None => shared.reloading.free(),
     }
     give_back(shared, work);
 }

@@ -154,6 +154,22 @@ impl<J: Naming> Guest<J> {
         Written::Part(taken)
     }
 
+    /// The connection, of which no event tells any more.
+    pub(crate) fn into_stream(self, registry: &Registry) -> Option<net::TcpStream> {
+        let Guest {
+            side: _,
+            work: _,
+            stage: _,
+            mut stream,
+            refused: _,
+            registered,
+        } = self;
+        if registered && registry.deregister(&mut stream).is_err() {
+            return None;
+        }
+        Some(net::TcpStream::from(stream))
+    }
+
     /// The connection, where more of its request may come, so that it is to linger. It is not written to
     /// any more.
     pub(crate) fn into_lingering(self, registry: &Registry) -> Option<(Side, net::TcpStream)> {

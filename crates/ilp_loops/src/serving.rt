@@ -1,7 +1,9 @@
 //! What a loop does for the connections that it serves.
 ghost use Rattle.std.specs.Prelude.{◌≡◌};
 
-use crate::answers::{answered_message, answered_peer, behind, give_back, leave, responds};
+use crate::answers::{
+    answered_message, answered_peer, ask_reload, behind, give_back, leave, responds,
+};
 use crate::deeds::{count_reject, tell_deed};
 use crate::guest::{Guest, Stage, Written};
 use ilp_desk::{End, Naming};
@@ -10,7 +12,7 @@ use ilp_http::{Buffer, Status};
 use ilp_links::{Call, Came};
 use ilp_notices::SentHold;
 use ilp_oer::Octets;
-use ilp_server::{Course, Response, begin_request};
+use ilp_server::{Course, NotServed, Response, begin_request};
 use ilp_shared::{Job, KeepingAsker, Nobody, Shared, monotonic};
 use ilp_workers::{Clock, EngineMessage, HandedJournal, Keeper, PeerMessage, Worker};
 use mio::{Registry, Token};
@@ -99,8 +101,33 @@ impl<J: Naming, C: Clock + Drop, K: Keeper<J> + Drop> Serving<J, C, K> {
             octets.as_slice(),
             &mut self.buffer,
         );
+        if let Course::Reload = course {
+            self.begin_reload(shared, registry, place, now);
+            return;
+        }
         let stage = self.begin(shared, course, now);
         self.go_on_from(shared, registry, place, stage, now);
+    }
+
+    // Has the configuration read again for the connection at this place, which leaves the loop. Where that
+    // can't be now it is told so.
+    fn begin_reload<R: Wait + time::Clock + Eprint + Net>(
+        &mut self,
+        shared: &Shared<'_, J, R>,
+        registry: &Registry,
+        place: usize,
+        now: Duration,
+    ) {
+        if shared.places.is_ending(shared.rt) || !shared.reloading.reserve() {
+            let refusal = Response::refusal(NotServed::NewPeriod);
+            let stage = responds(shared, refusal, now);
+            self.go_on_from(shared, registry, place, stage, now);
+            return;
+        }
+        match self.guests.try_remove(place) {
+            Some(guest) => ask_reload(shared, registry, guest),
+            None => shared.reloading.free(),
+        }
     }
 
     // Gives a connection its place, with room for it in the lists of a turn.
@@ -133,7 +160,7 @@ impl<J: Naming, C: Clock + Drop, K: Keeper<J> + Drop> Serving<J, C, K> {
                     None => answered_peer(shared, None, now),
                 }
             }
-            Course::Unanswered(_) => Stage::Over,
+            Course::Reload | Course::Unanswered(_) => Stage::Over,
         }
     }
 
@@ -452,6 +479,7 @@ impl<J: Naming, C: Clock + Drop, K: Keeper<J> + Drop> Serving<J, C, K> {
         now: Duration,
     ) {
         if !self.booked.is_empty() {
+            shared.look_at_period(now);
             self.answer_booked(shared, asker, now);
             self.send_answers(shared, registry, now);
         }

@@ -1,6 +1,6 @@
 //! The book of the next period, or why there is none.
 ghost use Rattle.std.specs.Prelude.{◌≡◌, IfOk, IfErr, pos};
-ghost use Rattle.ilp_next_period.specs.NextPeriod.{next_book};
+ghost use Rattle.ilp_next_period.specs.NextPeriod.{MayFollow, next_book};
 ghost use Rattle.ilp_new_period.specs.Beginning.{IsWhyNoNext, IsOfAPeer};
 
 use ilp_accounts::Config;
@@ -17,6 +17,7 @@ const BEGINNING: i64 = 0;
 ///
 /// It is refused as `Book::bring_forward` is, with a line that names the peer and its balance.
 pub fn next_of(alloc: Global, book: &Book, next: &Config) -> Result<Book, Refused>
+    ensures may { IfOk result (λ _. MayFollow book.now next.now) }
     ensures next { IfOk result (λ b. b ≡ next_book book.now next.now (pos 0)) }
     ensures refused { IfErr result (λ r. IsWhyNoNext book.now next.now r.refusal) }
 {

@@ -70,6 +70,30 @@ where
     }
 }
 
+/// Keeps the books of a period that a connector has closed, and has the journal at a path, which it has, begin
+/// with those of the next one: as `new_period` does, and a stop at any moment leaves what it leaves.
+///
+/// It is refused where a file can't be written, of which a line says more.
+pub fn keep_behind<R>(
+    rt: &R,
+    file: &JournalFile<File>,
+    path: &str,
+    ended: &Book,
+    next: &Book,
+) -> Result<(), Refused>
+where
+    R: Runtime + AllocGlobal + Files<File = File> + PlacesFiles<File = File> + Copy,
+{
+    let closing = Closing {
+        rt,
+        config: ended.config(),
+        next: next.config(),
+        file,
+        path,
+    };
+    closing.put(ended, next)
+}
+
 // A journal whose books are closed by one configuration for a period of the next one.
 #[derive(Clone, Copy)]
 struct Closing<'r, R, F> {
@@ -170,7 +194,7 @@ where
         has_text(&head, text)
     }
 
-    fn book_file(&self, config: &'r Config) -> BookFile<'r, R, F>
+    fn book_file(&self, config: &'r Config) -> BookFile<'r, 'r, R, F>
         ensures { result.config.now ≡ config.now }
     {
         BookFile {

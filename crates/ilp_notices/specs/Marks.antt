@@ -1,5 +1,5 @@
 -- How full a journal is, and when that is told.
-use Rattle.std.specs.Prelude.{ℕ, ◌*◌, ◌≤◌, nat_le, if◌then◌else◌}
+use Rattle.std.specs.Prelude.{ℕ, ◌*◌, ◌<◌, ◌≤◌, nat_le, if◌then◌else◌}
 use Rattle.ilp_notices.specs.declared.journal.Mark.{Mark}
 use Rattle.ilp_notices.specs.declared.journal.Mark.TheVariants.{Eighty, Ninety, NinetyFive}
 
@@ -18,3 +18,7 @@ greatest_reached percent =
 -- a journal has 80 percent or more of the entries that it may have
 abbrev pub IsNearlyFull : ℕ → ℕ → Type 0
 IsNearlyFull entries limit = limit * 80 ≤ entries * 100
+
+-- a journal has so many percent of the entries that it may have before as many as its head has stand behind that
+abbrev pub HasLongHead : ℕ → ℕ → ℕ → Type 0
+HasLongHead head limit percent = limit * percent < head * 200

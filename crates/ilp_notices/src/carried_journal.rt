@@ -1,6 +1,6 @@
 //! What of a journal that is carried over is in the way of the connector that begins with it.
 ghost use Rattle.std.specs.Prelude.{◌↔◌, pos, ◌+ℤ◌, ◌≤ℤ◌, IsSome};
-ghost use Rattle.ilp_notices.specs.Marks.{IsNearlyFull};
+ghost use Rattle.ilp_notices.specs.Marks.{IsNearlyFull, HasLongHead};
 
 use crate::line::{Level, Time, tell};
 use crate::seconds::Seconds;
@@ -23,6 +23,8 @@ pub enum JournalWarning {
     Ahead { last: i64, milliseconds: u64 },
     /// It has so many entries of its limit.
     NearlyFull { entries: u32, limit: u32 },
+    /// A new period begins only where it has twice as many entries as were brought forward.
+    LongHead { head: u32, percent: u32 },
 }
 
 impl JournalWarning {
@@ -47,6 +49,17 @@ impl JournalWarning {
         }
         Some(JournalWarning::NearlyFull { entries, limit })
     }
+
+    /// That a journal of so many entries at most, which begins with a head of so many that were brought
+    /// forward, has so many percent of them before as many as the head has stand behind it.
+    pub fn long_head(head: u32, limit: u32, percent: u32) -> Option<JournalWarning>
+        ensures { IsSome result ↔ HasLongHead head limit percent }
+    {
+        if u64::from(head) * 200 <= u64::from(limit) * u64::from(percent) {
+            return None;
+        }
+        Some(JournalWarning::LongHead { head, percent })
+    }
 }
 
 impl Display for JournalWarning {
@@ -63,6 +76,10 @@ impl Display for JournalWarning {
             JournalWarning::NearlyFull { entries, limit } => write!(
                 f,
                 "it has {entries} of {limit} entries, and a start carries them over: give `journal` more"
+            ),
+            JournalWarning::LongHead { head, percent } => write!(
+                f,
+                "it begins with {head} entries that were brought forward, so a new period begins only behind as many more, and not at {percent} percent: give `journal` more"
             ),
         }
     }

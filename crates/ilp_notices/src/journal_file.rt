@@ -200,6 +200,23 @@ pub fn period_differs<R: Clock + Eprint>(rt: &R, kept: &str) {
     tell(rt, Level::Error, text);
 }
 
+/// Tells that `new_period_at` says nothing, since there is no file in which a period could be kept.
+pub fn no_periods<R: Clock + Eprint>(rt: &R) {
+    tell(
+        rt,
+        Level::Warn,
+        "`new_period_at` is passed over: no journal is kept, so no period ends by itself",
+    );
+}
+
+/// Tells why no next period begins, and that this one goes on.
+pub fn no_next_period<R: Clock + Eprint>(rt: &R, path: &str, refusal: &impl Display, why: &str) {
+    let text = format_args!(
+        "journal {path:?}: no next period can begin: refused {refusal} {why}: this one goes on, until the journal is full"
+    );
+    tell(rt, Level::Error, text);
+}
+
 /// Tells that the text of a period that has ended can't be written, or that of the next one.
 pub fn period_unwritten<R: Clock + Eprint>(rt: &R, path: &str, error: &io::Error) {
     let text = format_args!(

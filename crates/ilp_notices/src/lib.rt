@@ -14,7 +14,8 @@
 //!   one or twice the last, up to the longest (`specs/Pace.antt`);
 //! - a threshold of the journal is told just where it is reached, and once;
 //! - `JournalWarning` is made just where a journal's last moment lies a second ahead of the clock, or
-//!   where it has 80 percent of its entries.
+//!   where it has 80 percent of its entries, or where what was brought forward is more than half of those
+//!   at which a new period begins.
 #![tactic(auto)]
 
 mod carried_journal;
@@ -44,9 +45,9 @@ pub use doubling::doubled;
 pub use journal_file::{
     journal_absent, journal_carried, journal_in_use, journal_not_locked, journal_of_another_asset,
     journal_of_another_run, journal_saved, journal_too_long, journal_unfit, journal_unread,
-    keys_left_out, left_unsaved, log_begun, log_left, log_unwritten, no_journal, not_made,
-    not_saved, not_saved_at_start, not_saved_yet, not_synced, nothing_to_save, period_begun,
-    period_differs, period_kept, period_unwritten, stopped_unsaved,
+    keys_left_out, left_unsaved, log_begun, log_left, log_unwritten, no_journal, no_next_period,
+    no_periods, not_made, not_saved, not_saved_at_start, not_saved_yet, not_synced,
+    nothing_to_save, period_begun, period_differs, period_kept, period_unwritten, stopped_unsaved,
 };
 pub use notices::Notices;
 pub use recovery::{RecoveryNote, recovery_note};
@@ -54,6 +55,7 @@ pub use sent_hold::SentHold;
 pub use settlements::ToldQuantity;
 pub use shown_key::ShownKey;
 pub use starting::{
-    closing, configuration_warning, few_files, listening, no_thread, not_listening, report_follows,
+    closing, configuration_warning, few_files, listening, no_thread, not_listening, not_reloaded,
+    reloaded, report_follows,
 };
 pub use unkept::log_incomplete;

@@ -24,6 +24,26 @@ pub fn configuration_warning<R: Clock + Eprint>(rt: &R, what: &str) {
     tell(rt, Level::Warn, format_args!("configuration: {what}"));
 }
 
+/// Tells that the configuration was read again, and that a new period has begun by it.
+pub fn reloaded<R: Clock + Eprint>(rt: &R, line: &str) {
+    tell(
+        rt,
+        Level::Info,
+        format_args!("configuration: read again, and in force: {line}"),
+    );
+}
+
+/// Tells that the configuration was read again and is not taken, and why.
+pub fn not_reloaded<R: Clock + Eprint>(rt: &R, why: &str) {
+    tell(
+        rt,
+        Level::Warn,
+        format_args!(
+            "configuration: read again, and not taken: {why}: the one before stays in force"
+        ),
+    );
+}
+
 /// Tells that an address can't be listened at, and why.
 pub fn not_listening<R: Clock + Eprint>(rt: &R, place: &str, error: &io::Error) {
     if error.kind() == ErrorKind::InvalidInput {

@@ -1,5 +1,5 @@
 -- Worked reports. Alice and bob are the peers 0 and 1; alice has dollars at scale 2.
-use Rattle.std.specs.Prelude.{◌≡◌, ℕ, ℤ, pos, negsuc, List, [], ◌∷◌, ◌++◌, codes, replicate}
+use Rattle.std.specs.Prelude.{◌≡◌, ℕ, ℤ, pos, negsuc, List, [], ◌∷◌, ◌++◌, codes, replicate, None}
 use Rattle.ilp_assets.specs.Assets.{PlainAsset}
 use Rattle.ilp_accounts.specs.Configuration.{PlainPeer, nobody}
 use Rattle.ilp_accounts.specs.declared.settings.LogSync.TheVariants.{Group}
@@ -26,7 +26,7 @@ peer_of name asset = record nobody { name = name; asset = asset; least = negsuc 
 abbrev pub book_in : ℕ → List PlainAsset → ℕ → Entries → PlainBook
 book_in period assets asset entries = record {
   config = record {
-    settings = record { address = []; run = []; listen = []; engine_listen = []; path = []; workers = 1; journal = 65536; window_ms = 1000; max_hold_ms = 30000; sweep_ms = 100; settle_ms = 1000; sync = Group; in_flight = 4096 };
+    settings = record { address = []; run = []; listen = []; engine_listen = []; path = []; workers = 1; journal = 65536; window_ms = 1000; max_hold_ms = 30000; sweep_ms = 100; settle_ms = 1000; sync = Group; in_flight = 4096; new_period_at = None };
     table = record { assets = assets; prices = [] };
     peers = peer_of (codes "alice") 0 ∷ peer_of (codes "bob") asset ∷ [];
     routes = [];

@@ -7,7 +7,7 @@ use Rattle.ilp_journal.specs.Journal.{Entries}
 use Rattle.ilp_log.specs.declared.ack.Ack.{Ack}
 use Rattle.ilp_log.specs.Lines.{LogForm, lines_of, no_form}
 use Rattle.ilp_desk.specs.Desk.{PlainDesk}
-use Rattle.ilp_running.specs.declared.logging.BegunLog.{BegunLog}
+use Rattle.ilp_log.specs.declared.start.BegunLog.{BegunLog}
 
 -- a log of this form goes on from so many entries of the desk's opening journal
 pub record IsLogOf (form : LogForm) (desk : PlainDesk) (base : ℕ) : Type 0 where

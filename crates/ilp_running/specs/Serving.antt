@@ -13,7 +13,7 @@ use Rattle.ilp_desk.specs.declared.gathering.WhyNotGathered.TheVariants as why
 use Rattle.ilp_refusals.specs.declared.refusal.Refusal.{Refusal}
 use Rattle.ilp_refusals.specs.declared.refusal.Refusal.TheVariants as refusals
 use Rattle.ilp_running.specs.declared.fault.ServeFault.{ServeFault}
-use Rattle.ilp_running.specs.declared.fault.ServeFault.TheVariants.{Unprinted, NotGathered, Write}
+use Rattle.ilp_running.specs.declared.fault.ServeFault.TheVariants.{Unprinted, NotGathered, NextRefused, Write}
 use Rattle.ilp_threads.specs.declared.fault.Unprinted.TheVariants.{Memory, Listen, Spawn}
 
 -- ---- refusals
@@ -21,6 +21,7 @@ use Rattle.ilp_threads.specs.declared.fault.Unprinted.TheVariants.{Memory, Liste
 -- the refusal that is printed
 abbrev pub fault_refusal : ServeFault → Refusal
 fault_refusal Write = refusals.WriteFault
+fault_refusal (NextRefused refusal) = refusal
 fault_refusal (Unprinted Memory) = refusals.Memory
 fault_refusal (Unprinted (Listen side)) = refusals.ListenFault
 fault_refusal (Unprinted Spawn) = refusals.SpawnFault
@@ -48,10 +49,18 @@ pub record IsNotGathered (desk : PlainDesk) (reason : WhyNotGathered) : Type 0 w
   pub lawful : IsBookOf desk book
   pub why : IsWhyNotGathered desk book ends reason
 
+-- A fault that says nothing of a desk: no actor's end was looked at, or no next period could be begun.
+abbrev pub IsOfNoDesk : ServeFault → Type 0
+IsOfNoDesk Write = ⊥
+IsOfNoDesk (NotGathered reason) = ⊥
+IsOfNoDesk (NextRefused refusal) = ⊤
+IsOfNoDesk (Unprinted reason) = ⊤
+
 -- Why a desk is not closed: its ends were not gathered; or there were none.
 abbrev pub IsWhyUnclosed : PlainDesk → ServeFault → Type 0
 IsWhyUnclosed desk Write = ⊥
 IsWhyUnclosed desk (NotGathered reason) = IsNotGathered desk reason
+IsWhyUnclosed desk (NextRefused refusal) = ⊤
 IsWhyUnclosed desk (Unprinted reason) = ⊤
 
 -- The desk was closed, or why it was not.
@@ -64,6 +73,7 @@ abbrev pub Prints : PlainBook → Option (List ℕ) → Option (List ℕ) → Re
 Prints book old new (Ok done) = Appends old new (report_text book)
 Prints book old new (Err Write) = AppendsProperPrefix old new (report_text book)
 Prints book old new (Err (NotGathered reason)) = ⊥
+Prints book old new (Err (NextRefused refusal)) = ⊥
 Prints book old new (Err (Unprinted reason)) = new ≡ old
 
 -- Why a connector gives no book back: it ran to its end and a write of the report failed; or its ends were not gathered, or there
@@ -71,4 +81,9 @@ Prints book old new (Err (Unprinted reason)) = new ≡ old
 abbrev pub Refuses : PlainDesk → Option (List ℕ) → Option (List ℕ) → ServeFault → Type 0
 Refuses desk old new Write = (book : PlainBook) × IsClosed desk book × AppendsProperPrefix old new (report_text book)
 Refuses desk old new (NotGathered reason) = IsNotGathered desk reason × (new ≡ old)
+Refuses desk old new (NextRefused refusal) = new ≡ old
 Refuses desk old new (Unprinted reason) = new ≡ old
+
+-- the desk of a period that begins with this book
+abbrev pub desk_of_book : PlainBook → PlainDesk
+desk_of_book book = desk_of book.config book

@@ -16,6 +16,9 @@ pub enum ServeFault {
     /// Nothing was printed, since what the actors handed in is not what the book has.
     #[error("{0}")]
     NotGathered(WhyNotGathered),
+    /// Nothing was printed, since no next period could be begun.
+    #[error("{0}")]
+    NextRefused(Refusal),
     /// A write of the report failed or took no octet. A part of it was printed.
     #[error("a write failed or took no octet")]
     Write,
@@ -28,6 +31,7 @@ impl ServeFault {
     {
         match self {
             ServeFault::Write => Refusal::WriteFault,
+            ServeFault::NextRefused(refusal) => refusal,
             ServeFault::Unprinted(Unprinted::Memory) => Refusal::Memory,
             ServeFault::NotGathered(WhyNotGathered::Missing { actor }) => {
                 Refusal::MissingEnd { actor }

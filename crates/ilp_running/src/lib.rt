@@ -19,16 +19,20 @@
 //!   at any moment of the run left its head and the lines of the first so many of these entries. No
 //!   clause says when it is given back, nor that the threads that ran had its keeper
 //!   (`ilp_log_keeper`).
+//! - `run_begun` does as `run_to_close`, between sides that are given, for one period.
 //! - `serve` says nothing of what was served (README.md, "what is only tested and what is
 //!   neither").
 #![tactic(auto)]
 
 mod fault;
 mod logging;
+mod no_configurations;
+mod periods;
 mod printing;
 mod serving;
 
 pub use fault::ServeFault;
-pub use ilp_threads::Unprinted;
-pub use logging::{BegunLog, ClosedRun};
-pub use serving::{run_to_close, serve, write_report};
+pub use ilp_threads::{Asker, Configurations, NextConfig, Sides, Unprinted, without_end};
+pub use logging::ClosedRun;
+pub use periods::{BegunPeriod, RunPeriod};
+pub use serving::{open_sides, run_begun, run_to_close, serve, write_report};

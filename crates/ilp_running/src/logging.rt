@@ -6,21 +6,10 @@ use ilp_book::Book;
 use ilp_desk::{JournalReceipt, LockedBook, Naming};
 use ilp_grown_list::NewList;
 use ilp_line_file::{Device, LineFile};
-use ilp_log::{Ack, Kept, Log, LogNaming, LogStart, OpenLog};
+use ilp_log::{Ack, BegunLog, Kept, Log, LogNaming, OpenLog};
 use ilp_notices::log_incomplete;
 use std::io::Eprint;
 use std::time::Clock;
-
-/// The file of a log that a connector begins with. It has its head alone, and the entries are written
-/// behind it.
-#[derive(Drop)]
-pub struct BegunLog<D: Device + Drop> {
-    /// The file.
-    pub file: LineFile<D>,
-    /// Its head, and how many entries stand elsewhere, in the journal that was saved. The log goes on from
-    /// them.
-    pub start: LogStart,
-}
 
 /// What a run of a connector comes to.
 #[derive(Drop)]

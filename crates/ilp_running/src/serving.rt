@@ -1,28 +1,32 @@
 //! A connector from its beginning to its end.
-ghost use Rattle.std.specs.Prelude.{◌≡◌, ◌≤◌, length, IfOk, IfErr, IfSome, vec_len};
+ghost use Rattle.std.specs.Prelude.{◌≡◌, ◌≤◌, length, Option, Some, IfOk, IfErr, IfSome, vec_len};
 ghost use Rattle.std.specs.Io.KnownBytes.{Appends};
+ghost use Rattle.ilp_accounts.specs.Configuration.{Configuration};
 ghost use Rattle.ilp_desk.specs.Desk as desk;
 ghost use Rattle.ilp_desk.specs.Desk.{base_of};
 ghost use Rattle.ilp_report.specs.Report.{report_text};
 ghost use Rattle.ilp_running.specs.Logging.{began_at, form_of, told_at, EndsLog, HasHead};
 ghost use Rattle.ilp_running.specs.Logging.{IsBegun, IsLogOf};
 ghost use Rattle.ilp_running.specs.Serving.{desk_of, ClosesDesk, IsClosed, IsWhyUnclosed, Prints};
-ghost use Rattle.ilp_running.specs.Serving.{Refuses};
+ghost use Rattle.ilp_running.specs.Serving.{IsOfNoDesk, Refuses};
+ghost use Rattle.ilp_running.specs.Serving.{desk_of_book};
 
 use crate::fault::ServeFault;
-use crate::logging::{AckList, BegunLog, ClosedRun, RunningLog};
+use crate::logging::{AckList, ClosedRun, RunningLog};
+use crate::no_configurations::NoConfigurations;
+use crate::periods::{BegunPeriod, RunPeriod};
 use crate::printing::tell_report;
 use ilp_accounts::{Config, LogSync};
 use ilp_book::Book;
 use ilp_desk::{Closed, Desk, End, EntryList, LockedBook, Naming, Share, gather};
 use ilp_io::Sink;
-use ilp_keeping::Forgetful;
+use ilp_keeping::{Forgetful, SharedKeeper};
 use ilp_line_file::{Device, MemoryDevice};
 use ilp_links::Links;
-use ilp_log::LogNaming;
+use ilp_log::{BegunLog, LogNaming};
 use ilp_log_keeper::{KeepingState, LogKeeper};
 use ilp_report::{Snapshot, print};
-use ilp_threads::{KeepingWay, Unprinted, run_desk};
+use ilp_threads::{Configurations, KeepingWay, RunDesk, Sides, Unprinted, run_desk};
 use std::io::Eprint;
 use std::marker::Brand;
 use std::net::{Net, TcpListener, TcpStream};
@@ -104,6 +108,81 @@ where
         (form_of D.seen config.now log) (began_at D.moment log) run.book.entries run.log) }
     ensures refused { IfErr result (IsWhyUnclosed (desk_of config.now book)) }
 {
+    let sides = open_sides(rt, config, false)?;
+    match run_period(rt, config, book, log, links, NoConfigurations, sides) {
+        Ok(RunPeriod { run, sides: _ }) => Ok(run),
+        Err(fault) => Err(fault),
+    }
+}
+
+/// Runs a connector for a period by the configuration of its book, until it is asked to close or another
+/// period is to begin. What it comes to is as `run_to_close` gives it.
+///
+/// A refusal gives back neither the book nor the log.
+pub fn run_begun<R, L, D, P>(
+    rt: &R,
+    begun: BegunPeriod<D>,
+    links: &L,
+    configs: P,
+    sides: Sides,
+) -> Result<RunPeriod<D>, ServeFault>
+where
+    R: Net<Listener = TcpListener, Stream = TcpStream> + Threads + Wait + Clock + Eprint + Sync,
+    L: Links,
+    D: Device + Drop + Send,
+    P: Configurations + Drop + Send,
+    requires begun { D.claims → IfSome begun.log (IsBegun D.seen D.may_leave) }
+    ensures closed { IfOk result (λ period. IsClosed (desk_of_book begun.book) period.run.book) }
+    ensures logged { D.claims → IfOk result (λ period. EndsLog D.seen D.may_leave D.left_since
+        (form_of D.seen begun.book.config begun.log) (began_at D.moment begun.log)
+        period.run.book.entries period.run.log) }
+    ensures refused { IfErr result (IsWhyUnclosed (desk_of_book begun.book)) }
+{
+    let Ok(config) = begun.book.config().copy() else {
+        return Err(ServeFault::Unprinted(Unprinted::Memory));
+    };
+    let BegunPeriod { book, log } = begun;
+    run_period(rt, &config, book, log, links, configs, sides)
+}
+
+/// Listens at both sides, at the places of the configuration. Periods of a desk between them may end by
+/// themselves or not.
+pub fn open_sides<R>(rt: &R, config: &Config, has_periods: bool) -> Result<Sides, ServeFault>
+where
+    R: Net<Listener = TcpListener, Stream = TcpStream> + Clock + Eprint + Files,
+    ensures refused { IfErr result IsOfNoDesk }
+{
+    match Sides::open(rt, config, has_periods) {
+        Ok(sides) => Ok(sides),
+        Err(why) => Err(ServeFault::Unprinted(why)),
+    }
+}
+
+// Runs a connector of this configuration for a period, between these sides.
+fn run_period<R, L, D, P>(
+    rt: &R,
+    config: &Config,
+    book: Book,
+    log: Option<BegunLog<D>>,
+    links: &L,
+    configs: P,
+    sides: Sides,
+) -> Result<RunPeriod<D>, ServeFault>
+where
+    R: Net<Listener = TcpListener, Stream = TcpStream> + Threads + Wait + Clock + Eprint + Sync,
+    L: Links,
+    D: Device + Drop + Send,
+    P: Configurations + Drop + Send,
+    requires config { book.config ≡ config.now }
+    requires opening { length book.entries ≡ book.base }
+    requires base { IfSome log (λ l. l.start.base ≤ length book.entries) }
+    requires begun { D.claims → IfSome log (IsBegun D.seen D.may_leave) }
+    ensures closed { IfOk result (λ period. IsClosed (desk_of config.now book) period.run.book) }
+    ensures logged { D.claims → IfOk result (λ period. EndsLog D.seen D.may_leave D.left_since
+        (form_of D.seen config.now log) (began_at D.moment log)
+        period.run.book.entries period.run.log) }
+    ensures refused { IfErr result (IsWhyUnclosed (desk_of config.now book)) }
+{
     let blanks = Blank::new(u64::from(config.workers()) + 2);
     let Ok(list) = EntryList::new(config.allocator()) else {
         return Err(ServeFault::Unprinted(Unprinted::Memory));
@@ -111,11 +190,24 @@ where
     let Ok(acks) = AckList::new(config.allocator()) else {
         return Err(ServeFault::Unprinted(Unprinted::Memory));
     };
-    serve_desk::<Brand, Brand, R, L, D>(rt, config, book, blanks, list, log, acks, links)
+    let between = Between {
+        links,
+        configs,
+        sides,
+    };
+    serve_desk::<Brand, Brand, R, L, D, P>(rt, config, book, blanks, list, log, acks, between)
 }
 
-// Opens a desk over this book, runs it, and closes it.
-fn serve_desk<J, K, R, L, D>(
+// Between what a desk is run: its links, where its configuration is read again, and its sides.
+#[derive(Drop)]
+struct Between<'l, L, P> {
+    links: &'l L,
+    configs: P,
+    sides: Sides,
+}
+
+// Opens a desk over this book, runs it between these sides, and closes it.
+fn serve_desk<J, K, R, L, D, P>(
     rt: &R,
     config: &Config,
     book: Book,
@@ -123,20 +215,15 @@ fn serve_desk<J, K, R, L, D>(
     list: EntryList,
     log: Option<BegunLog<D>>,
     acks: AckList<D>,
-    links: &L,
-) -> Result<ClosedRun<D>, ServeFault>
+    between: Between<'_, L, P>,
+) -> Result<RunPeriod<D>, ServeFault>
 where
     J: Naming + Send + Sync,
     K: LogNaming + Send + Sync,
-    R: Net<Listener = TcpListener, Stream = TcpStream>
-        + Threads
-        + Wait
-        + Clock
-        + Eprint
-        + Files
-        + Sync,
+    R: Net<Listener = TcpListener, Stream = TcpStream> + Threads + Wait + Clock + Eprint + Sync,
     L: Links,
     D: Device + Drop + Send,
+    P: Configurations + Drop + Send,
     requires config { (config.now ≡ J.desk.config) × (book.config ≡ J.desk.config) }
     requires workers { config.now.settings.workers ≡ J.desk.workers }
     requires period { book.period ≡ J.desk.period }
@@ -148,9 +235,9 @@ where
     requires log { IfSome log (λ l. IsLogOf K.form J.desk l.start.base) }
     requires begun { D.claims → IfSome log (IsBegun D.seen D.may_leave) }
     requires head { D.claims → IfSome log (HasHead D.seen K.form) }
-    ensures closed { IfOk result (λ run. IsClosed J.desk run.book) }
-    ensures logged { D.claims → IfOk result (λ run. EndsLog D.seen D.may_leave D.left_since
-        K.form (began_at D.moment log) run.book.entries run.log) }
+    ensures closed { IfOk result (λ period. IsClosed J.desk period.run.book) }
+    ensures logged { D.claims → IfOk result (λ period. EndsLog D.seen D.may_leave D.left_since
+        K.form (began_at D.moment log) period.run.book.entries period.run.log) }
     ensures refused { IfErr result (IsWhyUnclosed J.desk) }
 {
     let workers = config.workers();
@@ -166,50 +253,77 @@ where
     };
     match log {
         None => {
-            let ends = run_desk(rt, &desk, shares, links, Forgetful, KeepingWay::InLoops);
+            let way = KeepingWay::InLoops;
+            let RunDesk { ends, sides } = run_between(rt, &desk, shares, between, Forgetful, way)?;
             let book = close_desk(desk, ends)?.into_book();
-            Ok(ClosedRun { book, log: None })
+            let run = ClosedRun { book, log: None };
+            Ok(RunPeriod { run, sides })
         }
         Some(begun) => {
             let log = RunningLog::<J, K, D>::begin(begun, desk.receipt(rt), acks);
-            serve_logged(rt, desk, shares, log, links)
+            serve_logged(rt, desk, shares, log, between)
         }
     }
 }
 
 // Runs a desk whose entries are written to this log, and closes it.
-fn serve_logged<J, K, R, L, D>(
+fn serve_logged<J, K, R, L, D, P>(
     rt: &R,
     desk: Desk<J>,
     shares: Vec<Share<J>>,
     log: RunningLog<J, K, D>,
-    links: &L,
-) -> Result<ClosedRun<D>, ServeFault>
+    between: Between<'_, L, P>,
+) -> Result<RunPeriod<D>, ServeFault>
 where
     J: Naming + Send + Sync,
     K: LogNaming + Send + Sync,
-    R: Net<Listener = TcpListener, Stream = TcpStream>
-        + Threads
-        + Wait
-        + Clock
-        + Eprint
-        + Files
-        + Sync,
+    R: Net<Listener = TcpListener, Stream = TcpStream> + Threads + Wait + Clock + Eprint + Sync,
     L: Links,
     D: Device + Drop + Send,
+    P: Configurations + Drop + Send,
     requires shares { 2 ≤ vec_len shares }
     requires begun { D.claims → IfSome log.begun (λ first. first.lines ≡ K.form.head) }
-    ensures closed { IfOk result (λ run. IsClosed J.desk run.book) }
-    ensures logged { D.claims → IfOk result (λ run. EndsLog D.seen D.may_leave D.left_since
-        K.form (told_at log.begun) run.book.entries run.log) }
+    ensures closed { IfOk result (λ period. IsClosed J.desk period.run.book) }
+    ensures logged { D.claims → IfOk result (λ period. EndsLog D.seen D.may_leave D.left_since
+        K.form (told_at log.begun) period.run.book.entries period.run.log) }
     ensures refused { IfErr result (IsWhyUnclosed J.desk) }
 {
     let state = KeepingState::new();
     let keeper = LogKeeper::new(rt, &desk, &log.log, &state);
     let way = keeping_way(desk.config());
-    let ends = run_desk(rt, &desk, shares, links, keeper, way);
+    let RunDesk { ends, sides } = run_between(rt, &desk, shares, between, keeper, way)?;
     let book = close_desk(desk, ends)?;
-    Ok(log.close(rt, book))
+    let run = log.close(rt, book);
+    Ok(RunPeriod { run, sides })
+}
+
+// Runs a desk between these, with a keeper of its journal.
+fn run_between<J, R, L, P, K>(
+    rt: &R,
+    desk: &Desk<J>,
+    shares: Vec<Share<J>>,
+    between: Between<'_, L, P>,
+    keeper: K,
+    way: KeepingWay,
+) -> Result<RunDesk<J>, ServeFault>
+where
+    J: Naming + Send + Sync,
+    R: Net<Listener = TcpListener, Stream = TcpStream> + Threads + Wait + Clock + Eprint + Sync,
+    L: Links,
+    P: Configurations + Drop + Send,
+    K: SharedKeeper<J> + Drop + Send,
+    requires shares { 2 ≤ vec_len shares }
+    ensures refused { IfErr result (IsWhyUnclosed J.desk) }
+{
+    let Between {
+        links,
+        configs,
+        sides,
+    } = between;
+    match run_desk(rt, desk, shares, links, configs, sides, keeper, way) {
+        Ok(run) => Ok(run),
+        Err(why) => Err(ServeFault::Unprinted(why)),
+    }
 }
 
 // Where nothing waits for the disk, each loop has the journal kept.
@@ -221,18 +335,12 @@ fn keeping_way(config: &Config) -> KeepingWay {
 }
 
 // Closes a desk whose actors handed these in.
-fn close_desk<J: Naming>(
-    desk: Desk<J>,
-    ends: Result<Vec<End<J>>, Unprinted>,
-) -> Result<LockedBook<J>, ServeFault>
+fn close_desk<J: Naming>(desk: Desk<J>, ends: Vec<End<J>>) -> Result<LockedBook<J>, ServeFault>
     ensures { ClosesDesk J.desk result }
 {
-    match ends {
-        Ok(ends) => match gather(desk, ends) {
-            Ok(Closed { book }) => Ok(book),
-            Err(left) => Err(ServeFault::NotGathered(left.why)),
-        },
-        Err(why) => Err(ServeFault::Unprinted(why)),
+    match gather(desk, ends) {
+        Ok(Closed { book }) => Ok(book),
+        Err(left) => Err(ServeFault::NotGathered(left.why)),
     }
 }
 

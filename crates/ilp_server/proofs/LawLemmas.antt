@@ -6,7 +6,7 @@ use Rattle.ilp_accounts.specs.Valid.{IsValid}
 use Rattle.ilp_server.specs.declared.target.Side.{Side}
 use Rattle.ilp_server.specs.declared.target.Side.TheVariants.{Ilp, Engine}
 use Rattle.ilp_server.specs.declared.target.Target.{Target}
-use Rattle.ilp_server.specs.declared.target.Target.TheVariants.{Packet, Settlement, Message, Report, Close}
+use Rattle.ilp_server.specs.declared.target.Target.TheVariants.{Packet, Settlement, Message, Report, Close, Reload}
 use Rattle.ilp_settlement.specs.Targets.{account_target}
 use Rattle.ilp_server.specs.Targets.{IsOfPeer, AsksFor}
 use Rattle.ilp_server.specs.Fields.{ShowsToken, IsFrom}
@@ -44,6 +44,24 @@ no_report_closes path is also =
     let r_is_c : 114 ≡ 99 = ap (λ l. get_or l 1 0) (sym is ∙ also) in
     absurd (omega (arith, r_is_c))
 
+-- or has the configuration read again
+no_reload : (path call name : List ℕ) → path ≡ account_target call name → path ≡ codes "/reload" → ⊥
+no_reload path call name is also =
+    let r_is_a : 114 ≡ 97 = ap (λ l. get_or l 1 0) (sym also ∙ is) in
+    absurd (omega (arith, r_is_a))
+
+-- who asks for the report does not have the configuration read again
+no_report_reloads : (path : List ℕ) → path ≡ codes "/report" → path ≡ codes "/reload" → ⊥
+no_report_reloads path is also =
+    let p_is_l : 112 ≡ 108 = ap (λ l. get_or l 3 0) (sym is ∙ also) in
+    absurd (omega (arith, p_is_l))
+
+-- nor does who closes the connector
+no_close_reloads : (path : List ℕ) → path ≡ codes "/close" → path ≡ codes "/reload" → ⊥
+no_close_reloads path is also =
+    let c_is_r : 99 ≡ 114 = ap (λ l. get_or l 1 0) (sym is ∙ also) in
+    absurd (omega (arith, c_is_r))
+
 -- a path is that of one peer
 of_one_peer : (C : Configuration) → IsValid C → (call path : List ℕ) (p q : ℕ) → IsOfPeer C (account_target call) path p → IsOfPeer C (account_target call) path q → p ≡ q
 of_one_peer C valid call path p q is also =
@@ -57,31 +75,43 @@ one_target C Ilp path Packet (Settlement q) valid is also = absurd also
 one_target C Ilp path Packet (Message q) valid is also = absurd also
 one_target C Ilp path Packet Report valid is also = absurd also
 one_target C Ilp path Packet Close valid is also = absurd also
+one_target C Ilp path Packet Reload valid is also = absurd also
 one_target C Ilp path (Settlement p) other valid is also = absurd is
 one_target C Ilp path (Message p) other valid is also = absurd is
 one_target C Ilp path Report other valid is also = absurd is
 one_target C Ilp path Close other valid is also = absurd is
+one_target C Ilp path Reload other valid is also = absurd is
 one_target C Engine path Packet other valid is also = absurd is
 one_target C Engine path (Settlement p) Packet valid is also = absurd also
 one_target C Engine path (Settlement p) (Settlement q) valid is also = ap Settlement (of_one_peer C valid (codes "/settlements") path p q is also)
 one_target C Engine path (Settlement p) (Message q) valid is also = absurd (no_message path (peer_at C p).name (peer_at C q).name is.named also.named)
 one_target C Engine path (Settlement p) Report valid is also = absurd (no_report path (codes "/settlements") (peer_at C p).name is.named also)
 one_target C Engine path (Settlement p) Close valid is also = absurd (no_close path (codes "/settlements") (peer_at C p).name is.named also)
+one_target C Engine path (Settlement p) Reload valid is also = absurd (no_reload path (codes "/settlements") (peer_at C p).name is.named also)
 one_target C Engine path (Message p) Packet valid is also = absurd also
 one_target C Engine path (Message p) (Settlement q) valid is also = absurd (no_message path (peer_at C q).name (peer_at C p).name also.named is.named)
 one_target C Engine path (Message p) (Message q) valid is also = ap Message (of_one_peer C valid (codes "/messages") path p q is also)
 one_target C Engine path (Message p) Report valid is also = absurd (no_report path (codes "/messages") (peer_at C p).name is.named also)
 one_target C Engine path (Message p) Close valid is also = absurd (no_close path (codes "/messages") (peer_at C p).name is.named also)
+one_target C Engine path (Message p) Reload valid is also = absurd (no_reload path (codes "/messages") (peer_at C p).name is.named also)
 one_target C Engine path Report Packet valid is also = absurd also
 one_target C Engine path Report (Settlement q) valid is also = absurd (no_report path (codes "/settlements") (peer_at C q).name also.named is)
 one_target C Engine path Report (Message q) valid is also = absurd (no_report path (codes "/messages") (peer_at C q).name also.named is)
 one_target C Engine path Report Report valid is also = refl
 one_target C Engine path Report Close valid is also = absurd (no_report_closes path is also)
+one_target C Engine path Report Reload valid is also = absurd (no_report_reloads path is also)
 one_target C Engine path Close Packet valid is also = absurd also
 one_target C Engine path Close (Settlement q) valid is also = absurd (no_close path (codes "/settlements") (peer_at C q).name also.named is)
 one_target C Engine path Close (Message q) valid is also = absurd (no_close path (codes "/messages") (peer_at C q).name also.named is)
 one_target C Engine path Close Report valid is also = absurd (no_report_closes path also is)
 one_target C Engine path Close Close valid is also = refl
+one_target C Engine path Close Reload valid is also = absurd (no_close_reloads path is also)
+one_target C Engine path Reload Packet valid is also = absurd also
+one_target C Engine path Reload (Settlement q) valid is also = absurd (no_reload path (codes "/settlements") (peer_at C q).name also.named is)
+one_target C Engine path Reload (Message q) valid is also = absurd (no_reload path (codes "/messages") (peer_at C q).name also.named is)
+one_target C Engine path Reload Report valid is also = absurd (no_report_reloads path also is)
+one_target C Engine path Reload Close valid is also = absurd (no_close_reloads path also is)
+one_target C Engine path Reload Reload valid is also = refl
 
 -- fields show the token of one peer
 pub one_sender : (C : Configuration) (values : List (List ℕ)) (peer other : ℕ) → IsValid C → IsFrom C values peer → IsFrom C values other → peer ≡ other

@@ -26,7 +26,7 @@ use Rattle.ilp_server.specs.declared.unserved.NotServed.{NotServed}
 use Rattle.ilp_server.specs.declared.unserved.NotServed.TheVariants as unserved
 use Rattle.ilp_server.specs.declared.served.Served.{Served}
 use Rattle.ilp_server.specs.declared.course.Course.{Course}
-use Rattle.ilp_server.specs.declared.course.Course.TheVariants.{Answered, Packet, ToEngine, ToPeer, Unanswered}
+use Rattle.ilp_server.specs.declared.course.Course.TheVariants.{Answered, Packet, ToEngine, ToPeer, Reload, Unanswered}
 use Rattle.ilp_server.specs.Targets.{AsksFor}
 use Rattle.ilp_server.specs.Fields.{values_in, IsFrom}
 use Rattle.ilp_server.specs.Statuses.{unread}
@@ -95,6 +95,7 @@ BeginsTarget desk i (target.Settlement peer) before after course = IsServedWhole
 BeginsTarget desk i (target.Message peer) before after course = BeginsMessage desk peer i.body before after course
 BeginsTarget desk i target.Report before after course = IsServedWhole desk i target.Report before after course
 BeginsTarget desk i target.Close before after course = IsServedWhole desk i target.Close before after course
+BeginsTarget desk i target.Reload before after course = (course ≡ Reload) × (after ≡ before)
 
 -- What asks for nothing is refused, whatever else it has.
 abbrev pub BeginsInquiry : PlainDesk → Inquiry → PlainFlight → PlainFlight → Course → Type 0

@@ -146,6 +146,7 @@ ServesTarget desk i (target.Settlement peer) before after outcome = ServesSettle
 ServesTarget desk i (target.Message peer) before after outcome = ServesMessage desk peer i.body before after outcome
 ServesTarget desk i target.Report before after outcome = ServesReport desk outcome × (after ≡ before)
 ServesTarget desk i target.Close before after outcome = (outcome ≡ Ok Close) × (after ≡ before)
+ServesTarget desk i target.Reload before after outcome = IsTurnedAway unserved.NewPeriod before after outcome
 
 -- What asks for nothing is turned away, whatever else it has.
 abbrev pub Serves : PlainDesk → Inquiry → PlainWorker → PlainWorker → Result Served NotServed → Type 0

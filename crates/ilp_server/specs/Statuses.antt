@@ -11,7 +11,7 @@ use Rattle.ilp_book.specs.declared.fault.CreditFault.TheVariants as credit_fault
 use Rattle.ilp_workers.specs.declared.crediting.NotCredited.TheVariants.{Refused, NotKept}
 use Rattle.ilp_replies.specs.declared.messages.MessageFault.TheVariants as message_fault
 use Rattle.ilp_server.specs.declared.unserved.NotServed.{NotServed}
-use Rattle.ilp_server.specs.declared.unserved.NotServed.TheVariants.{NoRequest, UnknownTarget, UnknownSender, Packet, NoKey, Quantity, Credit, Message, Memory}
+use Rattle.ilp_server.specs.declared.unserved.NotServed.TheVariants.{NoRequest, UnknownTarget, UnknownSender, Packet, NoKey, Quantity, Credit, Message, NewPeriod, Memory}
 use Rattle.ilp_server.specs.declared.handled.ConnectionFault.{ConnectionFault}
 use Rattle.ilp_server.specs.declared.handled.ConnectionFault.TheVariants as connection_fault
 
@@ -38,6 +38,7 @@ status_of (Credit peer quantity (NotKept credit)) = Unavailable
 status_of (Message message_fault.TooLong) = BadGateway
 status_of (Message message_fault.NoAnswer) = BadGateway
 status_of (Message message_fault.Memory) = Unavailable
+status_of NewPeriod = Unavailable
 status_of Memory = Unavailable
 
 -- Where no request was read, its refusal is answered. After a failed read, and where memory for its fields was denied, nothing is.

@@ -5,7 +5,7 @@ use Rattle.ilp_settlement.specs.Targets.{settlements_target, messages_target}
 use Rattle.ilp_server.specs.declared.target.Side.{Side}
 use Rattle.ilp_server.specs.declared.target.Side.TheVariants.{Ilp, Engine}
 use Rattle.ilp_server.specs.declared.target.Target.{Target}
-use Rattle.ilp_server.specs.declared.target.Target.TheVariants.{Packet, Settlement, Message, Report, Close}
+use Rattle.ilp_server.specs.declared.target.Target.TheVariants.{Packet, Settlement, Message, Report, Close, Reload}
 
 -- a path is that of one of the peers, by its name
 pub record IsOfPeer (C : Configuration) (target : List ℕ → List ℕ) (path : List ℕ) (peer : ℕ) : Type 0 where
@@ -19,8 +19,10 @@ AsksFor C Ilp path (Settlement peer) = ⊥
 AsksFor C Ilp path (Message peer) = ⊥
 AsksFor C Ilp path Report = ⊥
 AsksFor C Ilp path Close = ⊥
+AsksFor C Ilp path Reload = ⊥
 AsksFor C Engine path Packet = ⊥
 AsksFor C Engine path (Settlement peer) = IsOfPeer C settlements_target path peer
 AsksFor C Engine path (Message peer) = IsOfPeer C messages_target path peer
 AsksFor C Engine path Report = path ≡ codes "/report"
 AsksFor C Engine path Close = path ≡ codes "/close"
+AsksFor C Engine path Reload = path ≡ codes "/reload"

@@ -31,6 +31,9 @@ pub enum Course {
     ToEngine(EngineMessage),
     /// A peer is to be handed a message of the engine here.
     ToPeer(PeerMessage),
+    /// The configuration is to be read again. Who asks for that is answered once it is known what becomes
+    /// of it.
+    Reload,
     /// Nothing is written.
     Unanswered(ConnectionFault),
 }
@@ -98,6 +101,7 @@ fn begin<J: Naming, C: Clock + Drop, U: Uplink + Drop, E: EngineLink + Drop, K: 
             Course::Answered(Response::to_outcome(report))
         }
         Some(Target::Close) => Course::Answered(Response::to_outcome(Ok(Served::Close))),
+        Some(Target::Reload) => Course::Reload,
     }
 }
 

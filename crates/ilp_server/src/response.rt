@@ -83,7 +83,7 @@ impl Response {
     }
 
     /// The response to what is not served.
-    pub(crate) fn refusal(why: NotServed) -> Response
+    pub fn refusal(why: NotServed) -> Response
         ensures { result ≡ refusal why }
     {
         Response {

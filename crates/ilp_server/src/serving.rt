@@ -47,6 +47,7 @@ pub(crate) fn serve<
         Some(Target::Message { peer }) => serve_message(worker, desk, peer, request.body),
         Some(Target::Report) => serve_report(rt, alloc, desk),
         Some(Target::Close) => Ok(Served::Close),
+        Some(Target::Reload) => Err(NotServed::NewPeriod),
     }
 }
 

@@ -28,6 +28,8 @@ pub enum Target {
     Report,
     /// Close the connector.
     Close,
+    /// Read the configuration again.
+    Reload,
 }
 
 /// What a path asks for at a side; none where it asks for nothing there.
@@ -54,6 +56,9 @@ fn engine_target(config: &Config, path: &[u8]) -> Option<Target>
     }
     if path == b"/report".as_slice() {
         return Some(Target::Report);
+    }
+    if path == b"/reload".as_slice() {
+        return Some(Target::Reload);
     }
     if let Some(peer) = peer_in(config, path, b"/settlements") {
         return Some(Target::Settlement { peer });

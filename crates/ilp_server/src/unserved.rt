@@ -41,6 +41,9 @@ pub enum NotServed {
     /// The message has no answer.
     #[error("{0}")]
     Message(MessageFault),
+    /// The configuration is not read again now.
+    #[error("a new period is under way")]
+    NewPeriod,
     /// Memory for the response was denied.
     #[error("memory is short")]
     Memory,
@@ -70,6 +73,7 @@ impl NotServed {
             NotServed::Message(MessageFault::TooLong) => Status::BadGateway,
             NotServed::Message(MessageFault::NoAnswer) => Status::BadGateway,
             NotServed::Message(MessageFault::Memory) => Status::Unavailable,
+            NotServed::NewPeriod => Status::Unavailable,
             NotServed::Memory => Status::Unavailable,
         }
     }

@@ -41,6 +41,11 @@ impl Intakes {
         }
     }
 
+    /// After a close they are served for so long, from now on.
+    pub fn serve_for(&mut self, after: Duration) {
+        self.after = after;
+    }
+
     /// Has both sides accept no more, and counts the time from here. A second close changes nothing.
     pub fn close(&self, rt: &impl Clock) {
         if let Ok(now) = rt.monotonic() {

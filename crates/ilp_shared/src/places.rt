@@ -6,16 +6,28 @@ use ilp_flow::{Flow, Passage};
 use ilp_intake::MOST_WAITING;
 use ilp_server::{Side, Work};
 use std::alloc::{AllocError, Global};
+use std::sync::atomic::{AtomicBool, Ordering};
 use std::sync::{Mutex, Wait};
 use std::time::{Clock, Duration};
 
 /// What the loops have. What waits for nobody outside never waits behind what does, and of the latter
-/// the senders take turns. Threads share it by reference.
+/// the senders take turns. Where a period of the desk ends, nothing is begun any more that waits for
+/// somebody outside, and nothing at all once none does. Threads share it by reference.
 #[derive(Drop)]
 pub struct Places {
     in_flight: u32,
     room: u64,
     taken: Mutex<Taken>,
+    // Whether the period is over.
+    over: AtomicBool,
+}
+
+// How far a period of the desk is.
+#[derive(Clone, Copy, PartialEq, Eq)]
+enum Course {
+    GoesOn,
+    // What waits for somebody outside is not begun any more.
+    Ends,
 }
 
 // What the loops have now.
@@ -26,6 +38,7 @@ struct Taken {
     remote: Remote,
     held_back: HeldBack,
     waits: Waits,
+    course: Course,
 }
 
 // Of the connections that are ready at a side those that wait for somebody outside: what each is, and its
@@ -83,6 +96,11 @@ impl HeldBack {
         engines: false,
     };
 
+    const BOTH: HeldBack = HeldBack {
+        peers: true,
+        engines: true,
+    };
+
     fn at(&mut self, side: Side) -> &mut bool {
         match side {
             Side::Ilp => &mut self.peers,
@@ -133,8 +151,37 @@ impl Places {
                     peers: None,
                     engines: None,
                 },
+                course: Course::GoesOn,
             }),
+            over: AtomicBool::new(false),
         })
+    }
+
+    /// Has the period end: what waits for somebody outside is not begun any more. Tells which sides are to
+    /// ask again.
+    pub fn end_period(&self, rt: &impl Wait) -> HeldBack {
+        let mut taken = self.taken.lock(rt);
+        taken.course = Course::Ends;
+        self.look_at_end(&taken)
+    }
+
+    /// Whether the period ends, or is over.
+    pub fn is_ending(&self, rt: &impl Wait) -> bool {
+        self.taken.lock(rt).course == Course::Ends
+    }
+
+    /// Whether the period is over: it ends, and nothing waits for anybody outside.
+    pub fn is_over(&self) -> bool {
+        self.over.load(Ordering::SeqCst)
+    }
+
+    // Notes where the period is over now, which both sides are to learn then.
+    fn look_at_end(&self, taken: &Taken) -> HeldBack {
+        if taken.course != Course::Ends || taken.flow.flying() != 0 {
+            return HeldBack::NONE;
+        }
+        self.over.store(true, Ordering::SeqCst);
+        HeldBack::BOTH
     }
 
     /// How many may be in flight at once.
@@ -177,15 +224,20 @@ impl Places {
         let mut taken = self.taken.lock(rt);
         let taken = &mut *taken;
         taken.give_back(work);
+        if self.look_at_end(taken).peers {
+            return HeldBack::BOTH;
+        }
         let held_back = taken.held_back;
         taken.held_back = HeldBack::NONE;
         held_back
     }
 
     /// Gives the place of a connection back that was lost before it was served. Whoever waits for one
-    /// asks again once another was served.
-    pub fn give_back(&self, rt: &impl Wait, work: Work) {
-        self.taken.lock(rt).give_back(work);
+    /// asks again once another was served. Tells which sides are to ask again all the same.
+    pub fn give_back(&self, rt: &impl Wait, work: Work) -> HeldBack {
+        let mut taken = self.taken.lock(rt);
+        taken.give_back(work);
+        self.look_at_end(&taken)
     }
 }
 
@@ -208,6 +260,9 @@ impl Taken {
         let local = ready.iter().position(|work| *work == Work::Local);
         if local.is_some() && self.local < LOCAL_AT_ONCE {
             return local;
+        }
+        if self.course == Course::Ends {
+            return None;
         }
         self.remote.list(&self.flow, ready);
         let next = self.flow.next(self.remote.passages.as_slice())?;

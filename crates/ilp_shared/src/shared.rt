@@ -3,11 +3,15 @@
 use crate::bells::Bells;
 use crate::intakes::Intakes;
 use crate::keeping::KeptJournal;
+use crate::period_due::PeriodDue;
 use crate::places::Places;
+use crate::reloading::Reloading;
 use crate::seen::Seen;
 use ilp_desk::{Desk, Naming};
 use ilp_links::Outside;
 use ilp_notices::Notices;
+use std::sync::Wait;
+use std::time::Duration;
 
 /// What the threads of a connector work on.
 #[derive(Drop)]
@@ -20,6 +24,21 @@ pub struct Shared<'a, J: Naming, R> {
     pub kept: &'a KeptJournal<J>,
     pub notices: &'a Notices,
     pub seen: &'a Seen,
+    pub reloading: &'a Reloading,
+    /// When the desk's period ends by itself.
+    pub due: Option<PeriodDue>,
+}
+
+impl<'a, J: Naming, R: Wait> Shared<'a, J, R> {
+    /// Has the desk's period end where that is due.
+    pub fn look_at_period(&self, now: Duration) {
+        if let Some(due) = self.due {
+            if due.is_reached(self.desk.lock(self.rt).book(), now) {
+                let asks = self.places.end_period(self.rt);
+                self.intakes.look_again(asks);
+            }
+        }
+    }
 }
 
 impl<'a, J: Naming, R> Shared<'a, J, R> {
@@ -34,6 +53,8 @@ impl<'a, J: Naming, R> Shared<'a, J, R> {
             kept: self.kept,
             notices: self.notices,
             seen: self.seen,
+            reloading: self.reloading,
+            due: self.due,
         }
     }
 

@@ -4,21 +4,18 @@ ghost use Rattle.std.specs.Prelude.{◌≡◌, ◌≤◌, length, IfOk};
 
 use crate::carrying::Carried;
 use crate::finding::found_book;
-use crate::refused::{Refused, RunFault};
-use crate::report::print_report;
+use crate::refused::Refused;
 use crate::saved::Saved;
 use crate::warning::{JournalWarnings, Telling};
 use ilp_accounts::Config;
 use ilp_book::Book;
-use ilp_io::Recording;
 use ilp_journal_file::{FileFault, Found, JournalFile, LogDevice, PlacesFiles, has_text};
 use ilp_line_file::{Device, LineFile};
-use ilp_log::LogStart;
+use ilp_log::{BegunLog, LogStart};
 use ilp_log_text::head_text;
-use ilp_notices::{journal_absent, journal_carried, journal_unread, nothing_to_save};
+use ilp_notices::{journal_absent, journal_carried, journal_unread};
 use ilp_refusals::Refusal;
 use ilp_remembered::remembered_text;
-use ilp_running::{BegunLog, ServeFault, Unprinted};
 use std::fs::OpenFile;
 use std::io;
 use std::io::{Eprint, ErrorKind, Print, Read, Seek, Write};
@@ -26,12 +23,12 @@ use std::rt::Files;
 
 /// A journal's file, which no other connector has, and the configuration by which its book is read.
 #[derive(Clone, Copy)]
-pub struct BookFile<'r, R, F> {
+pub struct BookFile<'r, 'f, R, F> {
     pub rt: &'r R,
-    pub config: &'r Config,
-    pub file: &'r JournalFile<F>,
+    pub config: &'f Config,
+    pub file: &'f JournalFile<F>,
     /// The path of the file, as lines tell it.
-    pub path: &'r str,
+    pub path: &'f str,
 }
 
 /// A book with which a run begins, and the log that goes on from it.
@@ -41,7 +38,7 @@ pub struct Begun<D: Device + Drop> {
     pub log: BegunLog<D>,
 }
 
-impl<'r, R, F> BookFile<'r, R, F>
+impl<'r, R, F> BookFile<'r, '_, R, F>
 where
     R: AllocGlobal
         + Files<File = F>
@@ -66,10 +63,23 @@ where
         ensures base { IfOk result (λ b. b.log.start.base ≤ length b.book.entries) }
     {
         let book = self.carried()?;
+        self.forget_kept(&book)?;
         match self.go_on(&book) {
             Ok(log) => Ok(Begun { book, log }),
             Err(refused) => Err(refused),
         }
+    }
+
+    // This book's period goes on, so a text of it that is kept beside goes.
+    fn forget_kept(&self, book: &Book) -> Result<(), FileFault>
+        requires { book.now.config ≡ self.now.config.now }
+    {
+        let own = Saved {
+            book,
+            config: self.config,
+        };
+        let (rt, alloc) = (self.rt, self.rt.alloc());
+        self.file.forget_period(rt, alloc, book.period(), &own)
     }
 
     /// The book of a journal whose books are to be closed: the one with which a run would begin, so no hold is
@@ -112,8 +122,11 @@ where
         }
     }
 
-    // Has the configuration remembered, and begins a log that goes on from this book.
-    fn go_on(&self, book: &Book) -> Result<BegunLog<LogDevice<'r, R, F>>, Refused>
+    /// Has the configuration remembered, and begins a log that goes on from this book, whose text the file has
+    /// then.
+    ///
+    /// Refusals: `WriteFault` and `JournalUnread`, of which a line on standard error says more; `Memory`.
+    pub fn go_on(&self, book: &Book) -> Result<BegunLog<LogDevice<'r, R, F>>, Refused>
         requires { book.now.config ≡ self.now.config.now }
         ensures { IfOk result (λ log. log.start.base ≤ length book.now.entries) }
     {
@@ -212,30 +225,21 @@ where
         }
     }
 
-    /// Prints the report of a book that was closed, and saves its journal, whatever became of the report:
-    /// also where there was no memory for it. `report` has nothing in it.
-    pub fn end(&self, book: &Book, report: &mut Recording) -> Result<(), RunFault>
+    /// Saves the journal of a book that was closed, and removes the log.
+    ///
+    /// Refusals: `WriteFault` where the file can't be written to the last, of which a line says more;
+    /// `JournalUnread`; `Memory`.
+    pub fn end(&self, book: &Book) -> Result<(), Refused>
         requires config { book.now.config ≡ self.now.config.now }
     {
         let rt = self.rt;
-        let reported = print_report(rt, book, report);
         let saved = Saved {
             book,
             config: self.config,
         };
         match self.file.save(rt, rt.alloc(), &saved) {
-            Ok(()) => reported,
-            Err(fault) => Err(RunFault::from(fault)),
+            Ok(()) => Ok(()),
+            Err(fault) => Err(Refused::from(fault)),
         }
-    }
-
-    /// What becomes of the log where a connector gave no book back. One that could not listen has booked
-    /// nothing, so its log goes. Any other may have booked something, and the log stays.
-    pub fn leave_unsaved(&self, fault: ServeFault) -> RunFault {
-        match fault {
-            ServeFault::Unprinted(Unprinted::Listen(_)) => self.file.remove_log(self.rt),
-            _ => nothing_to_save(self.rt, self.path, self.file.log_path()),
-        }
-        RunFault::from(fault)
     }
 }

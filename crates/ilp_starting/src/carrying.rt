@@ -219,7 +219,7 @@ fn line_count(text: &[u8]) -> usize
 }
 
 /// A book in which nothing was booked.
-pub(crate) fn new_book(alloc: Global, config: &Config) -> Result<Book, Refused>
+pub fn new_book(alloc: Global, config: &Config) -> Result<Book, Refused>
     ensures begins { IfOk result (λ b. b ≡ new_book config.now) }
     ensures refused { IfErr result (λ r. r.refusal ≡ refusals.Memory) }
 {

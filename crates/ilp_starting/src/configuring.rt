@@ -34,7 +34,7 @@ pub fn configured<R: Runtime + AllocGlobal>(rt: &R, path: &str) -> Result<Config
 }
 
 /// The same, with a notice of each thing that is to be looked at.
-pub(crate) fn noticed<R: Runtime + AllocGlobal>(rt: &R, path: &str) -> Result<Config, Refused> {
+pub fn noticed<R: Runtime + AllocGlobal>(rt: &R, path: &str) -> Result<Config, Refused> {
     let octets = config_octets(rt, path)?;
     tell_warnings(rt, path, &octets, Telling::Notice);
     config_of(rt.alloc(), &octets)

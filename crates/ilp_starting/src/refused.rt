@@ -5,7 +5,6 @@ ghost use Rattle.ilp_refusals.specs.Refusals.{config_refusal};
 use ilp_accounts::{ConfigFault, explain};
 use ilp_journal_file::FileFault;
 use ilp_refusals::Refusal;
-use ilp_running::ServeFault;
 use std::alloc::{AllocError, Global};
 use thiserror::Error;
 
@@ -101,15 +100,5 @@ impl From<AllocError> for RunFault {
 impl From<FileFault> for RunFault {
     fn from(fault: FileFault) -> RunFault {
         RunFault::Refused(Refused::from(fault))
-    }
-}
-
-/// A connector that printed no report, or not all of it.
-impl From<ServeFault> for RunFault {
-    fn from(fault: ServeFault) -> RunFault {
-        match fault {
-            ServeFault::Write => RunFault::OutputFailed,
-            fault => RunFault::Refused(Refused::from(fault.refusal())),
-        }
     }
 }

@@ -46,6 +46,9 @@ impl Telling {
                 let _ = eprintln!(rt; "journal {path:?}: {warning}");
             }
             (Telling::Notice, JournalWarning::Ahead { .. }) => journal_warning(rt, path, warning),
+            (Telling::Notice, JournalWarning::LongHead { .. }) => journal_warning(
+                rt, path, warning,
+            ),
             (Telling::Notice, JournalWarning::NearlyFull { .. }) => {}
         }
     }
@@ -113,11 +116,12 @@ fn tell_all<R: Runtime + AllocGlobal>(
 pub struct JournalWarnings {
     ahead: Option<JournalWarning>,
     nearly_full: Option<JournalWarning>,
+    long_head: Option<JournalWarning>,
 }
 
 impl JournalWarnings {
     /// What is in the way now of one that begins with this book: its last moment lies ahead of the clock,
-    /// or it is nearly full.
+    /// it is nearly full, or a new period would begin late since so much was brought forward.
     pub fn of<R: time::Clock + Copy>(rt: &R, book: &Book) -> JournalWarnings {
         let now = SystemClock::new(*rt).now();
         let ahead = match book.entry(book.len().saturating_sub(1)) {
@@ -128,6 +132,7 @@ impl JournalWarnings {
         JournalWarnings {
             ahead,
             nearly_full: JournalWarning::nearly_full(book.len(), limit),
+            long_head: long_head_of(book),
         }
     }
 
@@ -139,5 +144,15 @@ impl JournalWarnings {
         if let Some(warning) = self.nearly_full {
             telling.tell_of_journal(rt, path, warning);
         }
+        if let Some(warning) = self.long_head {
+            telling.tell_of_journal(rt, path, warning);
+        }
     }
+}
+
+// Whether so much was brought forward that a new period begins later than its configuration says.
+fn long_head_of(book: &Book) -> Option<JournalWarning> {
+    let config = book.config();
+    let percent = config.new_period_at()?;
+    JournalWarning::long_head(book.head(), config.journal(), percent)
 }

@@ -1,12 +1,14 @@
 -- Where no entry is counted in the totals by either of two bases, they are the same.
-use Rattle.std.proofs.Common.{◌≡◌, ℕ, ◌+◌, ◌<◌, ◌≤◌, Bool, true, false, cond, List, [], ◌∷◌, length, refl, arith}
+use Rattle.std.proofs.Common.{◌≡◌, ℕ, ◌+◌, ◌<◌, ◌≤◌, Bool, true, false, cond, List, [], ◌∷◌, length, All, refl, sym, subst, arith}
 use Rattle.std.specs.Prelude.{nat_le, ◌&&◌, ◌||◌}
 use Rattle.std.proofs.lemmas.Bool.{leb-true}
 use Rattle.ilp_journal.specs.declared.entry.Hold.{Hold}
 use Rattle.ilp_order.specs.Places.{sum_from}
 use Rattle.ilp_journal.specs.Journal.{Entries, of_hold, sum_of_holds, is_unanswered, is_fulfilled}
 use Rattle.ilp_journal.specs.TrialBalance.{is_counted, total_in, total_out, amount_in, amount_out}
-use Rattle.ilp_tallies.specs.Tallies.{PlainTallies, MovesBase}
+use Rattle.ilp_tallies.specs.declared.rows.AssetRow.{AssetRow}
+use Rattle.ilp_tallies.specs.Rows.{asset_row, without_totals}
+use Rattle.ilp_tallies.specs.Tallies.{PlainTallies, IsAssetRow, MovesBase, EndsTotals}
 
 -- the sum over places below a bound of what is 0 there
 below-zero : {X : Type 0} (f : ℕ → X → ℕ) (bound n : ℕ) (xs : List X) → ((k : ℕ) (x : X) → k < bound → f k x ≡ 0) → n + length xs ≤ bound → sum_from f n xs ≡ 0
@@ -48,6 +50,33 @@ moves_base t base assets j before behind tallies = record {
     total_in = omega (arith, row.total_in, total_in-none assets t.base j x before, total_in-none assets base j x behind);
     total_out = omega (arith, row.total_out, total_out-none assets t.base j x before, total_out-none assets base j x behind);
   };
+  knows_holds = tallies.knows_holds;
+  knows_asks = tallies.knows_asks;
+  entries = tallies.entries;
+  left_open = tallies.left_open;
+  fulfilled = tallies.fulfilled;
+}
+
+-- rows without totals are those by a base behind all entries
+pub ends_totals : (t : PlainTallies) (base : ℕ) (sums : List AssetRow) → length sums ≡ length t.sums
+    → ((x : ℕ) → asset_row sums x ≡ without_totals (asset_row t.sums x)) → EndsTotals t base (record t { base = base; sums = sums })
+ends_totals t base sums count cleared assets j behind tallies = record {
+  listed = tallies.listed;
+  since = refl;
+  rows = tallies.rows;
+  ask_rows = tallies.ask_rows;
+  within = subst (λ (n : ℕ). All (λ asset. asset < n) assets) (sym count) tallies.within;
+  peers = tallies.peers;
+  asks = tallies.asks;
+  sums = λ x. let row = tallies.sums x in subst (IsAssetRow assets base j x) (sym (cleared x)) (record {
+    held = row.held;
+    taken = row.taken;
+    fees = row.fees;
+    sold = row.sold;
+    settled = row.settled;
+    total_in = omega (arith, total_in-none assets base j x behind);
+    total_out = omega (arith, total_out-none assets base j x behind);
+  });
   knows_holds = tallies.knows_holds;
   knows_asks = tallies.knows_asks;
   entries = tallies.entries;

@@ -75,6 +75,10 @@ asset_row rows x = slice_index_or rows x zero_asset
 abbrev pub add_asset : List AssetRow → ℕ → AssetRow → List AssetRow
 add_asset rows x more = slice_set rows x (asset_plus (asset_row rows x) more)
 
+-- a row whose totals are nothing
+abbrev pub without_totals : AssetRow → AssetRow
+without_totals r = record r { in_begun = 0; in_released = 0; out_begun = 0; out_released = 0 }
+
 -- no number of the row is greater than what n entries come to, each of which adds an amount of 64 bits
 pub record FitsAsset (n : ℕ) (r : AssetRow) : Type 0 where
   pub begun : r.begun ≤ n * 2 ^ 64

@@ -7,7 +7,8 @@
 //!   definitions make of the journal, for every peer and every asset.
 //! - `Tallies::new` is the tallies of a journal of no entries, by the list of the peers' assets and
 //!   a base.
-//! - `set_base` moves the base of tallies whose journal lies before both.
+//! - `set_base` moves the base of tallies whose journal lies before both, and `end_totals` that of any,
+//!   to one behind its journal.
 //! - `apply` makes the tallies of a journal those of the journal with one more entry, for a journal
 //!   and an entry that answer only open holds, close only open settlements and name only listed
 //!   peers. It takes no memory.

@@ -1,7 +1,7 @@
 //! Rows of sums, one for each peer and one for each asset. Each number of a row only grows, so that
 //! adding an entry never subtracts: a reader takes the difference of two.
-ghost use Rattle.std.specs.Prelude.{◌≡◌, ℕ, IfOk, replicate};
-ghost use Rattle.ilp_tallies.specs.Rows.{zero_peer, zero_asset, peer_plus, asset_plus, peer_row, asset_row, add_peer, add_asset, FitsPeer, FitsAsset, most_entries};
+ghost use Rattle.std.specs.Prelude.{◌≡◌, ℕ, IfOk, length, replicate};
+ghost use Rattle.ilp_tallies.specs.Rows.{zero_peer, zero_asset, peer_plus, asset_plus, peer_row, asset_row, add_peer, add_asset, without_totals, FitsPeer, FitsAsset, most_entries};
 
 use std::alloc::{AllocError, Allocator};
 
@@ -93,6 +93,16 @@ impl AssetRow {
         }
     }
 
+    // Has the totals be nothing.
+    fn clear_totals(&mut self)
+        ensures { self.new ≡ without_totals self.old }
+    {
+        self.in_begun = 0;
+        self.in_released = 0;
+        self.out_begun = 0;
+        self.out_released = 0;
+    }
+
     // Both rows, added number by number.
     fn plus(self, more: AssetRow) -> AssetRow
         requires this { FitsAsset most_entries self }
@@ -173,5 +183,15 @@ pub(crate) fn add_asset<A: Allocator>(rows: &mut Vec<AssetRow, A>, asset: u32, m
     let row = asset_row(rows, asset).plus(more);
     if (asset as usize) < rows.len() {
         rows[asset as usize] = row;
+    }
+}
+
+/// Has the totals of each asset be nothing.
+pub(crate) fn clear_totals<A: Allocator>(rows: &mut Vec<AssetRow, A>)
+    ensures rows { (x : ℕ) → asset_row rows.new.items x ≡ without_totals (asset_row rows.old.items x) }
+    ensures count { length rows.new.items ≡ length rows.old.items }
+{
+    for row in rows.iter_mut() {
+        row.clear_totals();
     }
 }

@@ -9,12 +9,12 @@ ghost use Rattle.ilp_tallies.specs.Rows as rows;
 ghost use Rattle.ilp_tallies.specs.Rows.{FitsPeer, FitsAsset};
 ghost use Rattle.ilp_tallies.specs.OpenAsks.{AreOpenAsks, HasRoomToAsk, asks_after};
 ghost use Rattle.ilp_tallies.specs.Steps.{FitsStep};
-ghost use Rattle.ilp_tallies.specs.Tallies.{AreTallies, MovesBase, IsOfEach, KnowsPeers, GrowsBy, with_step};
+ghost use Rattle.ilp_tallies.specs.Tallies.{AreTallies, MovesBase, EndsTotals, IsOfEach, KnowsPeers, GrowsBy, with_step};
 
 use crate::asks::{count_asks, next_ask, no_asks, update_asks};
 use crate::open_asks::OpenAsks;
 use crate::rows::{
-    AssetRow, PeerRow, add_asset, add_peer, asset_row, no_assets, no_peers, peer_row,
+    AssetRow, PeerRow, add_asset, add_peer, asset_row, clear_totals, no_assets, no_peers, peer_row,
 };
 use crate::step::{Step, step_of};
 use ilp_journal::{Entry, Journal, What};
@@ -245,6 +245,15 @@ impl<A: Allocator> Tallies<A> {
     pub fn set_base(&mut self, base: u32)
         ensures { MovesBase self.old base self.new }
     {
+        self.base = base;
+    }
+
+    /// Has the totals be of the holds whose number is `base` or greater, for a journal all of whose entries lie
+    /// below that: they are nothing then.
+    pub fn end_totals(&mut self, base: u32)
+        ensures { EndsTotals self.old base self.new }
+    {
+        clear_totals(&mut self.sums);
         self.base = base;
     }
 

@@ -5,14 +5,15 @@ use crossbeam_channel::Sender;
 use ilp_accounts::Config;
 use ilp_desk::Naming;
 use ilp_http::Buffer;
-use ilp_intake::{Admission, Intake};
+use ilp_intake::{Admission, Intake, Next};
 use ilp_notices::Notices;
 use ilp_replies::LocalReject;
 use ilp_server::{Side, Work, work_of};
-use ilp_shared::{Job, Places, Shared};
+use ilp_shared::{Intakes, Job, Places, Shared};
 use mio::net::TcpStream;
+use std::alloc::AllocError;
 use std::sync::Wait;
-use std::time::Clock;
+use std::time::{Clock, Duration};
 
 /// What takes connections in at one side.
 #[derive(Drop)]
@@ -25,12 +26,21 @@ pub(crate) struct Acceptor {
     pub(crate) busy: Busy,
 }
 
+impl Acceptor {
+    /// Takes over another configuration. Once it is closed, connections are given on for so long.
+    pub(crate) fn take_over(&mut self, config: &Config, after: Duration) -> Result<(), AllocError> {
+        self.busy = Busy::new(config.allocator(), config)?;
+        self.intake.set_last(last_sender(config), after)
+    }
+}
+
 // Gives a connection on where there is a place for it with the loops.
 #[derive(Drop)]
 struct Placing<'a, R> {
     rt: &'a R,
     config: &'a Config,
     places: &'a Places,
+    intakes: &'a Intakes,
     side: Side,
     buffer: Buffer,
     busy: Busy,
@@ -55,6 +65,10 @@ impl<R: Wait + Clock> Admission for Placing<'_, R> {
         self.places.admit(self.rt, self.side, ready)
     }
 
+    fn pauses(&self) -> bool {
+        self.places.is_over()
+    }
+
     fn sender_of(&self, kind: Work) -> u32 {
         match kind {
             Work::Remote { passage } => passage.sender,
@@ -73,8 +87,9 @@ impl<R: Wait + Clock> Admission for Placing<'_, R> {
     }
 
     fn give_back(&mut self, kind: Work) {
-        // This intake asks again at once, and the other one when the next job is done.
-        self.places.give_back(self.rt, kind);
+        // This intake asks again at once, and the other one when the next job is done, or the period is over.
+        let asks = self.places.give_back(self.rt, kind);
+        self.intakes.look_again(asks);
     }
 }
 
@@ -84,14 +99,22 @@ pub(crate) fn last_sender(config: &Config) -> u32 {
     config.peers() * 2
 }
 
+/// What takes connections in at one side, once it handed none on any more.
+#[derive(Drop)]
+pub(crate) struct Accepted {
+    pub(crate) acceptor: Acceptor,
+    /// Whether those that wait there are for the next period of the desk.
+    pub(crate) goes_on: bool,
+}
+
 /// Hands the connections of one side to the loops, as far as there are places for them, until the
-/// intake is closed and none waits there, or its time is over. Then its sender of jobs is dropped:
-/// once both sides' are, the loops know that no more come.
+/// intake is closed and none waits there, or its time is over, or the period of the desk is. Then its
+/// sender of jobs is dropped: once both sides' are, the loops know that no more come.
 pub(crate) fn accept_all<J: Naming, R: Wait + Clock>(
     shared: Shared<'_, J, R>,
     acceptor: Acceptor,
     jobs: Sender<Job>,
-) {
+) -> Accepted {
     let Acceptor {
         side,
         mut intake,
@@ -103,18 +126,36 @@ pub(crate) fn accept_all<J: Naming, R: Wait + Clock>(
         rt,
         config: shared.desk.config(),
         places: shared.places,
+        intakes: shared.intakes,
         side,
         buffer,
         busy,
         notices: shared.notices,
     };
+    // The desk's configuration may be another one than that by which those that wait were looked at.
+    intake.look_anew(&mut placing);
+    let mut goes_on = false;
     for _ in rt.forever() {
-        let Some(connection) = intake.next(rt, &mut placing) else {
-            break;
-        };
-        if jobs.send(rt, Job { side, connection }).is_err() {
-            break;
+        match intake.next(rt, &mut placing) {
+            Next::Ready(connection) => {
+                if jobs.send(rt, Job { side, connection }).is_err() {
+                    break;
+                }
+                shared.bells.ring_one();
+            }
+            Next::Paused => {
+                goes_on = true;
+                break;
+            }
+            Next::Ended => break,
         }
-        shared.bells.ring_one();
     }
+    let Placing { buffer, busy, .. } = placing;
+    let acceptor = Acceptor {
+        side,
+        intake,
+        buffer,
+        busy,
+    };
+    Accepted { acceptor, goes_on }
 }

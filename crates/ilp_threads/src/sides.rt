@@ -6,7 +6,7 @@ use crate::actors::{Actors, KeepingWay, actors_of};
 use crate::busy::Busy;
 use crate::fault::Unprinted;
 use crate::open_files::{in_flight_by, open_files, waiting_by, wanted};
-use crate::threads::{Acceptors, Running, run};
+use crate::threads::{Acceptors, RunPeriod, Running, run};
 use ilp_accounts::Config;
 use ilp_desk::{Desk, End, Naming, Share};
 use ilp_http::Buffer;
@@ -15,26 +15,48 @@ use ilp_keeping::SharedKeeper;
 use ilp_links::Links;
 use ilp_notices::{few_files, listening, no_thread, not_listening};
 use ilp_server::Side;
-use ilp_shared::{Intakes, KeptJournal, Places, Seen, Shared, ending_after};
+use ilp_shared::{
+    Configurations, Intakes, KeptJournal, NextConfig, PeriodDue, Places, Reloading, Seen, Shared,
+    ending_after, monotonic,
+};
+use std::alloc::AllocError;
 use std::io::{Eprint, ErrorKind};
 use std::net::{Net, TcpListener, TcpStream};
 use std::rt::Files;
 use std::sync::Wait;
 use std::thread::Threads;
-use std::time::Clock;
+use std::time::{Clock, Duration};
 
-// What takes connections in at both sides, and what reaches it.
+// After how many milliseconds a period may end again behind which no other could begin.
+const AGAIN_MS: u64 = 60_000;
+
+/// What takes connections in at both sides, and what reaches it.
 #[derive(Drop)]
-struct Sides {
+pub struct Sides {
     acceptors: Acceptors,
     intakes: Intakes,
+    reloading: Reloading,
     // How many files the process may have open, where the system says so.
     open_files: Option<u64>,
+    // Whether periods of the desk may end by themselves.
+    has_periods: bool,
+    // When one may, by the clock that never goes back.
+    not_before: Duration,
+    // Whether no desk was run between them yet.
+    is_first: bool,
 }
 
 impl Sides {
-    // Listens at both sides, at the places of the configuration.
-    fn open<R>(rt: &R, config: &Config) -> Result<Sides, Unprinted>
+    /// Has no period of a desk end by itself for a minute: the last one had none behind it.
+    pub fn go_on_for_now(&mut self, rt: &impl Clock) {
+        self.not_before = monotonic(rt).saturating_add(Duration::from_millis(AGAIN_MS));
+    }
+
+    /// Listens at both sides, at the places of the configuration. Periods of a desk between them may end by
+    /// themselves, or not.
+    ///
+    /// Refusals: `Listen` where a side can't be listened at, and a line says so; `Memory`.
+    pub fn open<R>(rt: &R, config: &Config, has_periods: bool) -> Result<Sides, Unprinted>
     where
         R: Net<Listener = TcpListener, Stream = TcpStream> + Clock + Eprint + Files,
     {
@@ -52,8 +74,32 @@ impl Sides {
         Ok(Sides {
             acceptors: Acceptors { peers, engines },
             intakes: Intakes::new(peer_handle, engine_handle, after),
+            reloading: Reloading::new(),
             open_files,
+            has_periods,
+            not_before: Duration::ZERO,
+            is_first: true,
         })
+    }
+
+    /// By which configuration the next period is to begin, where somebody asked for it to be read again.
+    pub fn take_next(&self, rt: &impl Wait) -> Option<NextConfig> {
+        self.reloading.take_next(rt)
+    }
+
+    /// Who asked for that is answered.
+    pub fn free(&self) {
+        self.reloading.free();
+    }
+
+    /// Takes over another configuration, for the desk that is run between them next. They listen on where
+    /// they do.
+    pub fn take_over(&mut self, config: &Config) -> Result<(), AllocError> {
+        let after = ending_after(config.max_hold_ms());
+        self.acceptors.peers.take_over(config, after)?;
+        self.acceptors.engines.take_over(config, after)?;
+        self.intakes.serve_for(after);
+        Ok(())
     }
 }
 
@@ -102,60 +148,50 @@ where
     }
 }
 
-/// Listens at both sides, at the places of the configuration, and runs the actors whose shares of the desk
-/// these are, the settler's last and the sweeper's before it, until the connector is closed and what was
-/// accepted is answered. Then it gives what they hand in. Each has a keeper of its own of the same journal,
-/// which is kept in that way before senders are told.
-///
-/// Refusals: `Listen` where a side can't be listened at, and `Spawn` where a thread can't be started, and a
-/// line says so; `Memory`. All that ran has ended then.
-pub fn run_desk<J, R, L, K>(
-    rt: &R,
-    desk: &Desk<J>,
-    shares: Vec<Share<J>>,
-    links: &L,
-    keeper: K,
-    way: KeepingWay,
-) -> Result<Vec<End<J>>, Unprinted>
-where
-    J: Naming + Send + Sync,
-    R: Net<Listener = TcpListener, Stream = TcpStream>
-        + Threads
-        + Wait
-        + Clock
-        + Eprint
-        + Files
-        + Sync,
-    L: Links,
-    K: SharedKeeper<J> + Drop + Send,
-    requires { 2 ≤ vec_len shares }
-{
-    let sides = Sides::open(rt, desk.config())?;
-    run_between(rt, desk, shares, links, sides, keeper, way)
+/// What a run of a desk comes to.
+#[derive(Drop)]
+pub struct RunDesk<J: Naming> {
+    /// What its actors hand in.
+    pub ends: Vec<End<J>>,
+    /// The sides, where connections wait for the next period; none where the connector was closed.
+    pub sides: Option<Sides>,
 }
 
-// The same between these sides.
-fn run_between<J, R, L, K>(
+/// Runs the actors whose shares of the desk these are, the settler's last and the sweeper's before it,
+/// between these sides, until the connector is closed and what was accepted is answered, or the period of
+/// the desk ends and nothing waits for anybody outside. Then it gives what they hand in. Each has a keeper
+/// of its own of the same journal, which is kept in that way before senders are told. Where somebody asks for
+/// the configuration to be read again, that is done there, and the period ends where it is taken.
+///
+/// Refusals: `Spawn` where a thread can't be started, and a line says so; `Memory`. All that ran has ended
+/// then, and the sides are closed.
+pub fn run_desk<J, R, L, K, P>(
     rt: &R,
     desk: &Desk<J>,
     shares: Vec<Share<J>>,
     links: &L,
+    configs: P,
     sides: Sides,
     keeper: K,
     way: KeepingWay,
-) -> Result<Vec<End<J>>, Unprinted>
+) -> Result<RunDesk<J>, Unprinted>
 where
     J: Naming + Send + Sync,
     R: Net<Listener = TcpListener, Stream = TcpStream> + Threads + Wait + Clock + Eprint + Sync,
     L: Links,
     K: SharedKeeper<J> + Drop + Send,
+    P: Configurations + Drop + Send,
     requires { 2 ≤ vec_len shares }
 {
     let config = desk.config();
     let Sides {
         acceptors,
         intakes,
+        reloading,
         open_files,
+        has_periods,
+        not_before,
+        is_first,
     } = sides;
     let in_flight = most_in_flight(open_files, config);
     let Actors {
@@ -168,7 +204,14 @@ where
     let kept = KeptJournal::new();
     let places = Places::new(config.allocator(), in_flight, config.peers())?;
     let seen = Seen::new();
-    tell_start(rt, config, in_flight, places.room(), open_files);
+    let due = if has_periods {
+        PeriodDue::of(desk.lock(rt).book(), not_before)
+    } else {
+        None
+    };
+    if is_first {
+        tell_start(rt, config, in_flight, places.room(), open_files);
+    }
     let shared = Shared {
         rt,
         desk,
@@ -178,17 +221,41 @@ where
         kept: &kept,
         notices: links.notices(),
         seen: &seen,
+        reloading: &reloading,
+        due,
     };
     let running = Running {
         loops,
         keeping,
         turning,
+        configs,
     };
-    let ends = run(shared, running, acceptors, &settler_bell);
-    if let Err(Unprinted::Spawn) = &ends {
-        no_thread(rt);
+    match run(shared, running, acceptors, &settler_bell) {
+        Ok(RunPeriod { ends, acceptors }) => {
+            let sides = match acceptors {
+                Some(acceptors) => Some(Sides {
+                    acceptors,
+                    intakes,
+                    reloading,
+                    open_files,
+                    has_periods,
+                    not_before,
+                    is_first: false,
+                }),
+                None => {
+                    reloading.turn_away(rt);
+                    None
+                }
+            };
+            Ok(RunDesk { ends, sides })
+        }
+        Err(fault) => {
+            if let Unprinted::Spawn = fault {
+                no_thread(rt);
+            }
+            Err(fault)
+        }
     }
-    ends
 }
 
 // How many packets and messages may be in flight.

@@ -1,7 +1,7 @@
 //! The threads of a running connector.
 ghost use denote.Param.Send.{IsSend, IsSync};
 
-use crate::accepting::{Acceptor, accept_all};
+use crate::accepting::{Accepted, Acceptor, accept_all};
 use crate::actors::{Keeping, Turning, WatcherLinks};
 use crate::fault::Unprinted;
 use crate::sweeping::sweep;
@@ -14,7 +14,8 @@ use ilp_notices::closing;
 use ilp_settler::Sweeper;
 use ilp_settling::{SettlerBell, SettlingLoop};
 use ilp_shared::{
-    Job, KeepRunning, LOCAL_AT_ONCE, Shared, Shutdown, keep_for_loops, shutdown_pair,
+    Configurations, Job, KeepRunning, LOCAL_AT_ONCE, Shared, Shutdown, keep_for_loops,
+    shutdown_pair,
 };
 use ilp_workers::{Clock, Keeper};
 use std::io::Eprint;
@@ -135,16 +136,18 @@ where
 }
 
 // Starts the thread of the watcher, who is given these.
-fn start_watcher<'s, S, J, C, K, R>(
+fn start_watcher<'s, S, J, C, K, P, R>(
     scope: &'s Scope<'s, S>,
     shared: &Shared<'s, J, R>,
     links: WatcherLinks<J, C, K>,
+    configs: P,
     shutdown: Shutdown,
 ) -> Result<JoinHandle<()>, Unprinted>
 where
     J: Naming + Send + Sync + 's,
     C: Clock + Drop + Send + 's,
     K: SharedKeeper<J> + Drop + Send + 's,
+    P: Configurations + Drop + Send + 's,
     R: Wait + time::Clock + Eprint + Sync + 's,
 {
     let rt = shared.rt;
@@ -152,23 +155,29 @@ where
         desk: shared.desk,
         links,
         places: shared.places,
+        intakes: shared.intakes,
         notices: shared.notices,
         seen: shared.seen,
+        reloading: shared.reloading,
+        due: shared.due,
+        configs,
     };
     Ok(scope.spawn(move || watch(rt, watcher, shutdown))?)
 }
 
 // Starts the threads of the sweeper, the settler and the watcher.
-fn start_turns<'s, S, J, C, K, R>(
+fn start_turns<'s, S, J, C, K, P, R>(
     scope: &'s Scope<'s, S>,
     shared: &Shared<'s, J, R>,
     turning: Turning<J, C, K>,
+    configs: P,
     shutdown: &Shutdown,
 ) -> Result<TurnThreads<J>, Unprinted>
 where
     J: Naming + Send + Sync + 's,
     C: Clock + Drop + Send + 's,
     K: SharedKeeper<J> + Drop + Send + 's,
+    P: Configurations + Drop + Send + 's,
     R: Net<Listener = TcpListener, Stream = TcpStream> + Wait + time::Clock + Eprint + Sync + 's,
 {
     let Turning {
@@ -178,7 +187,7 @@ where
     } = turning;
     let sweeping = start_sweeper(scope, shared, sweeper, shutdown.try_clone()?)?;
     let settling = start_settler(scope, shared, settling, shutdown.try_clone()?)?;
-    let watching = start_watcher(scope, shared, watching, shutdown.try_clone()?)?;
+    let watching = start_watcher(scope, shared, watching, configs, shutdown.try_clone()?)?;
     Ok(TurnThreads {
         sweeping,
         settling,
@@ -186,13 +195,31 @@ where
     })
 }
 
-// Accepts connections at both sides, each in a thread, until both are closed.
+// What takes connections in at both sides, once neither hands any on.
+#[derive(Drop)]
+struct BothAccepted {
+    acceptors: Acceptors,
+    goes_on: bool,
+}
+
+impl BothAccepted {
+    fn of(peers: Accepted, engines: Accepted) -> BothAccepted {
+        let goes_on = peers.goes_on || engines.goes_on;
+        let acceptors = Acceptors {
+            peers: peers.acceptor,
+            engines: engines.acceptor,
+        };
+        BothAccepted { acceptors, goes_on }
+    }
+}
+
+// Accepts connections at both sides, each in a thread, until both are closed, or the period is over.
 fn accept_at_both<'s, S, J, R>(
     scope: &'s Scope<'s, S>,
     shared: &Shared<'s, J, R>,
     acceptors: Acceptors,
     jobs: Sender<Job>,
-) -> Result<(), Unprinted>
+) -> Result<BothAccepted, Unprinted>
 where
     J: Naming + Send + Sync + 's,
     R: Threads + Wait + time::Clock + Sync + 's,
@@ -203,15 +230,16 @@ where
     let (of_peers, of_engines) = (shared.another(), shared.another());
     let peer_thread = scope.spawn(move || accept_all(of_peers, peers, jobs))?;
     match scope.spawn(move || accept_all(of_engines, engines, engine_jobs)) {
-        Ok(thread) => thread.join(rt),
+        Ok(thread) => {
+            let engines = thread.join(rt);
+            Ok(BothAccepted::of(peer_thread.join(rt), engines))
+        }
         Err(_) => {
             shared.intakes.accept_no_more();
-            peer_thread.join(rt);
-            return Err(Unprinted::Spawn);
+            drop(peer_thread.join(rt));
+            Err(Unprinted::Spawn)
         }
     }
-    peer_thread.join(rt);
-    Ok(())
 }
 
 // What the workers hand in.
@@ -269,31 +297,34 @@ struct ActorThreads<J: Naming> {
     room: Vec<End<J>>,
 }
 
-/// The actors that run, each in a thread.
+/// The actors that run, each in a thread, and where the watcher reads the configuration again.
 #[derive(Drop)]
-pub(crate) struct Running<J: Naming, C: Clock + Drop, K: Keeper<J> + Drop> {
+pub(crate) struct Running<J: Naming, C: Clock + Drop, K: Keeper<J> + Drop, P> {
     pub(crate) loops: Vec<ServingLoop<J, C, K>>,
     pub(crate) keeping: Option<Keeping<J, K>>,
     pub(crate) turning: Turning<J, C, K>,
+    pub(crate) configs: P,
 }
 
 // Starts the threads of all actors. The loops serve the jobs that are sent.
-fn start_actors<'s, S, J, C, K, R>(
+fn start_actors<'s, S, J, C, K, P, R>(
     scope: &'s Scope<'s, S>,
     shared: &Shared<'s, J, R>,
-    actors: Running<J, C, K>,
+    actors: Running<J, C, K, P>,
     jobs: Receiver<Job>,
 ) -> Result<ActorThreads<J>, Unprinted>
 where
     J: Naming + Send + Sync + 's,
     C: Clock + Drop + Send + 's,
     K: SharedKeeper<J> + Drop + Send + 's,
+    P: Configurations + Drop + Send + 's,
     R: Net<Listener = TcpListener, Stream = TcpStream> + Wait + time::Clock + Eprint + Sync + 's,
 {
     let Running {
         loops,
         keeping,
         turning,
+        configs,
     } = actors;
     let alloc = shared.desk.config().allocator();
     let room = Vec::with_capacity(alloc, loops.len().saturating_add(2))?;
@@ -303,7 +334,7 @@ where
         None => None,
     };
     let (keep_running, shutdown) = shutdown_pair(alloc)?;
-    let turns = start_turns(scope, shared, turning, &shutdown)?;
+    let turns = start_turns(scope, shared, turning, configs, &shutdown)?;
     Ok(ActorThreads {
         workers,
         keeping,
@@ -336,20 +367,30 @@ fn join_actors<J: Naming, R: Threads>(
     with_turns(rt, turns, ends?)
 }
 
+/// What a period of a desk comes to.
+#[derive(Drop)]
+pub(crate) struct RunPeriod<J: Naming> {
+    /// What its actors hand in.
+    pub(crate) ends: Vec<End<J>>,
+    /// What takes connections in for the next period; none where the connector was closed.
+    pub(crate) acceptors: Option<Acceptors>,
+}
+
 /// Runs the actors of a desk, each in a thread, until the connector is closed and what was accepted
-/// is answered, and gives what they hand in. Where a thread can't be started those that run are ended
-/// and joined: workers end once all senders of jobs are dropped, the sweeper and the settler once
-/// `KeepRunning` is, and an intake once it is closed.
-pub(crate) fn run<J, C, K, R>(
+/// is answered, or the period of the desk is over, and gives what they hand in. Where a thread can't be
+/// started those that run are ended and joined: workers end once all senders of jobs are dropped, the
+/// sweeper and the settler once `KeepRunning` is, and an intake once it is closed.
+pub(crate) fn run<J, C, K, P, R>(
     shared: Shared<'_, J, R>,
-    actors: Running<J, C, K>,
+    actors: Running<J, C, K, P>,
     acceptors: Acceptors,
     settler_bell: &SettlerBell,
-) -> Result<Vec<End<J>>, Unprinted>
+) -> Result<RunPeriod<J>, Unprinted>
 where
     J: Naming + Send + Sync,
     C: Clock + Drop + Send,
     K: SharedKeeper<J> + Drop + Send,
+    P: Configurations + Drop + Send,
     R: Net<Listener = TcpListener, Stream = TcpStream>
         + Threads
         + Wait
@@ -364,8 +405,8 @@ where
     thread::scope(
         thread::scope_env(),
         shared.rt,
-        move |scope| -> Result<Vec<End<J>>, Unprinted>
-            requires { IsSend J.row × IsSync J.row × IsSend C.row × IsSend K.row × IsSync R.row }
+        move |scope| -> Result<RunPeriod<J>, Unprinted>
+            requires { IsSend J.row × IsSync J.row × IsSend C.row × IsSend K.row × IsSend P.row × IsSync R.row }
         {
             let threads = match start_actors(scope, &shared, actors, jobs) {
                 Ok(threads) => threads,
@@ -379,13 +420,23 @@ where
             let accepted = accept_at_both(scope, &shared, acceptors, sender);
             // No job comes any more.
             shared.bells.ring_out();
-            if let Err(fault) = accepted {
-                drop(threads);
-                settler_bell.ring();
-                return Err(fault);
-            }
-            closing(shared.rt);
-            join_actors(shared.rt, threads, settler_bell)
+            let BothAccepted { acceptors, goes_on } = match accepted {
+                Ok(accepted) => accepted,
+                Err(fault) => {
+                    drop(threads);
+                    settler_bell.ring();
+                    return Err(fault);
+                }
+            };
+            let acceptors = if goes_on {
+                Some(acceptors)
+            } else {
+                drop(acceptors);
+                closing(shared.rt);
+                None
+            };
+            let ends = join_actors(shared.rt, threads, settler_bell)?;
+            Ok(RunPeriod { ends, acceptors })
         },
     )
 }

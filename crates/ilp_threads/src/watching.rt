@@ -4,8 +4,11 @@ use crate::actors::WatcherLinks;
 use ilp_book::Book;
 use ilp_desk::{Desk, Naming};
 use ilp_keeping::SharedKeeper;
-use ilp_notices::Notices;
-use ilp_shared::{Places, Seen, Shutdown};
+use ilp_notices::{Notices, not_reloaded};
+use ilp_shared::{
+    Configurations, Intakes, NextConfig, PeriodDue, Places, Reloading, Seen, Shutdown, monotonic,
+    without_end,
+};
 use ilp_workers::{Clock, Keeper};
 use std::io::Eprint;
 use std::sync::Wait;
@@ -20,20 +23,25 @@ const SLACK_MS: u64 = 1_000;
 
 /// What the watcher looks at.
 #[derive(Drop)]
-pub(crate) struct Watcher<'a, J: Naming, C: Clock + Drop, K: Keeper<J> + Drop> {
+pub(crate) struct Watcher<'a, J: Naming, C: Clock + Drop, K: Keeper<J> + Drop, P> {
     pub(crate) desk: &'a Desk<J>,
     pub(crate) links: WatcherLinks<J, C, K>,
     pub(crate) places: &'a Places,
+    pub(crate) intakes: &'a Intakes,
     pub(crate) notices: &'a Notices,
     pub(crate) seen: &'a Seen,
+    pub(crate) reloading: &'a Reloading,
+    pub(crate) due: Option<PeriodDue>,
+    pub(crate) configs: P,
 }
 
 /// Has the watcher look each second until the connector ends, and once more then.
-pub(crate) fn watch<J, C, K, R>(rt: &R, watcher: Watcher<'_, J, C, K>, shutdown: Shutdown)
+pub(crate) fn watch<J, C, K, P, R>(rt: &R, watcher: Watcher<'_, J, C, K, P>, shutdown: Shutdown)
 where
     J: Naming,
     C: Clock + Drop,
     K: SharedKeeper<J> + Drop,
+    P: Configurations + Drop,
     R: Wait + time::Clock + Eprint,
 {
     let mut watcher = watcher;
@@ -53,7 +61,7 @@ where
 #[derive(Clone, Copy)]
 struct BookState {
     entries: u32,
-    // How many entries there are, and how many more those that end open holds will be.
+    // How many entries there are, and how many are kept for what is open.
     taken: u64,
     // The moment of the last entry, and 0 where there is none, in milliseconds since 1970.
     last: i64,
@@ -68,22 +76,19 @@ impl BookState {
         };
         BookState {
             entries,
-            taken: u64::from(entries).saturating_add(open_holds(book)),
+            taken: book.taken(),
             last,
         }
     }
 }
 
-// How many holds are open, of all peers.
-fn open_holds(book: &Book) -> u64 {
-    let mut count = 0u64;
-    for peer in 0..book.config().peers() {
-        count = count.saturating_add(u64::from(book.open_holds(peer)));
-    }
-    count
-}
-
-impl<J: Naming, C: Clock + Drop, K: SharedKeeper<J> + Drop> Watcher<'_, J, C, K> {
+impl<J, C, K, P> Watcher<'_, J, C, K, P>
+where
+    J: Naming,
+    C: Clock + Drop,
+    K: SharedKeeper<J> + Drop,
+    P: Configurations + Drop,
+{
     fn look<R: Wait + time::Clock + Eprint>(&mut self, rt: &R) {
         // The lock is free again before the clock is asked and anything is told.
         let state = BookState::of(self.desk.lock(rt).book());
@@ -91,6 +96,8 @@ impl<J: Naming, C: Clock + Drop, K: SharedKeeper<J> + Drop> Watcher<'_, J, C, K>
         self.look_at_journal(rt, state);
         self.look_at_work(rt);
         self.look_at_keeper(rt);
+        self.look_at_period(rt);
+        self.look_at_reload(rt);
     }
 
     // No entry was booked after the clock's moment, unless it was set back.
@@ -104,7 +111,7 @@ impl<J: Naming, C: Clock + Drop, K: SharedKeeper<J> + Drop> Watcher<'_, J, C, K>
         }
     }
 
-    // Open settlements keep room back too. Where they have the last of it, what was refused tells.
+    // What was refused for want of room tells it too, where that came and went between two looks.
     fn look_at_journal<R: time::Clock + Eprint>(&self, rt: &R, state: BookState) {
         let limit = self.desk.config().journal();
         if state.taken >= u64::from(limit) || self.seen.was_full() {
@@ -125,6 +132,43 @@ impl<J: Naming, C: Clock + Drop, K: SharedKeeper<J> + Drop> Watcher<'_, J, C, K>
             let in_flight = self.places.in_flight();
             self.notices
                 .work_waits(rt, self.desk.config(), in_flight, seconds);
+        }
+    }
+
+    // Has the period end where that is due. Loops do so as they book; but where the journal is full, or
+    // settlements alone are booked, no packet is.
+    fn look_at_period<R: Wait + time::Clock>(&self, rt: &R) {
+        if let Some(due) = self.due {
+            if due.is_reached(self.desk.lock(rt).book(), monotonic(rt)) {
+                self.end_period(rt);
+            }
+        }
+    }
+
+    fn end_period<R: Wait>(&self, rt: &R) {
+        let asks = self.places.end_period(rt);
+        self.intakes.look_again(asks);
+    }
+
+    // Reads the configuration again where somebody asks for that, and has the period end where it is taken.
+    fn look_at_reload<R: Wait + time::Clock + Eprint>(&self, rt: &R) {
+        let Some(asker) = self.reloading.take_asker(rt) else {
+            return;
+        };
+        match self.configs.read_again(self.desk.config()) {
+            Ok(config) => {
+                self.reloading.put(rt, NextConfig { config, asker });
+                self.end_period(rt);
+            }
+            Err(why) => {
+                let line = match &why {
+                    Some(line) => line.as_str(),
+                    None => "memory is short\n",
+                };
+                not_reloaded(rt, without_end(line));
+                asker.refused(line);
+                self.reloading.free();
+            }
         }
     }
 

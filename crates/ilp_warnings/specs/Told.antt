@@ -24,11 +24,11 @@ use Rattle.ilp_warnings.specs.Meaning.{IsSocketAddress, IsOpen, IsShared, IsShor
 
 -- the fields of the top that are no arrays
 abbrev pub top_fields : List Field
-top_fields = field.Address ∷ field.Run ∷ field.Listen ∷ field.EngineListen ∷ field.Path ∷ field.Workers ∷ field.Journal ∷ field.WindowMs ∷ field.MaxHoldMs ∷ field.SweepMs ∷ field.SettleMs ∷ field.Sync ∷ field.InFlight ∷ []
+top_fields = field.Address ∷ field.Run ∷ field.Listen ∷ field.EngineListen ∷ field.Path ∷ field.Workers ∷ field.Journal ∷ field.WindowMs ∷ field.MaxHoldMs ∷ field.SweepMs ∷ field.SettleMs ∷ field.Sync ∷ field.InFlight ∷ field.NewPeriodAt ∷ []
 
 -- the fields and arrays that are known in a table
 abbrev pub known_in : ConfigTable → List Field
-known_in Top = field.Address ∷ field.Run ∷ field.Listen ∷ field.EngineListen ∷ field.Path ∷ field.Workers ∷ field.Journal ∷ field.WindowMs ∷ field.MaxHoldMs ∷ field.SweepMs ∷ field.SettleMs ∷ field.Sync ∷ field.InFlight ∷ field.Asset ∷ field.Price ∷ field.Peer ∷ field.Route ∷ []
+known_in Top = field.Address ∷ field.Run ∷ field.Listen ∷ field.EngineListen ∷ field.Path ∷ field.Workers ∷ field.Journal ∷ field.WindowMs ∷ field.MaxHoldMs ∷ field.SweepMs ∷ field.SettleMs ∷ field.Sync ∷ field.InFlight ∷ field.NewPeriodAt ∷ field.Asset ∷ field.Price ∷ field.Peer ∷ field.Route ∷ []
 known_in (Asset n) = field.Code ∷ field.Scale ∷ []
 known_in (Price n) = field.From ∷ field.To ∷ field.P ∷ field.Q ∷ []
 known_in (Peer n) = field.Name ∷ field.Asset ∷ field.Token ∷ field.OutToken ∷ field.Host ∷ field.OutPath ∷ field.Least ∷ field.FeePpm ∷ field.MaxPacket ∷ field.Engine ∷ field.Threshold ∷ field.SettleTo ∷ field.SettleMax ∷ []

@@ -25,6 +25,7 @@ pub(crate) fn known_in(within: ConfigTable) -> &'static [Field]
             Field::SettleMs,
             Field::Sync,
             Field::InFlight,
+            Field::NewPeriodAt,
             Field::Asset,
             Field::Price,
             Field::Peer,
@@ -69,6 +70,7 @@ pub(crate) fn top_fields() -> &'static [Field]
         Field::SettleMs,
         Field::Sync,
         Field::InFlight,
+        Field::NewPeriodAt,
     ]
 }
 

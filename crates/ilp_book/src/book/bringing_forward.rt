@@ -1,8 +1,11 @@
 //! The closing of a period's books, and the book of the next period.
-ghost use Rattle.std.specs.Prelude.{◌≡◌, IfOk, IfErr, OnOk};
+ghost use Rattle.std.specs.Prelude.{◌≡◌, IfOk, IfErr, OnOk, OnErr, IsSome};
+ghost use Rattle.ilp_journal.specs.Journal.{open_hold_at};
+ghost use Rattle.ilp_book.specs.Reopened.{reopened};
 ghost use Rattle.ilp_next_period.specs.NextPeriod.{MayFollow, HasRoomForHead, IsWhyNotClosed, next_book};
 
 use crate::book::Book;
+use crate::fault::HoldOpen;
 use ilp_accounts::Config;
 use ilp_next_period::{EndingPeriod, ForwardFault};
 use std::alloc::Allocator;
@@ -34,5 +37,23 @@ impl<A: Allocator + Clone> Book<A> {
         };
         let beginning = ending.bring_forward(alloc, config, now)?;
         Ok(Book::of(beginning))
+    }
+}
+
+impl<A: Allocator> Book<A> {
+    /// Opens the book anew, with all that it has, for a desk that goes on from it. It is refused where a hold
+    /// is open, and stays as it is then.
+    pub fn reopen(&mut self) -> Result<(), HoldOpen>
+        ensures opened { OnOk result (self.new ≡ reopened self.old) }
+        ensures stays { OnErr result (self.new ≡ self.old) }
+        ensures open { IfErr result (λ why. IsSome (open_hold_at self.old.entries why.number)) }
+    {
+        if let Some((_, number)) = self.tables.holds.earliest() {
+            return Err(HoldOpen { number });
+        }
+        let base = self.journal.len();
+        self.tables.tallies.end_totals(base);
+        self.base = base;
+        Ok(())
     }
 }

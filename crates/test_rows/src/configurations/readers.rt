@@ -43,6 +43,7 @@ fn print_numbers(rt: &impl Print, config: &Config) -> io::Result<()> {
     println!(rt; "settle_ms {}", config.settle_ms())?;
     println!(rt; "sync {:?}", config.sync())?;
     println!(rt; "in_flight {}", config.in_flight())?;
+    println!(rt; "new_period_at {:?}", config.new_period_at())?;
     println!(rt; "peers {}", config.peers())?;
     println!(rt; "routes {}", config.routes())
 }

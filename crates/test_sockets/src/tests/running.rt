@@ -34,7 +34,7 @@ use std::time::Clock;
 use sweeping::sweep;
 
 // Serves by this clock until it is asked to close. Gives what was printed.
-fn printed<R, C>(rt: &R, config: &Config, notices: &Notices, clock: C) -> io::Result<Vec<u8>>
+fn printed<R, C>(rt: &R, config: &Config, clock: C) -> io::Result<Vec<u8>>
 where
     R: Net<Listener = TcpListener, Stream = TcpStream>
         + Threads
@@ -47,6 +47,7 @@ where
         + Sync,
     C: ilp_link_traits::Clock + Copy + Drop + Send,
 {
+    let notices = Notices::new(config.allocator(), config)?;
     let links = TcpLinks::new(clock, notices);
     let mut writer = Vec::new(config.allocator());
     let book = Book::new(config.allocator(), config)?;
@@ -125,7 +126,6 @@ fn settle_in_parts_at<R: Net<Stream = TcpStream> + Clock>(
 #[derive(Drop)]
 struct Stage {
     config: Config,
-    notices: Notices,
     bob: TcpListener,
     engine: TcpListener,
 }
@@ -144,10 +144,8 @@ fn stage_of(alloc: Global, text: &str, bob: TcpListener, engine: TcpListener) ->
     let Ok(config) = Config::read(alloc, text.as_bytes()) else {
         return Err(io::Error::from(ErrorKind::InvalidData));
     };
-    let notices = Notices::new(alloc, &config)?;
     Ok(Stage {
         config,
-        notices,
         bob,
         engine,
     })
@@ -158,13 +156,12 @@ fn a_conversation(rt: HostRuntime) -> Result<(), Fail> {
     let alloc = rt.alloc();
     let Stage {
         config,
-        notices,
         bob,
         engine,
     } = built_in(&rt, alloc)?;
     let (written, said) = join(
         &rt,
-        || printed(&rt, &config, &notices, Still),
+        || printed(&rt, &config, Still),
         || converse_with(&rt, alloc, &bob, &engine),
     );
     assert!(rt; is_right(written, said, PRINTED));
@@ -244,13 +241,12 @@ fn a_silent_peer(rt: HostRuntime) -> Result<(), Fail> {
     let (peers, engines) = (free_place(&rt, alloc)?, free_place(&rt, alloc)?);
     let Stage {
         config,
-        notices,
         bob,
         engine: _engine,
     } = beside_bob(&rt, alloc, peers.as_str(), engines.as_str(), 1_000)?;
     let (written, said) = join(
         &rt,
-        || printed(&rt, &config, &notices, Still),
+        || printed(&rt, &config, Still),
         || stay_silent_at(&rt, alloc, &peers, &engines, &bob),
     );
     assert!(rt; is_right(written, said, PRINTED_OF_SILENCE));
@@ -263,14 +259,13 @@ fn a_hold_that_is_swept(rt: HostRuntime) -> Result<(), Fail> {
     let (peers, engines) = (free_place(&rt, alloc)?, free_place(&rt, alloc)?);
     let Stage {
         config,
-        notices,
         bob,
         engine: _engine,
     } = beside_bob(&rt, alloc, peers.as_str(), engines.as_str(), 3_600_000)?;
     let moment = AtomicI64::new(START);
     let (written, said) = join(
         &rt,
-        || printed(&rt, &config, &notices, Settable(&moment)),
+        || printed(&rt, &config, Settable(&moment)),
         || sweep_at(&rt, alloc, &peers, &engines, &bob, &moment),
     );
     assert!(rt; is_right(written, said, SWEPT));
@@ -283,13 +278,12 @@ fn two_open_settlements(rt: HostRuntime) -> Result<(), Fail> {
     let (peers, engines) = (free_place(&rt, alloc)?, free_place(&rt, alloc)?);
     let Stage {
         config,
-        notices,
         bob: _bob,
         engine,
     } = in_parts(&rt, alloc, peers.as_str(), engines.as_str())?;
     let (written, said) = join(
         &rt,
-        || printed(&rt, &config, &notices, Still),
+        || printed(&rt, &config, Still),
         || settle_in_parts_at(&rt, alloc, &engines, &engine),
     );
     assert!(rt; is_right(written, said, PRINTED_OF_PARTS));

@@ -5,4 +5,4 @@ use Rattle.ilp_running.proofs.serving.serve_logged.Goals as goal
 
 pub returns-clause-closed : goal.returns-clause-closed
 returns-clause-closed g c =
-    subst (λ (b : PlainBook). IsClosed g.J.Naming.desk b) (sym c.close.ensures.book) c.in_ok-book.ensures
+    subst (λ (b : PlainBook). IsClosed g.J.Naming.desk b) (sym c.close-run.ensures.book) c.in_ok-book.ensures

@@ -13,8 +13,10 @@ scoped-requires g c =
         search sendable depth 20,
         search sendable depth 20,
         search sendable depth 20,
+        search sendable depth 20,
       ),
       (
+        search sendable depth 20,
         search sendable depth 20,
         search sendable depth 20,
         search sendable depth 20,

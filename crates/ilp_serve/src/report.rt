@@ -3,11 +3,12 @@ ghost use Rattle.std.specs.Prelude.{◌≡◌, [], Some, IfOk, OnOk};
 ghost use Rattle.std.specs.Io.KnownBytes.{Appends};
 ghost use Rattle.ilp_report.specs.Report.{report_text};
 
-use crate::refused::RunFault;
+use crate::ending::run_fault;
 use ilp_book::Book;
 use ilp_io::{Recording, WriteFault, put_all};
 use ilp_notices::report_follows;
 use ilp_running::write_report;
+use ilp_starting::RunFault;
 use std::alloc::{AllocError, Global};
 use std::io::{Eprint, Print};
 use std::time::Clock;
@@ -34,8 +35,10 @@ where
     ensures { OnOk result (Appends (Some report.old.octets.items) (Some report.new.octets.items)
         (report_text book.now)) }
 {
-    write_report(rt, book, report)?;
-    deliver_report(rt, &report.octets)
+    match write_report(rt, book, report) {
+        Ok(()) => deliver_report(rt, &report.octets),
+        Err(fault) => Err(run_fault(fault)),
+    }
 }
 
 // Prints a report. Where standard output fails it goes to standard error, so that it is not lost.

@@ -1,4 +1,4 @@
-use Rattle.ilp_running.proofs.serving.run_to_close.Given as goal
+use Rattle.ilp_running.proofs.serving.run_period.Given as goal
 use Rattle.ilp_running.specs.Logging.{form_of}
 use Rattle.ilp_running.specs.Serving.{desk_of}
 

@@ -1,0 +1,17 @@
+-- Which book comes behind a period of a connector.
+use Rattle.std.specs.Prelude.{◌≡◌, ◌⊎◌, pos, Option, unwrap_or}
+use Rattle.ilp_accounts.specs.Configuration.{Configuration}
+use Rattle.ilp_book.specs.Book.{PlainBook}
+use Rattle.ilp_book.specs.Reopened.{reopened}
+use Rattle.ilp_next_period.specs.NextPeriod.{MayFollow, next_book}
+
+-- The next one is by the configuration that was asked for, or else by the same. It begins with what the books that ended bring forward
+-- to that, at the moment of their last entry, where it may follow them.
+pub record IsNext (ended : PlainBook) (asked : Option Configuration) (begun : PlainBook) : Type 0 where
+  pub config : begun.config ≡ unwrap_or asked ended.config
+  pub may : MayFollow ended begun.config
+  pub book : begun ≡ next_book ended begun.config (pos 0)
+
+-- It begins the next period; or the same one goes on, with all that it has.
+abbrev pub Follows : PlainBook → Option Configuration → PlainBook → Type 0
+Follows ended asked begun = IsNext ended asked begun ⊎ (begun ≡ reopened ended)

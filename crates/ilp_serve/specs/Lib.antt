@@ -1,0 +1,4 @@
+pub mod Following
+pub mod NextBooks
+pub mod Periods
+pub mod Restart

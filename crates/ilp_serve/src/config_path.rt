@@ -1,0 +1,49 @@
+//! Where the configuration of a connector that runs is read again.
+
+use crate::restart::needs_restart;
+use crate::telling::line_of_refusal;
+use ilp_accounts::Config;
+use ilp_running::Configurations;
+use ilp_starting::{Refused, Telling, config_octets, config_of, tell_warnings};
+use std::rt::Runtime;
+
+/// A runtime that reads configurations. It is asked for beside what else a runtime has: the kit's prover
+/// carries to another thread what is asked for so.
+pub trait ReadsConfigs {
+    /// The configuration that stands at this path, with a notice of each thing in it that is to be looked
+    /// at. Refusals are those of `ilp_starting::configured`.
+    fn read_config(&self, path: &str) -> Result<Config, Refused>;
+}
+
+impl<R: Runtime + AllocGlobal> ReadsConfigs for R {
+    fn read_config(&self, path: &str) -> Result<Config, Refused> {
+        let octets = config_octets(self, path)?;
+        let config = config_of(self.alloc(), &octets)?;
+        tell_warnings(self, path, &octets, Telling::Notice);
+        Ok(config)
+    }
+}
+
+/// The path of the configuration.
+#[derive(Clone, Copy)]
+pub(crate) struct ConfigPath<'f, R> {
+    pub(crate) rt: R,
+    pub(crate) path: &'f str,
+}
+
+impl<R: ReadsConfigs> Configurations for ConfigPath<'_, R> {
+    fn read_again(&self, in_force: &Config) -> Result<Config, Option<String>> {
+        let alloc = in_force.allocator();
+        let next = match self.rt.read_config(self.path) {
+            Ok(next) => next,
+            Err(refused) => return Err(line_of_refusal(alloc, &refused)),
+        };
+        match needs_restart(in_force, &next) {
+            None => Ok(next),
+            Some(field) => {
+                let line = format!(in alloc; "`{field}` needs a restart\n");
+                Err(line.ok())
+            }
+        }
+    }
+}

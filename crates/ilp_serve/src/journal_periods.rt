@@ -1,0 +1,162 @@
+//! Periods of a connector whose books are kept in a journal's file and beside it.
+ghost use Rattle.std.specs.Prelude.{◌≡◌, ◌≤◌, ◌⊎◌, length, IfOk, IfErr};
+ghost use Rattle.ilp_book.specs.Reopened.{reopened};
+ghost use Rattle.ilp_running.specs.Serving.{IsOfNoDesk};
+ghost use Rattle.ilp_serve.specs.Following.{Follows};
+
+use crate::followed::{Change, Followed, FollowedBy};
+use crate::next_books::{NextBooks, next_books, opened_anew};
+use crate::telling::line_of_refusal;
+use ilp_accounts::Config;
+use ilp_book::Book;
+use ilp_journal_file::{JournalFile, LogDevice, PlacesFiles};
+use ilp_log::BegunLog;
+use ilp_new_period::keep_behind;
+use ilp_notices::no_next_period;
+use ilp_running::{BegunPeriod, ServeFault};
+use ilp_starting::{BookFile, Refused, Saved};
+use std::fs::File;
+use std::rt::{Files, Runtime};
+use std::sync::Wait;
+use std::thread::sleep;
+use std::time::Duration;
+
+// How long it rests until what can't be written is tried again, in seconds.
+const REST: u64 = 5;
+
+/// Periods whose books are kept: a journal's file has those of the one that goes on, with a log behind
+/// them, and a file for each that has ended lies beside it.
+#[derive(Clone, Copy)]
+pub(crate) struct JournalPeriods<'r, 'f, R> {
+    pub(crate) rt: &'r R,
+    pub(crate) file: &'f JournalFile<File>,
+    /// The path of the file, as lines tell it.
+    pub(crate) path: &'f str,
+}
+
+impl<'r, R> JournalPeriods<'r, '_, R>
+where
+    R: Runtime + AllocGlobal + Wait + Files<File = File> + PlacesFiles<File = File> + Copy,
+{
+    /// Keeps the books of a period, and gives what comes behind them: by another configuration where one is
+    /// given, else by the same.
+    pub(crate) fn follow(
+        &self,
+        book: Book,
+        next: Option<Config>,
+    ) -> Result<FollowedBy<'r, R>, ServeFault>
+        ensures follows { IfOk result (λ f. Follows book next f.period.book) }
+        ensures refused { IfErr result IsOfNoDesk }
+    {
+        match next_books(self.rt.alloc(), book, next)? {
+            NextBooks::Next { ended, next, told } => self.begin(ended, next, told),
+            NextBooks::Same {
+                book,
+                refused,
+                told,
+            } => self.go_on(book, &refused, told),
+        }
+    }
+
+    // Keeps the books of a period, and begins the next one with these. Where they can't be kept those that
+    // ended go on.
+    fn begin(
+        &self,
+        ended: Book,
+        next: Book,
+        told: Option<String>,
+    ) -> Result<FollowedBy<'r, R>, ServeFault>
+        requires opening { length next.entries ≡ next.base }
+        ensures book { IfOk result (λ f. (f.period.book ≡ next) ⊎ (f.period.book ≡ reopened ended)) }
+        ensures refused { IfErr result IsOfNoDesk }
+    {
+        let rt = self.rt;
+        match keep_behind(rt, self.file, self.path, &ended, &next) {
+            Ok(()) => {
+                drop(ended);
+                self.logged(next, Change::NewPeriod, told)
+            }
+            Err(refused) => {
+                drop(next);
+                self.forget_kept(&ended);
+                let told = line_of_refusal(rt.alloc(), &refused);
+                let book = opened_anew(ended, &refused)?;
+                self.go_on(book, &refused, told)
+            }
+        }
+    }
+
+    // This book's period goes on, so a text of it that was kept beside goes. Where it can't go, a line says
+    // so, and the period's end is refused by it until it does.
+    fn forget_kept(&self, book: &Book) {
+        let rt = self.rt;
+        let own = Saved {
+            book,
+            config: book.config(),
+        };
+        let _ = self.file.forget_period(rt, rt.alloc(), book.period(), &own);
+    }
+
+    // Goes on with a book behind which no period can begin, for this reason.
+    fn go_on(
+        &self,
+        book: Book,
+        refused: &Refused,
+        told: Option<String>,
+    ) -> Result<FollowedBy<'r, R>, ServeFault>
+        requires opening { length book.entries ≡ book.base }
+        ensures book { IfOk result (λ f. f.period.book ≡ book) }
+        ensures refused { IfErr result IsOfNoDesk }
+    {
+        let why = match &refused.why {
+            Some(why) => why.as_str(),
+            None => "as the line above says",
+        };
+        no_next_period(self.rt, self.path, &refused.refusal, why);
+        self.logged(book, Change::None, told)
+    }
+
+    // A period of this book, whose text the file has then, and a log that goes on from it. Both sides wait
+    // until they can be written: what was told of the book may stand nowhere else, so it isn't left.
+    fn logged(
+        &self,
+        book: Book,
+        change: Change,
+        told: Option<String>,
+    ) -> Result<FollowedBy<'r, R>, ServeFault>
+        requires opening { length book.entries ≡ book.base }
+        ensures book { IfOk result (λ f. f.period.book ≡ book) }
+        ensures refused { IfErr result IsOfNoDesk }
+    {
+        let log = self.log_of(&book);
+        let period = BegunPeriod {
+            book,
+            log: Some(log),
+        };
+        Ok(Followed {
+            period,
+            change,
+            told,
+        })
+    }
+
+    // A log that goes on from this book. What can't be written is told, and tried again until it can.
+    fn log_of(&self, book: &Book) -> BegunLog<LogDevice<'r, R, File>>
+        ensures { result.start.base ≤ length book.now.entries }
+    {
+        let rt = self.rt;
+        let file = BookFile {
+            rt,
+            config: book.config(),
+            file: self.file,
+            path: self.path,
+        };
+        for _ in rt.forever() {
+            match file.go_on(book) {
+                Ok(log) => return log,
+                Err(_) => sleep(rt, Duration::from_secs(REST)),
+            }
+        }
+        unreachable!()
+    }
+}

@@ -1,0 +1,161 @@
+//! A connector from its first period on.
+ghost use Rattle.std.specs.Prelude.{Some, Option, IfOk, IfErr};
+ghost use Rattle.ilp_accounts.specs.Configuration.{Configuration};
+ghost use Rattle.ilp_running.specs.Serving.{desk_of_book, IsClosed, IsOfNoDesk, IsWhyUnclosed};
+ghost use Rattle.ilp_serve.specs.Following.{Follows};
+ghost use Rattle.ilp_serve.specs.Periods.{ComesTo, EndsBy};
+
+use crate::config_path::{ConfigPath, ReadsConfigs};
+use crate::followed::{Change, Followed, FollowedBy};
+use crate::journal_periods::JournalPeriods;
+use crate::memory_periods::follow_unkept;
+use crate::telling::tell_asker;
+use ilp_accounts::Config;
+use ilp_book::Book;
+use ilp_journal_file::{LogDevice, PlacesFiles};
+use ilp_links::{SystemClock, TcpLinks};
+use ilp_notices::Notices;
+use ilp_running::{
+    Asker, BegunPeriod, ClosedRun, NextConfig, RunPeriod, ServeFault, Sides, Unprinted, open_sides,
+    run_begun,
+};
+use ilp_starting::Host;
+use std::alloc::AllocError;
+use std::fs::File;
+use std::net::{Net, TcpListener, TcpStream};
+use std::rt::{Files, Runtime};
+
+/// The periods of a connector: on what it runs, and where its books are kept, if they are.
+#[derive(Clone, Copy)]
+pub(crate) struct Periods<'r, 'f, R> {
+    pub(crate) rt: &'r R,
+    /// Where the configuration is read again.
+    pub(crate) config_path: &'r str,
+    pub(crate) kept: Option<JournalPeriods<'r, 'f, R>>,
+}
+
+impl<'r, R> Periods<'r, '_, R>
+where
+    R: Host
+        + Files<File = File>
+        + PlacesFiles<File = File>
+        + ReadsConfigs
+        + Net<Listener = TcpListener, Stream = TcpStream>,
+{
+    /// Runs a connector from its first period on, and from each to the next, until it is asked to close. The
+    /// book of the last one is given back: each was closed as `ilp_running::run_begun` closes one, and each
+    /// next one began with a book that follows the one before. Where books are kept a period ends by itself
+    /// too.
+    ///
+    /// A refusal gives nothing back. It is of the last period, or `NextRefused` where none could be begun.
+    pub(crate) fn run(&self, first: BegunPeriod<LogDevice<'r, R, File>>) -> Result<Book, ServeFault>
+        ensures closed { IfOk result (ComesTo first.entry.book) }
+        ensures refused { IfErr result (EndsBy first.entry.book) }
+    {
+        let rt = self.rt;
+        let mut sides = open_sides(rt, first.book.config(), self.kept.is_some())?;
+        let mut begun = first;
+        for _ in rt.forever() {
+            let RunPeriod { run, sides: left } = self.run_one(begun, sides)?;
+            let Some(left) = left else {
+                return Ok(run.book);
+            };
+            sides = left;
+            begun = self.go_on(run, &mut sides)?;
+        }
+        unreachable!()
+    }
+
+    // Runs it for a period.
+    fn run_one(
+        &self,
+        begun: BegunPeriod<LogDevice<'r, R, File>>,
+        sides: Sides,
+    ) -> Result<RunPeriod<LogDevice<'r, R, File>>, ServeFault>
+        ensures closed { IfOk result (λ period. IsClosed (desk_of_book begun.entry.book) period.run.book) }
+        ensures refused { IfErr result (IsWhyUnclosed (desk_of_book begun.entry.book)) }
+    {
+        let rt = self.rt;
+        let Ok(links) = links_of(rt, begun.book.config()) else {
+            return Err(ServeFault::Unprinted(Unprinted::Memory));
+        };
+        let configs = ConfigPath {
+            rt: *rt,
+            path: self.config_path,
+        };
+        run_begun(rt, begun, &links, configs, sides)
+    }
+
+    // Keeps the books of a period that has ended, and begins the next, for which connections wait at the
+    // sides.
+    fn go_on(
+        &self,
+        ended: ClosedRun<LogDevice<'r, R, File>>,
+        sides: &mut Sides,
+    ) -> Result<BegunPeriod<LogDevice<'r, R, File>>, ServeFault>
+        ensures follows { IfOk result (λ period. (asked : Option Configuration)
+            × Follows ended.entry.book asked period.book) }
+        ensures refused { IfErr result IsOfNoDesk }
+    {
+        let rt = self.rt;
+        if let Some(NextConfig { config, asker }) = sides.take_next(rt) {
+            return self.go_on_by(ended, config, asker, sides);
+        }
+        let Followed { period, change, .. } = self.follow(ended, None)?;
+        if change == Change::None {
+            sides.go_on_for_now(rt);
+        }
+        Ok(period)
+    }
+
+    // The same by another configuration. Who asked for it is told what became of that.
+    fn go_on_by(
+        &self,
+        ended: ClosedRun<LogDevice<'r, R, File>>,
+        config: Config,
+        asker: Asker,
+        sides: &mut Sides,
+    ) -> Result<BegunPeriod<LogDevice<'r, R, File>>, ServeFault>
+        ensures follows { IfOk result (λ period. Follows ended.entry.book (Some config) period.book) }
+        ensures refused { IfErr result IsOfNoDesk }
+    {
+        let Followed {
+            period,
+            change,
+            told,
+        } = self.follow(ended, Some(config))?;
+        let Ok(()) = sides.take_over(period.book.config()) else {
+            return Err(ServeFault::Unprinted(Unprinted::Memory));
+        };
+        tell_asker(self.rt, asker, change, &told);
+        sides.free();
+        Ok(period)
+    }
+
+    // What comes behind a period: by another configuration where one is given, else by the same.
+    fn follow(
+        &self,
+        ended: ClosedRun<LogDevice<'r, R, File>>,
+        next: Option<Config>,
+    ) -> Result<FollowedBy<'r, R>, ServeFault>
+        ensures follows { IfOk result (λ f. Follows ended.entry.book next f.period.book) }
+        ensures refused { IfErr result IsOfNoDesk }
+    {
+        let ClosedRun { book, log } = ended;
+        // Its file is closed before another log is begun there.
+        drop(log);
+        let Some(kept) = &self.kept else {
+            return follow_unkept(self.rt.alloc(), book, next);
+        };
+        kept.follow(book, next)
+    }
+}
+
+// The links of a connector of this configuration.
+fn links_of<R>(rt: &R, config: &Config) -> Result<TcpLinks<SystemClock<R>>, AllocError>
+where
+    R: Runtime + AllocGlobal + Copy,
+{
+    let notices = Notices::new(rt.alloc(), config)?;
+    Ok(TcpLinks::new(SystemClock::new(*rt), notices))
+}

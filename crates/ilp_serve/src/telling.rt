@@ -1,0 +1,48 @@
+//! What is told whoever asks that the configuration be read again.
+
+use crate::followed::Change;
+use ilp_accounts::Config;
+use ilp_notices::{not_reloaded, reloaded};
+use ilp_running::{Asker, without_end};
+use ilp_starting::Refused;
+use std::alloc::Global;
+use std::io::Eprint;
+use std::time::Clock;
+
+/// Tells who asked for another configuration what became of that.
+pub(crate) fn tell_asker<R: Clock + Eprint>(
+    rt: &R,
+    asker: Asker,
+    change: Change,
+    told: &Option<String>,
+) {
+    let line = match told {
+        Some(line) => line.as_str(),
+        None => "",
+    };
+    match change {
+        Change::NewPeriod => {
+            reloaded(rt, without_end(line));
+            asker.taken(line);
+        }
+        Change::None => {
+            not_reloaded(rt, without_end(line));
+            asker.refused(line);
+        }
+    }
+}
+
+/// That the configuration is in force: the line of `check`. None where memory for it is short.
+pub(crate) fn line_of_config(alloc: Global, config: &Config) -> Option<String> {
+    let line = ilp_described::line_of(alloc, config).ok()?;
+    format!(in alloc; "{line}\n").ok()
+}
+
+/// Why it is refused, and behind that what was told of it, in one line. None where memory for it is short.
+pub(crate) fn line_of_refusal(alloc: Global, refused: &Refused) -> Option<String> {
+    let line = match &refused.why {
+        Some(why) => format!(in alloc; "refused {refused}: {why}\n"),
+        None => format!(in alloc; "refused {refused}\n"),
+    };
+    line.ok()
+}
