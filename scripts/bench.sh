@@ -18,10 +18,12 @@
 #     scripts/bench.sh report
 #     scripts/bench.sh serve
 #     scripts/bench.sh log
+#     scripts/bench.sh period
 #
-# The last two are another thing: the whole connector, proved and built by scripts/build.sh (or the program
-# that CONNECTOR names), under load beside nginx and plain Rust, and `log` beside PostgreSQL and SQLite too.
-# They need wrk and nginx; bench/serve/serve.py and scripts/benching/log.py say what they print and take.
+# The last three are another thing: the whole connector, proved and built by scripts/build.sh (or the program
+# that CONNECTOR names), under load beside nginx and plain Rust, and `log` beside PostgreSQL and SQLite too; and
+# how long it pauses between two periods, and what it takes over many. They need wrk, and the first two nginx;
+# bench/serve/serve.py, scripts/benching/log.py and scripts/benching/period.py say what they print and take.
 #
 # A turn of `carried` is an entry that is saved or carried over. `periods` has no baseline: it prints how many
 # entries and keys the books have that are closed, and the nanoseconds that bringing them forward takes.
@@ -43,18 +45,19 @@ bench="$top/bench/$name"
 work=$(mktemp -d)
 trap 'rm -rf "$work"' EXIT
 
-if [ "$name" = serve ] || [ "$name" = log ]; then
+if [ "$name" = serve ] || [ "$name" = log ] || [ "$name" = period ]; then
     case $name in
         serve) baseline=$top/bench/baselines/serve.rs; script=$bench/serve.py ;;
         log) baseline=$top/scripts/benching/appending.rs; script=$top/scripts/benching/log.py ;;
+        period) baseline=; script=$top/scripts/benching/period.py ;;
     esac
-    rustc --edition 2024 -O "$baseline" -o "$work/baseline"
+    [ -z "$baseline" ] || rustc --edition 2024 -O "$baseline" -o "$work/baseline"
     rustc --edition 2024 -O "$top/bench/baselines/peer.rs" -o "$work/peer"
     if [ -z "${CONNECTOR:-}" ]; then
         "$top/scripts/build.sh" "$work/bin" >&2
         CONNECTOR="$work/bin/connector"
     fi
-    python3 "$script" "$CONNECTOR" "$work/baseline" "$work/peer"
+    python3 "$script" "$CONNECTOR" ${baseline:+"$work/baseline"} "$work/peer"
     exit
 fi
 

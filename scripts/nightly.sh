@@ -51,13 +51,16 @@ run watching python3 scripts/check_watching.py
 run demonstration "python3 curl" scripts/demo.sh
 run cases python3 scripts/check.py "$program"
 run kills python3 scripts/kills.py "$program"
+run kill_periods python3 scripts/kill_periods.py "$program"
 run long_run python3 scripts/long_run.py "$program"
+run hub_hour python3 scripts/hub_hour.py "$program"
 run denied_growths "rt cc python3" denied_growths
 run wrapper "python3 curl unshare" scripts/try_wrapper.py
 run fronts "python3 nginx curl openssl" scripts/try_front.sh
 run wrong_bodies rt scripts/gate/wrong_bodies.sh
 run load "wrk nginx rustc python3" scripts/bench.sh serve
 run log "wrk rustc python3" scripts/bench.sh log
+run period "wrk rustc python3" env PAUSES=3 scripts/bench.sh period
 run benchmarks "rt rustc python3 valgrind" benchmarks
 echo "what each said: $said"
 exit $failed

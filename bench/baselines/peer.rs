@@ -3,12 +3,14 @@
 //!     peer PORT DELAY_MS THREADS
 //!
 //! So many threads accept connections and read their requests. Behind each of them another sends the
-//! answers, which are due in the order in which the requests came, since all wait equally long.
+//! answers, which are due in the order in which the requests came, since all wait equally long. A GET is
+//! answered at once by how many packets were answered so far.
 
 use std::io::{Read, Write};
 use std::net::{TcpListener, TcpStream};
 use std::os::fd::AsRawFd;
 use std::sync::Arc;
+use std::sync::atomic::{AtomicU64, Ordering};
 use std::sync::mpsc::{Receiver, Sender, channel};
 use std::thread;
 use std::time::{Duration, Instant};
@@ -22,6 +24,9 @@ const PACKET: usize = 69;
 
 // How many connections may wait to be accepted. Where std listens they are 128.
 const BACKLOG: i32 = 4096;
+
+// How many packets were answered.
+static ANSWERED: AtomicU64 = AtomicU64::new(0);
 
 unsafe extern "C" {
     fn listen(socket: i32, backlog: i32) -> i32;
@@ -37,12 +42,27 @@ fn read_request(stream: &mut TcpStream) -> std::io::Result<bool> {
     stream.set_nodelay(true)?;
     let (mut room, mut filled) = ([0; 4096], 0);
     while !is_whole(&room[..filled]) {
+        if room[..filled].starts_with(b"GET ") {
+            tell_count(stream)?;
+            return Ok(false);
+        }
         match stream.read(&mut room[filled..])? {
             0 => return Ok(false),
             count => filled += count,
         }
     }
     Ok(true)
+}
+
+fn tell_count(stream: &mut TcpStream) -> std::io::Result<()> {
+    let count = ANSWERED.load(Ordering::SeqCst).to_string();
+    write!(stream, "HTTP/1.1 200 OK\r\nContent-Length: {}\r\nConnection: close\r\n\r\n{count}", count.len())
+}
+
+fn answer(stream: &mut TcpStream) {
+    if stream.write_all(RESPONSE).is_ok() {
+        ANSWERED.fetch_add(1, Ordering::SeqCst);
+    }
 }
 
 fn is_whole(octets: &[u8]) -> bool {
@@ -59,7 +79,7 @@ fn read_all(listener: &TcpListener, delay: Duration, waiting: &Sender<Waiting>) 
             continue;
         }
         if delay.is_zero() {
-            let _ = stream.write_all(RESPONSE);
+            answer(&mut stream);
         } else {
             let due = Instant::now() + delay;
             waiting.send(Waiting { stream, due }).expect("a thread that answers");
@@ -70,7 +90,7 @@ fn read_all(listener: &TcpListener, delay: Duration, waiting: &Sender<Waiting>) 
 fn answer_all(waiting: &Receiver<Waiting>) {
     for Waiting { mut stream, due } in waiting {
         thread::sleep(due.saturating_duration_since(Instant::now()));
-        let _ = stream.write_all(RESPONSE);
+        answer(&mut stream);
     }
 }
 

@@ -56,6 +56,8 @@ OF_ANOTHER_TEXT = (rf"journal {PATH}: its log goes on from another text, and the
 # What is told of a period's file that has another text, and of a peer that a next period leaves out.
 ANOTHER_PERIOD = (rf"{PATH} has another text than the period that is to be kept there, and is never written again: "
                   "move it away, if it is of another journal")
+NO_PERIODS = "`new_period_at` is passed over: no journal is kept, so no period ends by itself"
+NO_NEXT = (rf"journal {PATH}: no next period can begin: refused .+: this one goes on, until the journal is full")
 KEYS_LEFT_OUT = (rf"{NAME} is left out with \d+ keys of its settlements: where a peer of this name is added again, what "
                  "its engine tells again is credited again")
 
@@ -86,7 +88,8 @@ FORMS = [re.compile(form) for form in (
     rf"{QUANTITY}: see which one its engine means{MORE}",
     rf"warn wrong tokens: (1 request|\d+ requests) got 401(, \d+ from {PLACE})?",
     rf"info rejects to {NAME}: .+",
-    rf"warn work waits for its turn, for {SECONDS} now: of \d+ in flight {WAIT}(, {WAIT})*{MORE}",
+    rf"warn work waits for its turn, for {SECONDS} now: of \d+ in flight "
+    rf"({WAIT}(, {WAIT})*|none waits for a peer or an engine){MORE}",
     rf"info no work waits for its turn any more, after {SECONDS}",
     r"warn journal: \d+ of \d+ entries, (8\d|9[0-4]) percent",
     r"error journal: \d+ of \d+ entries, (9[5-9]|100) percent",
@@ -117,6 +120,10 @@ FORMS = [re.compile(form) for form in (
     rf"info journal {PATH}: the period \d+ begins with its \d+ entries",
     rf"warn {KEYS_LEFT_OUT}",
     rf"error {ANOTHER_PERIOD}",
+    rf"error {NO_NEXT}",
+    rf"warn {re.escape(NO_PERIODS)}",
+    rf"warn journal {PATH}: it begins with \d+ entries that were brought forward, so a new period begins only behind .+",
+    r"info configuration: read again, and in force: ok \d+ peers \d+ assets \d+ routes",
     rf"error can't write {PATH}: .+: make room for it, and give the command again: nothing is lost",
     r"error clock: \d+\.\d{3} seconds behind the last moment of the book, so that packets come too late",
 )]

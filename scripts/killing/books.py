@@ -1,19 +1,29 @@
 """What a journal says, read by the rules of docs/PROTOCOL.md alone."""
 import hashlib
+import re
 from collections import Counter
+from collections.abc import Callable
 from dataclasses import dataclass
 
 from cases.case import Differs, expect, expect_that
 
-FORM = b"ilp-journal 1\n"
+FORM = re.compile(rb"ilp-journal (?:1|2 (?P<period>[1-9]\d*))\n")
+
+
+def period_in(journal: bytes) -> int:
+    """The number of the period that a journal's text is of."""
+    found = FORM.match(journal)
+    if found is None:
+        raise Differs("a journal has not the first line of one")
+    return int(found["period"] or 0)
 
 
 def entries_in(journal: bytes) -> bytes:
     """The lines of entries of a journal's text, which must be whole."""
-    lines = journal.removeprefix(FORM)
+    period_in(journal)
+    lines = journal.partition(b"\n")[2]
     entries, _, last = lines.removesuffix(b"\n").rpartition(b"\n")
     entries += b"\n" if entries else b""
-    expect_that("a journal has not the first line of one", journal.startswith(FORM))
     expect("the last line of a journal", last + lines[-1:], b"end %d\n" % entries.count(b"\n"))
     return entries
 
@@ -60,6 +70,10 @@ class Book:
         self.open_asks: set[int] = set()
         # The numbers of reports that were given, by how many entries there were.
         self.reports: dict[int, list[int]] = {}
+        # What is done with an entry, by what it is.
+        self.ways: dict[str, Callable[..., None]] = {
+            "hold": self.hold, "fulfilled": self.fulfilled, "released": self.released, "credited": self.credited,
+            "asked": self.asked, "confirmed": self.confirmed, "undone": self.undone}
 
     def reported(self, numbers: list[int]) -> None:
         """A report of the connector, which may have booked more than its journal has by now."""
@@ -82,10 +96,8 @@ class Book:
     def add(self, line: str) -> None:
         """The next entry."""
         _moment, _actor, what, *fields = line.split(" ")
-        ways = {"hold": self.hold, "fulfilled": self.fulfilled, "released": self.released, "credited": self.credited,
-                "asked": self.asked, "confirmed": self.confirmed, "undone": self.undone}
         try:
-            ways[what](*fields)
+            self.ways[what](*fields)
         except (KeyError, TypeError, ValueError):
             raise Differs(f"the entry {self.count} can't be: {line!r}") from None
         self.count += 1
@@ -111,12 +123,16 @@ class Book:
         hold = self.holds.pop(int(number))
         expect(f"the condition of the hold {number}", hold.condition,
                hashlib.sha256(bytes.fromhex(preimage)).hexdigest())
-        expect_that(f"the preimage of the hold {number} was there before", preimage not in self.fulfills)
-        self.fulfills[preimage] = hold
+        self.note_fulfilled(preimage, hold)
         self.balances[hold.receiver] += hold.out
         self.sums["fees"] += hold.fee
         self.sums["bought"] += hold.amount - hold.fee
         self.sums["sold"] += hold.out
+
+    def note_fulfilled(self, preimage: str, hold: Hold) -> None:
+        """Keeps a hold that was fulfilled by this."""
+        expect_that(f"the preimage {preimage} was there before", preimage not in self.fulfills)
+        self.fulfills[preimage] = hold
 
     def released(self, number: str, *_cause: str) -> None:
         """What came to nothing."""

@@ -14,7 +14,7 @@ from typing import TypeVar
 
 from cases.case import Differs, expect
 from cases.messages import bearer, created, now, packet, post, request, response
-from cases.program import Setup
+from cases.program import RUN, Setup
 from cases.stand_ins import ACCEPTS, Behaviour, Received, StandIn, status
 from connections import quantity
 from packets import reject
@@ -81,11 +81,16 @@ def taken(stand_in: StandIn) -> list[Received]:
 
 @dataclass(frozen=True)
 class Ask:
-    """A settlement that an engine was asked for: whose, under which number, and of how much."""
+    """A settlement that an engine was asked for: whose, under which key, and of how much."""
 
     peer: str
-    number: int
+    key: str
     amount: int
+
+    @property
+    def number(self) -> int:
+        """The number of its entry, in the first period."""
+        return int(self.key.removeprefix(f"{RUN}-"))
 
 
 def asks_of(engine: StandIn) -> list[Ask]:
@@ -93,10 +98,10 @@ def asks_of(engine: StandIn) -> list[Ask]:
     asks = []
     for received in taken(engine):
         if (found := ASKED.fullmatch(received.target)) is not None:
-            key = received.octets.partition(b"Idempotency-Key: r1-")[2].partition(b"\r\n")[0]
+            key = received.octets.partition(b"Idempotency-Key: ")[2].partition(b"\r\n")[0]
             told = json.loads(received.body)
             expect("the scale of a settlement", told["scale"], SCALE)
-            asks.append(Ask(found[1], int(key), int(told["amount"])))
+            asks.append(Ask(found[1], key.decode("ascii"), int(told["amount"])))
     return asks
 
 
