@@ -21,13 +21,12 @@ import sys
 import time
 from collections import Counter
 from dataclasses import dataclass, replace
-from pathlib import Path
 
-from cases.case import Differs, expect, expect_that
+from cases.by_chance import play_by_chance
+from cases.case import expect, expect_that
 from cases.journals import Kept
 from cases.laboratory import Laboratory, post_close
 from cases.messages import HERE, post, request, response, seconds_since
-from cases.operating import is_program, raise_own_limit
 from cases.program import Program, Setup, secret
 from connections import TEXT
 from hub_hours.books import Books
@@ -164,24 +163,5 @@ def expect_printed(program: Program, books: Books) -> None:
     expect("its last line", lines[-1], ["period", str(books.last.period)])
 
 
-def main(words: list[str]) -> int:
-    numbers = words[1:]
-    if not 1 <= len(words) <= 3 or not all(word.isascii() and word.isdigit() for word in numbers) \
-            or not is_program(Path(words[0])):
-        print(USAGE, file=sys.stderr)
-        return 2
-    seconds = int(numbers[0]) if numbers else SECONDS
-    seed = int(numbers[1]) if len(numbers) > 1 else time.time_ns() // 1_000_000 % 10**9
-    raise_own_limit()
-    print(f"seed {seed}", flush=True)
-    with Laboratory(Path(words[0]).resolve()) as laboratory:
-        try:
-            print(play(laboratory, seconds, seed))
-            return 0
-        except (Differs, OSError) as differs:
-            print(differs)
-            return 1
-
-
 if __name__ == "__main__":
-    sys.exit(main(sys.argv[1:]))
+    sys.exit(play_by_chance(sys.argv[1:], USAGE, SECONDS, play))

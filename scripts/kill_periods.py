@@ -28,12 +28,12 @@ import time
 from collections import Counter
 from pathlib import Path
 
+from cases.by_chance import play_by_chance
 from cases.case import Differs, expect, expect_that
 from cases.crowds import Crowd
 from cases.journals import Kept
 from cases.laboratory import Laboratory, post_close
 from cases.messages import request, seconds_since
-from cases.operating import is_program, raise_own_limit
 from cases.program import Program, Setup
 from cases.running_periods import expect_follows, report_of
 from killing.load import (MOST_CREDITED, SCALE, Credit, Load, answers_by_chance, answers_by_data, asks_of, chosen,
@@ -241,24 +241,5 @@ def counted(counts: Counter[str]) -> str:
     return ", ".join(f"{times} times {what}" for what, times in sorted(counts.items()))
 
 
-def main(words: list[str]) -> int:
-    numbers = words[1:]
-    if not 1 <= len(words) <= 3 or not all(word.isascii() and word.isdigit() for word in numbers) \
-            or not is_program(Path(words[0])):
-        print(USAGE, file=sys.stderr)
-        return 2
-    count = int(numbers[0]) if numbers else COUNT
-    seed = int(numbers[1]) if len(numbers) > 1 else time.time_ns() // 1_000_000 % 10**9
-    raise_own_limit()
-    print(f"seed {seed}", flush=True)
-    with Laboratory(Path(words[0]).resolve()) as laboratory:
-        try:
-            print(play(laboratory, count, seed))
-            return 0
-        except Differs as differs:
-            print(differs)
-            return 1
-
-
 if __name__ == "__main__":
-    sys.exit(main(sys.argv[1:]))
+    sys.exit(play_by_chance(sys.argv[1:], USAGE, COUNT, play))
