@@ -293,11 +293,14 @@ impl<K: Copy> Connections<K> {
         None
     }
 
-    /// From now on the senders' numbers are not above this last one.
-    pub(crate) fn set_last(&mut self, last: u32) -> Result<(), AllocError> {
-        let alloc = *self.waiting.allocator();
-        self.closing = Closing::new(alloc, self.most, last)?;
-        Ok(())
+    /// Room for senders whose numbers are not above this last one.
+    pub(crate) fn room_for(&self, last: u32) -> Result<Closing, AllocError> {
+        Closing::new(*self.waiting.allocator(), self.most, last)
+    }
+
+    /// From now on the senders are those for whom this room was made.
+    pub(crate) fn take_over(&mut self, closing: Closing) {
+        self.closing = closing;
     }
 
     /// Looks anew at those whose request has come whole.

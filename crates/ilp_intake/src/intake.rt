@@ -1,6 +1,7 @@
 //! The intake of one listening socket.
 
 use crate::admission::Admission;
+use crate::closing::Closing;
 use crate::connections::Connections;
 use crate::limits::{MOST_AT_ONCE, MOST_AT_THE_CLOSE, MOST_EVENTS, MOST_RETURNED, REST_MS};
 use crate::listener::{Listener, NotAccepted};
@@ -46,6 +47,12 @@ pub struct Intake<K> {
     // For how long connections are still given on once it is closed.
     ending: Duration,
     watch: Watch,
+}
+
+/// Room that an intake wants for its senders.
+#[derive(Drop)]
+pub struct RoomForSenders {
+    closing: Closing,
 }
 
 /// Reaches an intake from other threads.
@@ -170,12 +177,18 @@ impl<K: Copy> Intake<K> {
         unreachable!()
     }
 
-    /// From now on the senders' numbers are not above this last one, and once it is closed connections are
+    /// Room for senders whose numbers are not above this last one.
+    pub fn room_for(&self, last: u32) -> Result<RoomForSenders, AllocError> {
+        let closing = self.connections.room_for(last)?;
+        Ok(RoomForSenders { closing })
+    }
+
+    /// From now on the senders are those for whom this room was made, and once it is closed connections are
     /// given on for so long at most. An admission that knows them is to look anew.
-    pub fn set_last(&mut self, last: u32, ending: Duration) -> Result<(), AllocError> {
-        self.connections.set_last(last)?;
+    pub fn take_over(&mut self, room: RoomForSenders, ending: Duration) {
+        let RoomForSenders { closing } = room;
+        self.connections.take_over(closing);
         self.ending = ending;
-        Ok(())
     }
 
     /// Looks anew at those that wait, by an admission that may know them otherwise.

@@ -25,7 +25,7 @@ mod times;
 mod watch;
 
 pub use admission::Admission;
-pub use intake::{Intake, IntakeHandle, Next};
+pub use intake::{Intake, IntakeHandle, Next, RoomForSenders};
 pub use limits::{ALLOWANCE_MS, GRACE_MS, LINGER_MS, MOST_DROPPED, MOST_WAITING};
 pub use listener::{Listener, listen};
 pub use ready::ReadyConnection;

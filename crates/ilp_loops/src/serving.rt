@@ -33,6 +33,8 @@ pub(crate) struct Serving<J: Naming, C: Clock + Drop, K: Keeper<J> + Drop> {
     // Those whose packet is booked, and those that are over, in this turn.
     booked: Vec<usize>,
     over: Vec<usize>,
+    // Whether a packet was begun in this turn.
+    has_begun: bool,
     buffer: Buffer,
     // None of them is to be looked at before.
     due: Option<Duration>,
@@ -53,6 +55,7 @@ impl<J: Naming, C: Clock + Drop, K: Keeper<J> + Drop> Serving<J, C, K> {
             guests: Slab::new(alloc),
             booked: Vec::new(alloc),
             over: Vec::new(alloc),
+            has_begun: false,
             buffer: Buffer::new(alloc)?,
             due: None,
         })
@@ -147,7 +150,10 @@ impl<J: Naming, C: Clock + Drop, K: Keeper<J> + Drop> Serving<J, C, K> {
     ) -> Stage<J> {
         match course {
             Course::Answered(response) => responds(shared, response, now),
-            Course::Packet { sender, key } => self.call_next(shared, sender, key),
+            Course::Packet { sender, key } => {
+                self.has_begun = true;
+                self.call_next(shared, sender, key)
+            }
             Course::ToEngine(message) => match shared.outside().call_engine(message.from(), now) {
                 Some(call) => Stage::ToEngine { message, call },
                 None => answered_message(shared, message, None, now),
@@ -478,8 +484,11 @@ impl<J: Naming, C: Clock + Drop, K: Keeper<J> + Drop> Serving<J, C, K> {
         asker: Option<&KeepingAsker>,
         now: Duration,
     ) {
-        if !self.booked.is_empty() {
+        if self.has_begun || !self.booked.is_empty() {
+            self.has_begun = false;
             shared.look_at_period(now);
+        }
+        if !self.booked.is_empty() {
             self.answer_booked(shared, asker, now);
             self.send_answers(shared, registry, now);
         }

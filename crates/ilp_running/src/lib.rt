@@ -32,7 +32,9 @@ mod printing;
 mod serving;
 
 pub use fault::ServeFault;
-pub use ilp_threads::{Asker, Configurations, NextConfig, Sides, Unprinted, without_end};
+pub use ilp_threads::{
+    Asker, Configurations, MEMORY_IS_SHORT, NextConfig, Sides, SidesRoom, Unprinted, without_end,
+};
 pub use logging::ClosedRun;
 pub use periods::{BegunPeriod, RunPeriod};
 pub use serving::{open_sides, run_begun, run_to_close, serve, write_report};

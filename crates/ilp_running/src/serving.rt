@@ -1,15 +1,13 @@
 //! A connector from its beginning to its end.
-ghost use Rattle.std.specs.Prelude.{◌≡◌, ◌≤◌, length, Option, Some, IfOk, IfErr, IfSome, vec_len};
+ghost use Rattle.std.specs.Prelude.{◌≡◌, ◌≤◌, length, IfOk, IfErr, IfSome, vec_len};
 ghost use Rattle.std.specs.Io.KnownBytes.{Appends};
-ghost use Rattle.ilp_accounts.specs.Configuration.{Configuration};
 ghost use Rattle.ilp_desk.specs.Desk as desk;
 ghost use Rattle.ilp_desk.specs.Desk.{base_of};
 ghost use Rattle.ilp_report.specs.Report.{report_text};
 ghost use Rattle.ilp_running.specs.Logging.{began_at, form_of, told_at, EndsLog, HasHead};
 ghost use Rattle.ilp_running.specs.Logging.{IsBegun, IsLogOf};
-ghost use Rattle.ilp_running.specs.Serving.{desk_of, ClosesDesk, IsClosed, IsWhyUnclosed, Prints};
-ghost use Rattle.ilp_running.specs.Serving.{IsOfNoDesk, Refuses};
-ghost use Rattle.ilp_running.specs.Serving.{desk_of_book};
+ghost use Rattle.ilp_running.specs.Serving.{desk_of, desk_of_book, ClosesDesk, IsClosed, IsOfNoDesk};
+ghost use Rattle.ilp_running.specs.Serving.{IsWhyUnclosed, Prints, Refuses};
 
 use crate::fault::ServeFault;
 use crate::logging::{AckList, ClosedRun, RunningLog};

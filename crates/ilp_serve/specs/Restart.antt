@@ -1,5 +1,5 @@
 -- What a connector that runs can't take over from another configuration.
-use Rattle.std.specs.Prelude.{◌≡◌, ◌≢◌}
+use Rattle.std.specs.Prelude.{◌≡◌, ◌≢◌, ⊤}
 use Rattle.ilp_fields.specs.declared.fault.Field.{Field}
 use Rattle.ilp_fields.specs.declared.fault.Field.TheVariants.{Address, Run, Listen, EngineListen, Workers}
 use Rattle.ilp_accounts.specs.Configuration.{Configuration}
@@ -12,11 +12,25 @@ pub record MayTakeOver (C next : Configuration) : Type 0 where
   pub engine_listen : next.settings.engine_listen ≡ C.settings.engine_listen
   pub workers : next.settings.workers ≡ C.settings.workers
 
--- the field of the top is one of these, and differs
+-- the fields of the top that stand before this one among these are the same
+abbrev pub AreSameBefore : Configuration → Configuration → Field → Type 0
+AreSameBefore C next Run = next.settings.address ≡ C.settings.address
+AreSameBefore C next Listen = (next.settings.address ≡ C.settings.address) × (next.settings.run ≡ C.settings.run)
+AreSameBefore C next EngineListen = (next.settings.address ≡ C.settings.address) × (next.settings.run ≡ C.settings.run)
+    × (next.settings.listen ≡ C.settings.listen)
+AreSameBefore C next Workers = (next.settings.address ≡ C.settings.address) × (next.settings.run ≡ C.settings.run)
+    × (next.settings.listen ≡ C.settings.listen) × (next.settings.engine_listen ≡ C.settings.engine_listen)
+AreSameBefore C next _ = ⊤
+
+-- this field differs, which is one of them
+abbrev pub Differs : Configuration → Configuration → Field → Type 0
+Differs C next Address = next.settings.address ≢ C.settings.address
+Differs C next Run = next.settings.run ≢ C.settings.run
+Differs C next Listen = next.settings.listen ≢ C.settings.listen
+Differs C next EngineListen = next.settings.engine_listen ≢ C.settings.engine_listen
+Differs C next Workers = next.settings.workers ≢ C.settings.workers
+Differs C next _ = ⊥
+
+-- it is the first of them that differs
 abbrev pub NeedsRestart : Configuration → Configuration → Field → Type 0
-NeedsRestart C next Address = next.settings.address ≢ C.settings.address
-NeedsRestart C next Run = next.settings.run ≢ C.settings.run
-NeedsRestart C next Listen = next.settings.listen ≢ C.settings.listen
-NeedsRestart C next EngineListen = next.settings.engine_listen ≢ C.settings.engine_listen
-NeedsRestart C next Workers = next.settings.workers ≢ C.settings.workers
-NeedsRestart C next _ = ⊥
+NeedsRestart C next field = AreSameBefore C next field × Differs C next field

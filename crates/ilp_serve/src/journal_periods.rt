@@ -1,8 +1,8 @@
 //! Periods of a connector whose books are kept in a journal's file and beside it.
-ghost use Rattle.std.specs.Prelude.{◌≡◌, ◌≤◌, ◌⊎◌, length, IfOk, IfErr};
-ghost use Rattle.ilp_book.specs.Reopened.{reopened};
+ghost use Rattle.std.specs.Prelude.{◌≡◌, ◌≤◌, length, IfOk, IfErr};
 ghost use Rattle.ilp_running.specs.Serving.{IsOfNoDesk};
-ghost use Rattle.ilp_serve.specs.Following.{Follows};
+ghost use Rattle.ilp_serve.specs.Following.{BeginsAs, FollowsAs};
+ghost use Rattle.ilp_serve.specs.declared.followed.Change.TheVariants as changes;
 
 use crate::followed::{Change, Followed, FollowedBy};
 use crate::next_books::{NextBooks, next_books, opened_anew};
@@ -45,7 +45,7 @@ where
         book: Book,
         next: Option<Config>,
     ) -> Result<FollowedBy<'r, R>, ServeFault>
-        ensures follows { IfOk result (λ f. Follows book next f.period.book) }
+        ensures follows { IfOk result (λ f. FollowsAs f.change book next f.period.book) }
         ensures refused { IfErr result IsOfNoDesk }
     {
         match next_books(self.rt.alloc(), book, next)? {
@@ -67,7 +67,7 @@ where
         told: Option<String>,
     ) -> Result<FollowedBy<'r, R>, ServeFault>
         requires opening { length next.entries ≡ next.base }
-        ensures book { IfOk result (λ f. (f.period.book ≡ next) ⊎ (f.period.book ≡ reopened ended)) }
+        ensures book { IfOk result (λ f. BeginsAs f.change ended next f.period.book) }
         ensures refused { IfErr result IsOfNoDesk }
     {
         let rt = self.rt;
@@ -105,7 +105,7 @@ where
         told: Option<String>,
     ) -> Result<FollowedBy<'r, R>, ServeFault>
         requires opening { length book.entries ≡ book.base }
-        ensures book { IfOk result (λ f. f.period.book ≡ book) }
+        ensures book { IfOk result (λ f. (f.change ≡ changes.None) × (f.period.book ≡ book)) }
         ensures refused { IfErr result IsOfNoDesk }
     {
         let why = match &refused.why {
@@ -125,7 +125,7 @@ where
         told: Option<String>,
     ) -> Result<FollowedBy<'r, R>, ServeFault>
         requires opening { length book.entries ≡ book.base }
-        ensures book { IfOk result (λ f. f.period.book ≡ book) }
+        ensures book { IfOk result (λ f. (f.change ≡ change) × (f.period.book ≡ book)) }
         ensures refused { IfErr result IsOfNoDesk }
     {
         let log = self.log_of(&book);

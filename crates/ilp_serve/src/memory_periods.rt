@@ -1,7 +1,7 @@
 //! Periods of a connector whose books are nowhere kept.
 ghost use Rattle.std.specs.Prelude.{IfOk, IfErr};
 ghost use Rattle.ilp_running.specs.Serving.{IsOfNoDesk};
-ghost use Rattle.ilp_serve.specs.Following.{Follows};
+ghost use Rattle.ilp_serve.specs.Following.{FollowsAs};
 
 use crate::followed::{Change, Followed};
 use crate::next_books::{NextBooks, next_books};
@@ -18,7 +18,7 @@ pub(crate) fn follow_unkept<D: Device + Drop>(
     book: Book,
     next: Option<Config>,
 ) -> Result<Followed<D>, ServeFault>
-    ensures follows { IfOk result (λ f. Follows book next f.period.book) }
+    ensures follows { IfOk result (λ f. FollowsAs f.change book next f.period.book) }
     ensures refused { IfErr result IsOfNoDesk }
 {
     match next_books(alloc, book, next)? {

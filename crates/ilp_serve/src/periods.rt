@@ -1,8 +1,8 @@
 //! A connector from its first period on.
-ghost use Rattle.std.specs.Prelude.{Some, Option, IfOk, IfErr};
+ghost use Rattle.std.specs.Prelude.{Some, None, Option, IfOk, IfErr};
 ghost use Rattle.ilp_accounts.specs.Configuration.{Configuration};
 ghost use Rattle.ilp_running.specs.Serving.{desk_of_book, IsClosed, IsOfNoDesk, IsWhyUnclosed};
-ghost use Rattle.ilp_serve.specs.Following.{Follows};
+ghost use Rattle.ilp_serve.specs.Following.{Follows, FollowsAs};
 ghost use Rattle.ilp_serve.specs.Periods.{ComesTo, EndsBy};
 
 use crate::config_path::{ConfigPath, ReadsConfigs};
@@ -16,8 +16,8 @@ use ilp_journal_file::{LogDevice, PlacesFiles};
 use ilp_links::{SystemClock, TcpLinks};
 use ilp_notices::Notices;
 use ilp_running::{
-    Asker, BegunPeriod, ClosedRun, NextConfig, RunPeriod, ServeFault, Sides, Unprinted, open_sides,
-    run_begun,
+    Asker, BegunPeriod, ClosedRun, NextConfig, RunPeriod, ServeFault, Sides, SidesRoom, Unprinted,
+    open_sides, run_begun,
 };
 use ilp_starting::Host;
 use std::alloc::AllocError;
@@ -98,21 +98,42 @@ where
         ensures refused { IfErr result IsOfNoDesk }
     {
         let rt = self.rt;
-        if let Some(NextConfig { config, asker }) = sides.take_next(rt) {
-            return self.go_on_by(ended, config, asker, sides);
+        let Some(NextConfig { config, asker }) = sides.take_next(rt) else {
+            return self.go_on_by_own(ended, sides);
+        };
+        match sides.room_for(&config) {
+            Ok(room) => self.go_on_by(ended, config, room, asker, sides),
+            Err(_) => {
+                tell_asker(rt, asker, Change::None, &None);
+                sides.free();
+                self.go_on_by_own(ended, sides)
+            }
         }
+    }
+
+    // The same by the configuration in force.
+    fn go_on_by_own(
+        &self,
+        ended: ClosedRun<LogDevice<'r, R, File>>,
+        sides: &mut Sides,
+    ) -> Result<BegunPeriod<LogDevice<'r, R, File>>, ServeFault>
+        ensures follows { IfOk result (λ period. Follows ended.entry.book None period.book) }
+        ensures refused { IfErr result IsOfNoDesk }
+    {
         let Followed { period, change, .. } = self.follow(ended, None)?;
         if change == Change::None {
-            sides.go_on_for_now(rt);
+            sides.go_on_for_now(self.rt);
         }
         Ok(period)
     }
 
-    // The same by another configuration. Who asked for it is told what became of that.
+    // The same by another configuration, for which the sides have room. Who asked for it is told what became
+    // of that.
     fn go_on_by(
         &self,
         ended: ClosedRun<LogDevice<'r, R, File>>,
         config: Config,
+        room: SidesRoom,
         asker: Asker,
         sides: &mut Sides,
     ) -> Result<BegunPeriod<LogDevice<'r, R, File>>, ServeFault>
@@ -124,9 +145,9 @@ where
             change,
             told,
         } = self.follow(ended, Some(config))?;
-        let Ok(()) = sides.take_over(period.book.config()) else {
-            return Err(ServeFault::Unprinted(Unprinted::Memory));
-        };
+        if change == Change::NewPeriod {
+            sides.take_over(room);
+        }
         tell_asker(self.rt, asker, change, &told);
         sides.free();
         Ok(period)
@@ -138,7 +159,7 @@ where
         ended: ClosedRun<LogDevice<'r, R, File>>,
         next: Option<Config>,
     ) -> Result<FollowedBy<'r, R>, ServeFault>
-        ensures follows { IfOk result (λ f. Follows ended.entry.book next f.period.book) }
+        ensures follows { IfOk result (λ f. FollowsAs f.change ended.entry.book next f.period.book) }
         ensures refused { IfErr result IsOfNoDesk }
     {
         let ClosedRun { book, log } = ended;

@@ -3,7 +3,7 @@
 use crate::followed::Change;
 use ilp_accounts::Config;
 use ilp_notices::{not_reloaded, reloaded};
-use ilp_running::{Asker, without_end};
+use ilp_running::{Asker, MEMORY_IS_SHORT, without_end};
 use ilp_starting::Refused;
 use std::alloc::Global;
 use std::io::Eprint;
@@ -16,19 +16,25 @@ pub(crate) fn tell_asker<R: Clock + Eprint>(
     change: Change,
     told: &Option<String>,
 ) {
-    let line = match told {
-        Some(line) => line.as_str(),
-        None => "",
-    };
     match change {
         Change::NewPeriod => {
+            let line = line_or(told, "");
             reloaded(rt, without_end(line));
             asker.taken(line);
         }
         Change::None => {
+            let line = line_or(told, MEMORY_IS_SHORT);
             not_reloaded(rt, without_end(line));
             asker.refused(line);
         }
+    }
+}
+
+// What is told, or else this other line.
+fn line_or<'t>(told: &'t Option<String>, other: &'t str) -> &'t str {
+    match told {
+        Some(line) => line.as_str(),
+        None => other,
     }
 }
 

@@ -12,6 +12,9 @@ pub struct Asker {
     stream: TcpStream,
 }
 
+/// What is told of a configuration that is not taken where there is no memory to say why.
+pub const MEMORY_IS_SHORT: &str = "memory is short\n";
+
 /// A line that somebody is told, without its end.
 pub fn without_end(line: &str) -> &str {
     line.strip_suffix("\n").unwrap_or(line)

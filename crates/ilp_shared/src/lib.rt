@@ -25,7 +25,7 @@ mod seen;
 mod shared;
 mod shutdown;
 
-pub use asker::{Asker, without_end};
+pub use asker::{Asker, MEMORY_IS_SHORT, without_end};
 pub use bells::Bells;
 pub use intakes::{Intakes, ending_after};
 pub use jobs::{Job, LOCAL_AT_ONCE};

@@ -1,7 +1,7 @@
 //! When the period of a desk ends by itself.
-ghost use Rattle.std.specs.Prelude.{◌≡◌, ◌↔◌, Some, IfSome, IsTrue};
+ghost use Rattle.std.specs.Prelude.{◌≡◌, ◌↔◌, ◌≤◌, Some, None, IfSome, IfNone, IsTrue};
 ghost use Rattle.ilp_book.specs.Reopened.{IsHead};
-ghost use Rattle.ilp_shared.specs.PeriodDue.{IsDue};
+ghost use Rattle.ilp_shared.specs.PeriodDue.{IsDue, IsFrom};
 
 use ilp_book::Book;
 use std::time::Duration;
@@ -20,8 +20,10 @@ impl PeriodDue {
     /// That of a desk that begins with this book, not before a time of the clock that never goes back; none
     /// where the configuration has none.
     pub fn of(book: &Book, not_before: Duration) -> Option<PeriodDue>
-        ensures { IfSome result (λ due. IsHead book.now.entries due.head
-            × (book.now.config.settings.new_period_at ≡ Some due.percent)) }
+        ensures due { IfSome result (λ due. IsHead book.now.entries due.head
+            × (book.now.config.settings.new_period_at ≡ Some due.percent)
+            × (due.not_before ≡ not_before)) }
+        ensures never { IfNone result (book.now.config.settings.new_period_at ≡ None) }
     {
         let percent = book.config().new_period_at()?;
         Some(PeriodDue {
@@ -32,7 +34,10 @@ impl PeriodDue {
     }
 
     /// Whether the period of this book ends at this time.
-    pub fn is_reached(self, book: &Book, now: Duration) -> bool {
+    pub fn is_reached(self, book: &Book, now: Duration) -> bool
+        ensures { IsTrue result
+            ↔ (IsFrom self.not_before now × IsDue self.percent self.head book.now) }
+    {
         self.not_before <= now && self.is_due(book)
     }
 

@@ -5,7 +5,7 @@ use crossbeam_channel::Sender;
 use ilp_accounts::Config;
 use ilp_desk::Naming;
 use ilp_http::Buffer;
-use ilp_intake::{Admission, Intake, Next};
+use ilp_intake::{Admission, Intake, Next, RoomForSenders};
 use ilp_notices::Notices;
 use ilp_replies::LocalReject;
 use ilp_server::{Side, Work, work_of};
@@ -26,11 +26,28 @@ pub(crate) struct Acceptor {
     pub(crate) busy: Busy,
 }
 
+/// Room that one side wants for another configuration.
+#[derive(Drop)]
+pub(crate) struct SideRoom {
+    busy: Busy,
+    senders: RoomForSenders,
+}
+
 impl Acceptor {
-    /// Takes over another configuration. Once it is closed, connections are given on for so long.
-    pub(crate) fn take_over(&mut self, config: &Config, after: Duration) -> Result<(), AllocError> {
-        self.busy = Busy::new(config.allocator(), config)?;
-        self.intake.set_last(last_sender(config), after)
+    /// Room for another configuration.
+    pub(crate) fn room_for(&self, config: &Config) -> Result<SideRoom, AllocError> {
+        Ok(SideRoom {
+            busy: Busy::new(config.allocator(), config)?,
+            senders: self.intake.room_for(last_sender(config))?,
+        })
+    }
+
+    /// Takes over the configuration for which this room was made. Once it is closed, connections are given
+    /// on for so long.
+    pub(crate) fn take_over(&mut self, room: SideRoom, after: Duration) {
+        let SideRoom { busy, senders } = room;
+        self.busy = busy;
+        self.intake.take_over(senders, after);
     }
 }
 

@@ -22,5 +22,5 @@ mod watching;
 
 pub use actors::KeepingWay;
 pub use fault::Unprinted;
-pub use ilp_shared::{Asker, Configurations, NextConfig, without_end};
-pub use sides::{RunDesk, Sides, run_desk};
+pub use ilp_shared::{Asker, Configurations, MEMORY_IS_SHORT, NextConfig, without_end};
+pub use sides::{RunDesk, Sides, SidesRoom, run_desk};

@@ -1,7 +1,7 @@
 //! The two sides of a connector, and the run of a desk between them.
 ghost use Rattle.std.specs.Prelude.{◌≤◌, vec_len};
 
-use crate::accepting::{Acceptor, last_sender};
+use crate::accepting::{Acceptor, SideRoom, last_sender};
 use crate::actors::{Actors, KeepingWay, actors_of};
 use crate::busy::Busy;
 use crate::fault::Unprinted;
@@ -92,15 +92,36 @@ impl Sides {
         self.reloading.free();
     }
 
-    /// Takes over another configuration, for the desk that is run between them next. They listen on where
-    /// they do.
-    pub fn take_over(&mut self, config: &Config) -> Result<(), AllocError> {
-        let after = ending_after(config.max_hold_ms());
-        self.acceptors.peers.take_over(config, after)?;
-        self.acceptors.engines.take_over(config, after)?;
-        self.intakes.serve_for(after);
-        Ok(())
+    /// Room for another configuration, so that taking it over needs no memory.
+    pub fn room_for(&self, config: &Config) -> Result<SidesRoom, AllocError> {
+        Ok(SidesRoom {
+            peers: self.acceptors.peers.room_for(config)?,
+            engines: self.acceptors.engines.room_for(config)?,
+            after: ending_after(config.max_hold_ms()),
+        })
     }
+
+    /// Takes over the configuration for which this room was made, for the desk that is run between them
+    /// next. They listen on where they do.
+    pub fn take_over(&mut self, room: SidesRoom) {
+        let SidesRoom {
+            peers,
+            engines,
+            after,
+        } = room;
+        self.acceptors.peers.take_over(peers, after);
+        self.acceptors.engines.take_over(engines, after);
+        self.intakes.serve_for(after);
+    }
+}
+
+/// Room that the sides want for another configuration.
+#[derive(Drop)]
+pub struct SidesRoom {
+    peers: SideRoom,
+    engines: SideRoom,
+    // For how long connections are given on after a close.
+    after: Duration,
 }
 
 // How many connections may wait at each side. Where the system does not say how many files may be open,

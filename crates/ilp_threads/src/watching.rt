@@ -6,8 +6,8 @@ use ilp_desk::{Desk, Naming};
 use ilp_keeping::SharedKeeper;
 use ilp_notices::{Notices, not_reloaded};
 use ilp_shared::{
-    Configurations, Intakes, NextConfig, PeriodDue, Places, Reloading, Seen, Shutdown, monotonic,
-    without_end,
+    Configurations, Intakes, MEMORY_IS_SHORT, NextConfig, PeriodDue, Places, Reloading, Seen,
+    Shutdown, monotonic, without_end,
 };
 use ilp_workers::{Clock, Keeper};
 use std::io::Eprint;
@@ -163,7 +163,7 @@ where
             Err(why) => {
                 let line = match &why {
                     Some(line) => line.as_str(),
-                    None => "memory is short\n",
+                    None => MEMORY_IS_SHORT,
                 };
                 not_reloaded(rt, without_end(line));
                 asker.refused(line);
