@@ -19,7 +19,6 @@ and 2 where the arguments are not understood. The seed of the random moments is 
 the machine too. It needs Linux and Python 3.11, and shares nothing with the crates.
 """
 import contextlib
-import hashlib
 import random
 import shutil
 import sys
@@ -36,9 +35,10 @@ from cases.laboratory import Laboratory, post_close
 from cases.messages import request, seconds_since
 from cases.program import Program, Setup
 from cases.running_periods import expect_follows, report_of
+from killing.books import goes_on_from
 from killing.load import (MOST_CREDITED, SCALE, Credit, Load, answers_by_chance, answers_by_data, asks_of, chosen,
                           taken)
-from killing.period_books import Periods, octets_of
+from killing.period_books import Periods, read_standing
 
 USAGE = "usage: kill_periods.py PATH/TO/connector [COUNT [SEED]]"
 COUNT = 100
@@ -135,7 +135,7 @@ class Kills:
             return
         if moment == AS_A_FILE_COMES:
             ended = str(self.periods.last.period + self.generator.randint(0, 2))
-            self.await_file(self.kept.beside(self.generator.choice(("new", ended))))
+            self.await_file(self.kept.beside(self.generator.choice(("new", "next", "ended", ended))))
             self.wait(FILE)
             return
         self.wait(LOAD)
@@ -171,14 +171,18 @@ class Kills:
 
     def look_at_files(self) -> None:
         """Counts what the end of a period leaves for a moment."""
-        journal, log = octets_of(self.kept.path), octets_of(self.kept.beside("log"))
+        journal, log, aside = read_standing(self.kept.path)
         if self.kept.beside("new").exists():
             self.left["a file that is not whole"] += 1
-        if self.kept.beside(str(self.periods.last.period)).exists():
-            self.left["the text of a period twice"] += 1
+        if aside is not None:
+            self.left["a log that was set aside"] += 1
+            if self.kept.beside(str(aside.period)).exists():
+                self.left["the text of a period twice"] += 1
+        elif self.kept.beside("next").exists():
+            self.left["what no period begins with"] += 1
         if journal is not None and log is None:
             self.left["no log"] += 1
-        if log is not None and hashlib.sha256(journal or b"").hexdigest().encode() not in log:
+        if log is not None and not goes_on_from(log, journal):
             self.left["an older log"] += 1
 
     def compare(self) -> None:

@@ -12,8 +12,8 @@ from cases.laboratory import (AT_ONCE, END, Laboratory, close, credit, expect_pa
 from cases.lines import NO_NEXT
 from cases.messages import bearer, created, post, request, response, seconds_since, soon
 from cases.program import Program, Setup, secret
-from cases.running_periods import (HOLD, HOLD_MS, LATE, await_period, ended_lines, expect_end_of, expect_follow,
-                                   expect_timed_out, hold_one, of_bob, send_of_bob, small)
+from cases.running_periods import (HOLD, HOLD_MS, LATE, await_kept, await_period, ended_lines, expect_end_of,
+                                   expect_follow, expect_timed_out, hold_one, of_bob, send_of_bob, small)
 from cases.stand_ins import ACCEPTS, FULFILLS, engine_of, free_port, in_turn, never_answers, status
 from connections import ANSWER, F02, MESSAGE, TEXT, quantity
 from scenes import FULFILL, R00, fulfill
@@ -163,6 +163,7 @@ def reload_that_leaves_a_balance_out(laboratory: Laboratory) -> None:
     expect_taken(program, without)
     expect("carol's packet", post(port, packet_of(carol, soon(5))), response(401))
     expect("dave's packet", post(port, packet_of(dave, soon(5))), response(401))
+    await_kept(program, 0)
     expect("the period that has ended", ended_lines(program), [(0, 6)])
     post_close(program)
     expect_end_of(program, alice=-10, bob=10, period=1)

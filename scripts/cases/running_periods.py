@@ -39,6 +39,12 @@ def ended_lines(program: Program) -> list[tuple[int, int]]:
     return [(int(found[1]), int(found[2])) for line in program.lines() if (found := re.fullmatch(form, line.said))]
 
 
+def await_kept(program: Program, period: int, within: float = BEGUN) -> None:
+    """Waits for the line that says that the text of a period is kept, which is written while the next one runs."""
+    program.await_told(rf"info journal .+: the period {period} has ended, and its \d+ entries are kept as .+",
+                       within=within)
+
+
 def await_period(program: Program, period: int, within: float = BEGUN) -> None:
     """Waits for the line that says that a period begins."""
     program.await_told(rf"info journal .+: the period {period} begins with its \d+ entries", within=within)
@@ -142,6 +148,7 @@ def period_beside_a_silent_peer(laboratory: Laboratory) -> None:
     expect_that("one of the others was answered before the silent one", all(
         (one.ended or 0.0) >= (silent.ended or 0.0) - 0.1 for one in waiting))
     # A hold and its end, four packets and a credit.
+    await_kept(program, 0)
     expect("the first period that has ended", ended_lines(program)[0], (0, 11))
     post_close(program)
     program.end(END)
@@ -166,6 +173,7 @@ def period_with_an_open_settlement(laboratory: Laboratory) -> None:
     # The credit, the settlement and its room are 3 of the 13 entries at which the period ends.
     send_of_bob(program, 5)
     await_period(program, 1)
+    await_kept(program, 0)
     expect("the period that has ended", ended_lines(program), [(0, 12)])
     # Behind the balances of alice and bob, and bob's key.
     program.await_told("info settlement 3 with bob of 800: confirmed", within=BEGUN)
@@ -372,6 +380,7 @@ def long_heads(laboratory: Laboratory) -> None:
     # The 31st entry is there with the eighth packet, and the 32nd; twice the head has none before.
     send_of_bob(program, 8)
     await_period(program, 2)
+    await_kept(program, 1)
     expect("the period that has ended", ended_lines(program), [(1, 32)])
     post_close(program)
     expect_end_of(program, alice=20, bob=50, period=2)

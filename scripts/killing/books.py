@@ -36,9 +36,13 @@ def entries_kept(journal: bytes | None, log: bytes | None) -> bytes:
     whole = log.partition(b"\0")[0]
     lines = whole[:whole.rfind(b"\n") + 1].split(b"\n", 2)
     expect("how many lines of its head a log has", len(lines), 3)
-    digest = hashlib.sha256(journal or b"").hexdigest().encode()
     # A log of an older text has nothing that the journal has not.
-    return entries + lines[2] if lines[0].split()[-1] == digest else entries
+    return entries + lines[2] if goes_on_from(log, journal) else entries
+
+
+def goes_on_from(log: bytes, journal: bytes | None) -> bool:
+    """Whether a log goes on from this text of a journal, or from none."""
+    return log.partition(b"\n")[0].split()[-1] == hashlib.sha256(journal or b"").hexdigest().encode()
 
 
 @dataclass(frozen=True)

@@ -5,7 +5,7 @@ from pathlib import Path
 
 from cases.case import Differs, expect
 from cases.program import RUN
-from killing.books import Book, Hold, entries_in, entries_kept, period_in
+from killing.books import Book, Hold, entries_in, entries_kept, goes_on_from, period_in
 
 
 class PeriodBook(Book):
@@ -107,6 +107,18 @@ def expect_following(ended: PeriodBook, next_one: PeriodBook, peers: Iterable[st
     expect(f"the head of the period {next_one.period}", next_one.head, ended.head_behind(peers))
 
 
+def read_standing(journal: Path) -> tuple[bytes | None, bytes | None, PeriodBook | None]:
+    """The text and the log of the period that goes on; and the book of the one before, where its log was set aside and
+    its text does not take the journal's place yet."""
+    text, log, ended = (octets_of(path) for path in (journal, beside(journal, "log"), beside(journal, "ended")))
+    if ended is None or not goes_on_from(ended, text):
+        return text, log, None
+    if (following := octets_of(beside(journal, "next"))) is not None:
+        return following, log, book_of(text, ended)
+    expect("the log beside one that was set aside", log, None)
+    return text, ended, None
+
+
 class Periods:
     """The books of a journal and of all periods before it, each of which follows the one before."""
 
@@ -116,9 +128,11 @@ class Periods:
 
     def read(self, journal: Path) -> None:
         """Reads the periods that have ended since, and the one that goes on. A log counts as a start reads it."""
-        now = book_of(octets_of(journal), octets_of(beside(journal, "log")))
-        ended = [self.ended(journal, period) for period in range(max(len(self.books) - 1, 0), now.period)]
-        for book in [*ended, now]:
+        text, log, aside = read_standing(journal)
+        now = book_of(text, log)
+        kept = now.period if aside is None else now.period - 1
+        ended = [self.ended(journal, period) for period in range(max(len(self.books) - 1, 0), kept)]
+        for book in [*ended, *([aside] if aside is not None else []), now]:
             self.follow(book)
 
     def ended(self, journal: Path, period: int) -> PeriodBook:

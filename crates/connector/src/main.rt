@@ -17,7 +17,7 @@ use helping::{USAGE, run_help, run_version};
 use ilp_described::{describe_packet, reject_words};
 use ilp_new_period::{follows, new_period};
 use ilp_refusals::Refusal;
-use ilp_serve::{ReadsConfigs, serve};
+use ilp_serve::{KeepsPeriods, ReadsConfigs, serve};
 use ilp_starting::{Host, PlacesFiles, Refused, RunFault};
 use replaying::run_replay;
 use std::env;
@@ -88,6 +88,7 @@ where
         + Files<File = File>
         + PlacesFiles<File = File>
         + ReadsConfigs
+        + KeepsPeriods
         + Net<Listener = TcpListener, Stream = TcpStream>,
 {
     match words.asked() {
@@ -103,6 +104,7 @@ where
         + Files<File = File>
         + PlacesFiles<File = File>
         + ReadsConfigs
+        + KeepsPeriods
         + Net<Listener = TcpListener, Stream = TcpStream>,
 {
     match asked {

@@ -10,6 +10,9 @@
 //!   log that failed is written anew. So a log has from its first moment all that it is to have then.
 //! - `J.new` for a moment, which is written and then takes the place of `J`. So `J` is at each moment a
 //!   whole text, or not there.
+//! - `J.ended` and `J.next` for a moment behind a period that ended in a running connector: the log of that,
+//!   and what the next one begins with. Where both are there, the journal is `J.next` with `J.log`, and `J` and
+//!   `J.ended` are the period before, which is still to be kept as a whole.
 //! - `J.P` for the number P of each period that has ended: its whole text, which is never written again.
 //!
 //! None of them may be a link or have a second name: else two connectors would have one journal. Where
@@ -40,6 +43,7 @@ mod placing;
 mod reading;
 mod remembering;
 mod saving;
+mod setting_aside;
 mod standing;
 mod system_text;
 mod taking;

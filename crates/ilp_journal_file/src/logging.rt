@@ -13,7 +13,7 @@ use std::fs::OpenFile;
 use std::io::{Eprint, ErrorKind, Read, Seek, Write};
 use std::rt::Files;
 use std::time::Clock;
-use std::{fs, io};
+use std::fs;
 
 impl<F> JournalFile<F> {
     /// The path of `J.log`, as lines tell it.
@@ -59,13 +59,7 @@ impl<F> JournalFile<F> {
 
     /// The same, for whoever can't go on beside a log. It is refused as `Unwritten` where it can't be removed.
     pub fn expect_no_log<R: Files + Clock + Eprint>(&self, rt: &R) -> Result<(), FileFault> {
-        match self.names.remove_log(rt) {
-            Ok(()) => Ok(()),
-            Err(error) => {
-                log_left(rt, self.log_path(), &error);
-                Err(FileFault::Unwritten)
-            }
-        }
+        self.names.remove(rt, self.log_path())
     }
 }
 
@@ -87,12 +81,24 @@ impl Names {
         })
     }
 
-    // Removes the log, and has the system keep that it is gone.
-    fn remove_log<R: Files>(&self, rt: &R) -> io::Result<()> {
-        match fs::remove_file(rt, self.log.as_str()) {
+    /// Removes a file of which the journal has all, where it is there, and has the system keep that it is gone.
+    /// Where it can't be removed a line says so.
+    pub(crate) fn remove<R: Files + Clock + Eprint>(
+        &self,
+        rt: &R,
+        path: &str,
+    ) -> Result<(), FileFault> {
+        let removed = match fs::remove_file(rt, path) {
             Ok(()) => self.sync_folder(rt),
             Err(error) if error.kind() == ErrorKind::NotFound => Ok(()),
             Err(error) => Err(error),
+        };
+        match removed {
+            Ok(()) => Ok(()),
+            Err(error) => {
+                log_left(rt, path, &error);
+                Err(FileFault::Unwritten)
+            }
         }
     }
 }

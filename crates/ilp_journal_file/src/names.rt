@@ -25,6 +25,10 @@ pub(crate) struct Names {
     pub(crate) log: String,
     /// What a log begins as, and then takes its place.
     pub(crate) log_new: String,
+    /// The log of a period that has ended, until the text of that is kept.
+    pub(crate) ended: String,
+    /// What the journal begins the next period with, until it takes the journal's place.
+    pub(crate) next: String,
     /// The mark of a connector of an earlier version, which had no log.
     pub(crate) running: String,
 }
@@ -38,6 +42,8 @@ impl Names {
         ensures log { IfOk result (λ names. string_bytes names.log ≡ path.now ++ codes ".log") }
         ensures log_new { IfOk result (λ names.
             string_bytes names.log_new ≡ path.now ++ codes ".log.new") }
+        ensures ended { IfOk result (λ names. string_bytes names.ended ≡ path.now ++ codes ".ended") }
+        ensures next { IfOk result (λ names. string_bytes names.next ≡ path.now ++ codes ".next") }
         ensures running { IfOk result (λ names.
             string_bytes names.running ≡ path.now ++ codes ".running") }
     {
@@ -47,6 +53,8 @@ impl Names {
             lock: beside(alloc, path, ".lock")?,
             log: beside(alloc, path, ".log")?,
             log_new: beside(alloc, path, ".log.new")?,
+            ended: beside(alloc, path, ".ended")?,
+            next: beside(alloc, path, ".next")?,
             running: beside(alloc, path, ".running")?,
         })
     }

@@ -53,18 +53,58 @@ impl<F> JournalFile<F> {
     {
         let path = self.names.period(alloc, period)?;
         let path = path.as_str();
-        match self.read_period(rt, alloc, period)? {
-            Some(text) if !has_text(content, &text) => {
-                period_differs(rt, path);
-                return Err(FileFault::Unread);
+        match self.found_period(rt, alloc, period, content)? {
+            FoundPeriod::Same => {}
+            FoundPeriod::None => {
+                unless_unwritten(rt, path, self.replace(rt, alloc, content, path))?;
             }
-            Some(_) => {}
-            None => unless_unwritten(rt, path, self.replace(rt, alloc, content, path))?,
         }
         unless_unwritten(rt, path, self.names.sync_folder(rt))?;
         let journal = self.names.journal.as_str();
         period_kept(rt, journal, period, path, content.entries());
         Ok(())
+    }
+
+    /// Finds that the text of a period can be kept as `J.P`: there is no such file, or it has this text already.
+    ///
+    /// Refusals: `Unread` where it has another text, and a line says so; those of `read_period`.
+    pub fn expect_free<R, C>(
+        &self,
+        rt: &R,
+        alloc: Global,
+        period: u32,
+        content: &C,
+    ) -> Result<(), FileFault>
+    where
+        R: Files + Clock + Eprint,
+        C: Content,
+    {
+        match self.found_period(rt, alloc, period, content) {
+            Ok(_) => Ok(()),
+            Err(fault) => Err(fault),
+        }
+    }
+
+    // What stands where this text of a period is to be kept.
+    fn found_period<R, C>(
+        &self,
+        rt: &R,
+        alloc: Global,
+        period: u32,
+        content: &C,
+    ) -> Result<FoundPeriod, FileFault>
+    where
+        R: Files + Clock + Eprint,
+        C: Content,
+    {
+        match self.read_period(rt, alloc, period)? {
+            None => Ok(FoundPeriod::None),
+            Some(text) if has_text(content, &text) => Ok(FoundPeriod::Same),
+            Some(_) => {
+                period_differs(rt, self.names.period(alloc, period)?.as_str());
+                Err(FileFault::Unread)
+            }
+        }
     }
 
     /// Removes `J.P` where it has this text, which is the journal's own: a stop came between the two files of a
@@ -116,8 +156,16 @@ impl<F> JournalFile<F> {
     }
 }
 
-// What a write came to. One that failed is told.
-fn unless_unwritten<R: Clock + Eprint>(
+// What stands where the text of a period is to be kept, and may be.
+#[derive(Clone, Copy)]
+enum FoundPeriod {
+    None,
+    // Just that text.
+    Same,
+}
+
+/// What a write came to. One that failed is told.
+pub(crate) fn unless_unwritten<R: Clock + Eprint>(
     rt: &R,
     path: &str,
     written: io::Result<()>,

@@ -50,6 +50,8 @@ impl Names {
         expect_plain(rt, self.new.as_str())?;
         expect_plain(rt, self.log.as_str())?;
         expect_plain(rt, self.log_new.as_str())?;
+        expect_plain(rt, self.ended.as_str())?;
+        expect_plain(rt, self.next.as_str())?;
         if is_mount_point(rt, alloc, journal)? {
             journal_unfit(rt, journal, Unfit::Mount);
             return Err(FileFault::Unread);

@@ -4,7 +4,7 @@ use crate::fault::FileFault;
 use crate::locking::LockFile;
 use crate::names::Names;
 use ilp_notices::{journal_in_use, journal_not_locked, left_unsaved, not_made};
-use std::alloc::Global;
+use std::alloc::{AllocError, Global};
 use std::fs::{File, OpenOptions, TryLockError};
 use std::io::Eprint;
 use std::rt::Files;
@@ -53,6 +53,15 @@ impl<F: LockFile> JournalFile<F> {
             left_unsaved(rt, names.new.as_str());
         }
         Ok(JournalFile { names, lock })
+    }
+}
+
+impl JournalFile<()> {
+    /// The files of a journal at this path that another value of this process has taken, or of one that is only
+    /// read.
+    pub fn untaken(alloc: Global, path: &str) -> Result<JournalFile<()>, AllocError> {
+        let names = Names::of(alloc, path)?;
+        Ok(JournalFile { names, lock: () })
     }
 }
 

@@ -8,7 +8,7 @@ use ilp_accounts::Config;
 use ilp_book::{Book, CarryFault, ForwardFault};
 use ilp_journal_file::{JournalFile, PlacesFiles, has_text};
 use ilp_journal_text::JournalText;
-use ilp_starting::{BookFile, Refused, RunFault, Saved, configured};
+use ilp_starting::{BookFile, Refused, RunFault, Saved, configured, keep_ended};
 use std::alloc::{AllocError, Global};
 use std::fs::{File, OpenFile};
 use std::io::{Eprint, Print, Read, Seek, Write};
@@ -70,17 +70,28 @@ where
     }
 }
 
+/// Where the books of a period lie behind which the next one has begun.
+#[derive(Clone, Copy, Debug, PartialEq, Eq)]
+pub enum Kept {
+    /// In a file of their own. The journal has the text of the next one.
+    Whole,
+    /// In the journal and the log, which was set aside. `ilp_starting::keep_ended` makes the rest of it.
+    Aside,
+}
+
 /// Keeps the books of a period that a connector has closed, and has the journal at a path, which it has, begin
-/// with those of the next one: as `new_period` does, and a stop at any moment leaves what it leaves.
+/// with those of the next one. Where the log has all of them (`is_logged`) it is only set aside, which takes no longer
+/// where they are long. Else it is done as `new_period` does, and a stop at any moment leaves what that leaves.
 ///
-/// It is refused where a file can't be written, of which a line says more.
+/// It is refused where a file can't be written, or one of the period has another text, of which a line says more.
 pub fn keep_behind<R>(
     rt: &R,
     file: &JournalFile<File>,
     path: &str,
     ended: &Book,
     next: &Book,
-) -> Result<(), Refused>
+    is_logged: bool,
+) -> Result<Kept, Refused>
 where
     R: Runtime + AllocGlobal + Files<File = File> + PlacesFiles<File = File> + Copy,
 {
@@ -91,7 +102,15 @@ where
         file,
         path,
     };
-    closing.put(ended, next)
+    keep_ended(rt, file, path)?;
+    if is_logged {
+        closing.set_aside(ended, next)?;
+        return Ok(Kept::Aside);
+    }
+    match closing.put(ended, next) {
+        Ok(()) => Ok(Kept::Whole),
+        Err(refused) => Err(refused),
+    }
 }
 
 // A journal whose books are closed by one configuration for a period of the next one.
@@ -111,6 +130,7 @@ where
 {
     // The book of the next period, once the journal has it and its configuration is remembered.
     fn close(&self) -> Result<Book, Refused> {
+        keep_ended(self.rt, self.file, self.path)?;
         let book = match self.begun()? {
             Some(book) => book,
             None => self.begin()?,
@@ -157,6 +177,28 @@ where
         };
         self.file
             .begin_period(self.rt, alloc, next.period(), &head)?;
+        tell_left_out(self.rt, ended, self.next);
+        Ok(())
+    }
+
+    // Sets the log aside of the period that ended, and writes the text of the next one.
+    fn set_aside(&self, ended: &Book, next: &Book) -> Result<(), Refused>
+        requires ended { ended.now.config ≡ self.now.config.now }
+        requires next { next.now.config ≡ self.now.next.now }
+    {
+        let alloc = self.rt.alloc();
+        let whole = Saved {
+            book: ended,
+            config: self.config,
+        };
+        self.file
+            .expect_free(self.rt, alloc, ended.period(), &whole)?;
+        let head = Saved {
+            book: next,
+            config: self.next,
+        };
+        self.file
+            .set_aside(self.rt, alloc, next.period(), &head)?;
         tell_left_out(self.rt, ended, self.next);
         Ok(())
     }

@@ -18,5 +18,5 @@ mod left_out;
 mod printing;
 
 pub use beginning::next_of;
-pub use closing::{keep_behind, new_period};
+pub use closing::{Kept, keep_behind, new_period};
 pub use following::follows;

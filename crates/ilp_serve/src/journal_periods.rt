@@ -1,23 +1,27 @@
 //! Periods of a connector whose books are kept in a journal's file and beside it.
 ghost use Rattle.std.specs.Prelude.{◌≡◌, ◌≤◌, length, IfOk, IfErr};
-ghost use Rattle.ilp_running.specs.Serving.{IsOfNoDesk};
+ghost use Rattle.ilp_running.specs.Serving.{desk_of_book, IsClosed, IsOfNoDesk, IsWhyUnclosed};
 ghost use Rattle.ilp_serve.specs.Following.{BeginsAs, FollowsAs};
 ghost use Rattle.ilp_serve.specs.declared.followed.Change.TheVariants as changes;
 
+use crate::config_path::{ConfigPath, ReadsConfigs};
 use crate::followed::{Change, Followed, FollowedBy};
+use crate::keeping::KeepsPeriods;
 use crate::next_books::{NextBooks, next_books, opened_anew};
-use crate::telling::line_of_refusal;
+use crate::telling::{line_of_refusal, why_of};
 use ilp_accounts::Config;
 use ilp_book::Book;
 use ilp_journal_file::{JournalFile, LogDevice, PlacesFiles};
+use ilp_links::{SystemClock, TcpLinks};
 use ilp_log::BegunLog;
-use ilp_new_period::keep_behind;
+use ilp_new_period::{Kept, keep_behind};
 use ilp_notices::no_next_period;
-use ilp_running::{BegunPeriod, ServeFault};
-use ilp_starting::{BookFile, Refused, Saved};
+use ilp_running::{BegunPeriod, RunPeriod, ServeFault, Sides, run_begun};
+use ilp_starting::{BookFile, Host, Refused, Saved};
 use std::fs::File;
-use std::rt::{Files, Runtime};
-use std::sync::Wait;
+use std::net::{Net, TcpListener, TcpStream};
+use std::rt::Files;
+use std::thread;
 use std::thread::sleep;
 use std::time::Duration;
 
@@ -36,20 +40,54 @@ pub(crate) struct JournalPeriods<'r, 'f, R> {
 
 impl<'r, R> JournalPeriods<'r, '_, R>
 where
-    R: Runtime + AllocGlobal + Wait + Files<File = File> + PlacesFiles<File = File> + Copy,
+    R: Host
+        + Files<File = File>
+        + PlacesFiles<File = File>
+        + ReadsConfigs
+        + KeepsPeriods
+        + Net<Listener = TcpListener, Stream = TcpStream>,
 {
+    /// Runs a connector for a period between these, and has the period before it kept as a whole meanwhile.
+    pub(crate) fn run(
+        &self,
+        begun: BegunPeriod<LogDevice<'r, R, File>>,
+        links: &TcpLinks<SystemClock<R>>,
+        configs: ConfigPath<'r, R>,
+        sides: Sides,
+    ) -> Result<RunPeriod<LogDevice<'r, R, File>>, ServeFault>
+        ensures closed { IfOk result (λ period. IsClosed (desk_of_book begun.entry.book) period.run.book) }
+        ensures refused { IfErr result (IsWhyUnclosed (desk_of_book begun.entry.book)) }
+    {
+        let (rt, path) = (self.rt, self.path);
+        thread::scope(
+            thread::scope_env(),
+            rt,
+            move |scope| -> Result<RunPeriod<LogDevice<'_, R, File>>, ServeFault>
+                ensures closed { IfOk result (λ period. IsClosed (desk_of_book begun.entry.book) period.run.book) }
+                ensures refused { IfErr result (IsWhyUnclosed (desk_of_book begun.entry.book)) }
+            {
+                // Where no thread can be started it is kept at the end of this one.
+                let _keeping = scope.spawn(move || rt.keep_ended(path));
+                run_begun(rt, begun, links, configs, sides)
+            },
+        )
+    }
+
     /// Keeps the books of a period, and gives what comes behind them: by another configuration where one is
     /// given, else by the same.
+    ///
+    /// `is_logged` says whether the log has all of the books.
     pub(crate) fn follow(
         &self,
         book: Book,
         next: Option<Config>,
+        is_logged: bool,
     ) -> Result<FollowedBy<'r, R>, ServeFault>
         ensures follows { IfOk result (λ f. FollowsAs f.change book next f.period.book) }
         ensures refused { IfErr result IsOfNoDesk }
     {
         match next_books(self.rt.alloc(), book, next)? {
-            NextBooks::Next { ended, next, told } => self.begin(ended, next, told),
+            NextBooks::Next { ended, next, told } => self.begin(ended, next, told, is_logged),
             NextBooks::Same {
                 book,
                 refused,
@@ -65,16 +103,17 @@ where
         ended: Book,
         next: Book,
         told: Option<String>,
+        is_logged: bool,
     ) -> Result<FollowedBy<'r, R>, ServeFault>
         requires opening { length next.entries ≡ next.base }
         ensures book { IfOk result (λ f. BeginsAs f.change ended next f.period.book) }
         ensures refused { IfErr result IsOfNoDesk }
     {
         let rt = self.rt;
-        match keep_behind(rt, self.file, self.path, &ended, &next) {
-            Ok(()) => {
+        match keep_behind(rt, self.file, self.path, &ended, &next, is_logged) {
+            Ok(kept) => {
                 drop(ended);
-                self.logged(next, Change::NewPeriod, told)
+                self.logged(next, kept, Change::NewPeriod, told)
             }
             Err(refused) => {
                 drop(next);
@@ -108,12 +147,8 @@ where
         ensures book { IfOk result (λ f. (f.change ≡ changes.None) × (f.period.book ≡ book)) }
         ensures refused { IfErr result IsOfNoDesk }
     {
-        let why = match &refused.why {
-            Some(why) => why.as_str(),
-            None => "as the line above says",
-        };
-        no_next_period(self.rt, self.path, &refused.refusal, why);
-        self.logged(book, Change::None, told)
+        no_next_period(self.rt, self.path, &refused.refusal, why_of(refused));
+        self.logged(book, Kept::Whole, Change::None, told)
     }
 
     // A period of this book, whose text the file has then, and a log that goes on from it. Both sides wait
@@ -121,6 +156,7 @@ where
     fn logged(
         &self,
         book: Book,
+        kept: Kept,
         change: Change,
         told: Option<String>,
     ) -> Result<FollowedBy<'r, R>, ServeFault>
@@ -128,7 +164,7 @@ where
         ensures book { IfOk result (λ f. (f.change ≡ change) × (f.period.book ≡ book)) }
         ensures refused { IfErr result IsOfNoDesk }
     {
-        let log = self.log_of(&book);
+        let log = self.log_of(&book, kept);
         let period = BegunPeriod {
             book,
             log: Some(log),
@@ -141,7 +177,7 @@ where
     }
 
     // A log that goes on from this book. What can't be written is told, and tried again until it can.
-    fn log_of(&self, book: &Book) -> BegunLog<LogDevice<'r, R, File>>
+    fn log_of(&self, book: &Book, kept: Kept) -> BegunLog<LogDevice<'r, R, File>>
         ensures { result.start.base ≤ length book.now.entries }
     {
         let rt = self.rt;
@@ -152,7 +188,11 @@ where
             path: self.path,
         };
         for _ in rt.forever() {
-            match file.go_on(book) {
+            let begun = match kept {
+                Kept::Whole => file.go_on(book),
+                Kept::Aside => file.go_on_aside(book),
+            };
+            match begun {
                 Ok(log) => return log,
                 Err(_) => sleep(rt, Duration::from_secs(REST)),
             }

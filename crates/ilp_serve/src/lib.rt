@@ -22,6 +22,7 @@ mod config_path;
 mod ending;
 mod followed;
 mod journal_periods;
+mod keeping;
 mod memory_periods;
 mod next_books;
 mod periods;
@@ -32,4 +33,5 @@ mod serving;
 mod telling;
 
 pub use config_path::ReadsConfigs;
+pub use keeping::KeepsPeriods;
 pub use serving::serve;

@@ -8,6 +8,7 @@ ghost use Rattle.ilp_serve.specs.Periods.{ComesTo, EndsBy};
 use crate::config_path::{ConfigPath, ReadsConfigs};
 use crate::followed::{Change, Followed, FollowedBy};
 use crate::journal_periods::JournalPeriods;
+use crate::keeping::KeepsPeriods;
 use crate::memory_periods::follow_unkept;
 use crate::telling::tell_asker;
 use ilp_accounts::Config;
@@ -40,6 +41,7 @@ where
         + Files<File = File>
         + PlacesFiles<File = File>
         + ReadsConfigs
+        + KeepsPeriods
         + Net<Listener = TcpListener, Stream = TcpStream>,
 {
     /// Runs a connector from its first period on, and from each to the next, until it is asked to close. The
@@ -83,7 +85,10 @@ where
             rt: *rt,
             path: self.config_path,
         };
-        run_begun(rt, begun, &links, configs, sides)
+        match &self.kept {
+            Some(kept) => kept.run(begun, &links, configs, sides),
+            None => run_begun(rt, begun, &links, configs, sides),
+        }
     }
 
     // Keeps the books of a period that has ended, and begins the next, for which connections wait at the
@@ -163,12 +168,13 @@ where
         ensures refused { IfErr result IsOfNoDesk }
     {
         let ClosedRun { book, log } = ended;
+        let is_logged = log.is_some();
         // Its file is closed before another log is begun there.
         drop(log);
         let Some(kept) = &self.kept else {
             return follow_unkept(self.rt.alloc(), book, next);
         };
-        kept.follow(book, next)
+        kept.follow(book, next, is_logged)
     }
 }
 

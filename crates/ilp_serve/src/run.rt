@@ -4,6 +4,7 @@ ghost use Rattle.std.specs.Prelude.{◌≡◌, ◌≤◌, length};
 use crate::config_path::ReadsConfigs;
 use crate::ending::{end, leave_unsaved, run_fault};
 use crate::journal_periods::JournalPeriods;
+use crate::keeping::KeepsPeriods;
 use crate::periods::Periods;
 use crate::report::{print_report, room_for_report};
 use ilp_accounts::Config;
@@ -32,6 +33,7 @@ where
         + Files<File = File>
         + PlacesFiles<File = File>
         + ReadsConfigs
+        + KeepsPeriods
         + Net<Listener = TcpListener, Stream = TcpStream>,
 {
     /// Runs a connector over a new book, and forgets what it booked.

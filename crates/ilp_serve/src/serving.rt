@@ -1,6 +1,7 @@
 //! The command `serve`.
 
 use crate::config_path::ReadsConfigs;
+use crate::keeping::KeepsPeriods;
 use crate::run::Run;
 use ilp_journal_file::PlacesFiles;
 use ilp_starting::{Host, RunFault, noticed};
@@ -21,6 +22,7 @@ where
         + Files<File = File>
         + PlacesFiles<File = File>
         + ReadsConfigs
+        + KeepsPeriods
         + Net<Listener = TcpListener, Stream = TcpStream>,
 {
     let config = noticed(rt, path)?;

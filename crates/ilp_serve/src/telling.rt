@@ -38,6 +38,14 @@ fn line_or<'t>(told: &'t Option<String>, other: &'t str) -> &'t str {
     }
 }
 
+/// Why it is refused, for a line that is told.
+pub(crate) fn why_of(refused: &Refused) -> &str {
+    match &refused.why {
+        Some(why) => why.as_str(),
+        None => "as the line above says",
+    }
+}
+
 /// That the configuration is in force: the line of `check`. None where memory for it is short.
 pub(crate) fn line_of_config(alloc: Global, config: &Config) -> Option<String> {
     let line = ilp_described::line_of(alloc, config).ok()?;

@@ -3,6 +3,7 @@
 ghost use Rattle.std.specs.Prelude.{◌≡◌, ◌≤◌, length, IfOk};
 
 use crate::carrying::Carried;
+use crate::ended::keep_ended;
 use crate::finding::found_book;
 use crate::refused::Refused;
 use crate::saved::Saved;
@@ -62,6 +63,7 @@ where
         ensures opening { IfOk result (λ b. length b.book.entries ≡ b.book.base) }
         ensures base { IfOk result (λ b. b.log.start.base ≤ length b.book.entries) }
     {
+        keep_ended(self.rt, self.file, self.path)?;
         let book = self.carried()?;
         self.forget_kept(&book)?;
         match self.go_on(&book) {
@@ -130,8 +132,33 @@ where
         requires { book.now.config ≡ self.now.config.now }
         ensures { IfOk result (λ log. log.start.base ≤ length book.now.entries) }
     {
+        self.file.forget_next(self.rt)?;
         self.remember()?;
-        self.begin_log(book)
+        let text = self.saved_text(book)?;
+        self.begin_log(book.len(), &text)
+    }
+
+    /// The same behind a period whose log was set aside, with the book that the next one begins with: the journal is
+    /// what has just that text beside the file.
+    ///
+    /// Refusals: those of `go_on`; `JournalUnread` where it isn't there.
+    pub fn go_on_aside(&self, book: &Book) -> Result<BegunLog<LogDevice<'r, R, F>>, Refused>
+        requires { book.now.config ≡ self.now.config.now }
+        ensures { IfOk result (λ log. log.start.base ≤ length book.now.entries) }
+    {
+        let rt = self.rt;
+        self.remember()?;
+        let head = Saved {
+            book,
+            config: self.config,
+        };
+        match self.file.read_next(rt, rt.alloc())? {
+            Some(text) if has_text(&head, &text) => self.begin_log(book.len(), &text),
+            _ => {
+                journal_unread(rt, self.path, &io::Error::from(ErrorKind::NotFound));
+                Err(Refused::from(Refusal::JournalUnread))
+            }
+        }
     }
 
     /// Has the configuration remembered beside the file.
@@ -183,14 +210,12 @@ where
         })
     }
 
-    // Begins a log that goes on from this book, of which the file has the text then.
-    fn begin_log(&self, book: &Book) -> Result<BegunLog<LogDevice<'r, R, F>>, Refused>
-        requires { book.now.config ≡ self.now.config.now }
-        ensures { IfOk result (λ log. log.start.base ≤ length book.now.entries) }
+    // Begins a log that goes on from this text of so many entries.
+    fn begin_log(&self, base: u32, text: &[u8]) -> Result<BegunLog<LogDevice<'r, R, F>>, Refused>
+        ensures { IfOk result (λ log. log.start.base ≡ base) }
     {
-        let (rt, base) = (self.rt, book.len());
-        let text = self.saved_text(book)?;
-        let head = head_text(rt.alloc(), self.config, base, &text)?.into_bytes();
+        let rt = self.rt;
+        let head = head_text(rt.alloc(), self.config, base, text)?.into_bytes();
         let sync = self.config.sync();
         let device = self.file.begin_log(rt, rt.alloc(), &head, sync)?;
         let file = LineFile {
@@ -225,7 +250,7 @@ where
         }
     }
 
-    /// Saves the journal of a book that was closed, and removes the log.
+    /// Saves the journal of a book that was closed, and removes the log. A period before it is kept first.
     ///
     /// Refusals: `WriteFault` where the file can't be written to the last, of which a line says more;
     /// `JournalUnread`; `Memory`.
@@ -233,6 +258,7 @@ where
         requires config { book.now.config ≡ self.now.config.now }
     {
         let rt = self.rt;
+        keep_ended(rt, self.file, self.path)?;
         let saved = Saved {
             book,
             config: self.config,

@@ -16,8 +16,8 @@ use ilp_book::Book;
 use ilp_log_text::LogText;
 use std::alloc::Global;
 
-// The text of a journal in which nothing was booked.
-const NO_ENTRIES: &[u8] = b"ilp-journal 1\nend 0\n";
+/// The text of a journal in which nothing was booked.
+pub(crate) const NO_ENTRIES: &[u8] = b"ilp-journal 1\nend 0\n";
 
 /// Where the entries come from with which a book begins.
 #[derive(Clone, Copy, Debug, PartialEq, Eq)]
@@ -211,8 +211,8 @@ fn recovered_book(
     }
 }
 
-// How many lines a text has.
-fn line_count(text: &[u8]) -> usize
+/// How many lines a text has.
+pub(crate) fn line_count(text: &[u8]) -> usize
     ensures { result ≡ line_count text.now }
 {
     text.iter().filter(|octet| **octet == b'\n').count()

@@ -2,10 +2,12 @@
 ghost use Rattle.std.specs.Prelude.{◌≡◌, length, IfOk};
 
 use crate::carrying::{Carried, Source, book_of};
+use crate::ended::{Aside, aside_of};
+use crate::not_carried::of_another_text;
 use crate::refused::Refused;
 use crate::remembering::expect_unchanged;
 use ilp_accounts::Config;
-use ilp_journal_file::{Found, look_at};
+use ilp_journal_file::{Found, JournalFile, look_at};
 use ilp_link_traits::Clock;
 use ilp_links::SystemClock;
 use ilp_log_text::{LogText, remembered_in};
@@ -28,7 +30,31 @@ where
     ensures opening { IfOk result (λ c. length c.book.entries ≡ c.book.base) }
 {
     let found = look_at(rt, rt.alloc(), path)?;
+    let found = behind_ended(rt, path, found)?;
     found_book(rt, config, path, &found)
+}
+
+// What a start would find where the log of a period was set aside, once that is kept.
+fn behind_ended<R>(rt: &R, path: &str, found: Found) -> Result<Found, Refused>
+where
+    R: AllocGlobal + Files + time::Clock + Eprint,
+{
+    let alloc = rt.alloc();
+    let file = JournalFile::untaken(alloc, path)?;
+    let Some(ended) = file.read_ended(rt, alloc)? else {
+        return Ok(found);
+    };
+    let Ok(log) = LogText::read(&ended) else {
+        return Err(of_another_text(alloc, path));
+    };
+    let mut found = found;
+    match aside_of(rt, &file, octets_of(&found.text), &log)? {
+        Aside::Ended => found.text = file.read_next(rt, alloc)?,
+        Aside::InForce => found.log = Some(ended),
+        Aside::Over => {}
+        Aside::Strange => return Err(of_another_text(alloc, path)),
+    }
+    Ok(found)
 }
 
 /// The book of what was found of the journal at this path, as of now, by a configuration that has the run
@@ -62,7 +88,8 @@ where
     expect_unchanged(rt, path, &carried.book, &remembered)
 }
 
-fn octets_of(text: &Option<Vec<u8>>) -> Option<&[u8]> {
+/// The octets of what was found.
+pub(crate) fn octets_of(text: &Option<Vec<u8>>) -> Option<&[u8]> {
     match text {
         Some(octets) => Some(octets.as_slice()),
         None => None,

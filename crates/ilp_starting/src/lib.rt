@@ -11,6 +11,9 @@
 //!   from, the log's lines are recovered with it; a log of another text is passed over only where the
 //!   journal has all that it has. Where it is refused, the refusal names why
 //!   (`specs/Beginning.antt`, `BeginsBy`, `IsWhyNotBegunBy`).
+//! - The text that `keep_ended` keeps of a period has the journal's entries and behind them the log's lines
+//!   (`specs/Ended.antt`, `IsWhole`), of a log that goes on from that text. By `whole_text` it is the text of all
+//!   these entries.
 //! - `config_of`: the configuration of the octets, or the refusal by their first fault or for want of
 //!   memory (`specs/Configuring.antt`).
 //! - All else is proved safe, and no more.
@@ -19,19 +22,23 @@
 mod book_file;
 mod carrying;
 mod configuring;
+mod ended;
 mod expecting;
 mod finding;
 mod host;
+pub mod laws;
 mod not_carried;
 mod recovered;
 mod refused;
 mod remembering;
 mod saved;
 mod warning;
+mod whole_period;
 
 pub use book_file::{Begun, BookFile};
 pub use carrying::{Carried, Source, book_of, new_book};
 pub use configuring::{config_octets, config_of, configured, noticed};
+pub use ended::keep_ended;
 pub use finding::book_at;
 pub use host::Host;
 pub use ilp_journal_file::PlacesFiles;

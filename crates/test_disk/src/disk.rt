@@ -24,6 +24,12 @@ pub const LOG: &str = "journal.log";
 /// Of a log that is to take the place of the old one.
 pub const LOG_NEW: &str = "journal.log.new";
 
+/// Of the log of a period that has ended, until the period is kept.
+pub const ENDED: &str = "journal.ended";
+
+/// Of what the next period begins with, until then.
+pub const NEXT: &str = "journal.next";
+
 /// Of the first period, once it has ended.
 pub const PERIOD: &str = "journal.0";
 
@@ -31,7 +37,12 @@ pub const PERIOD: &str = "journal.0";
 pub const LIMITS: &str = "/proc/self/limits";
 
 // The names that a file can have.
-const NAMES: [&str; 8] = [JOURNAL, LOCK, RUNNING, NEW, LOG, LOG_NEW, PERIOD, LIMITS];
+const NAMES: [&str; COUNT] = [
+    JOURNAL, LOCK, RUNNING, NEW, LOG, LOG_NEW, ENDED, NEXT, PERIOD, LIMITS,
+];
+
+// How many these are.
+const COUNT: usize = 10;
 
 // The folder's own name.
 pub(crate) const FOLDER: &str = ".";
@@ -79,7 +90,7 @@ impl Content {
 }
 
 // Which content each name has, if it has one.
-type Folder = [Option<usize>; 8];
+type Folder = [Option<usize>; COUNT];
 
 // What is on a disk, and what was printed.
 #[derive(Drop)]
@@ -217,8 +228,8 @@ impl Disk {
             alloc,
             state: RefCell::new(State {
                 alloc,
-                now: [None; 8],
-                kept: [None; 8],
+                now: [None; COUNT],
+                kept: [None; COUNT],
                 contents: Vec::new(alloc),
                 calls: 0,
                 faults,

@@ -15,8 +15,8 @@ mod looks;
 mod machine;
 
 pub use disk::{
-    Disk, Faults, JOURNAL, LIMITS, LOCK, LOG, LOG_NEW, MOST_CALLS, NEVER, NEW, PERIOD, RUNNING,
-    When,
+    Disk, ENDED, Faults, JOURNAL, LIMITS, LOCK, LOG, LOG_NEW, MOST_CALLS, NEVER, NEW, NEXT, PERIOD,
+    RUNNING, When,
 };
 pub use handle::Handle;
 pub use log::{Log, append};

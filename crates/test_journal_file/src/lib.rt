@@ -13,8 +13,11 @@
 //!   new one once that was told. Where that failed it can be done again.
 //! - A period that ends is kept as a whole before the next one is there, and what is kept is never written again. A
 //!   stop in between leaves what the same calls go on from.
+//! - A log is set aside as a whole or not at all, and its period is then kept as a whole, or a start does that.
 #![tactic(auto)]
 
+#[cfg(test)]
+mod ended;
 #[cfg(test)]
 mod periods;
 #[cfg(test)]

@@ -1,0 +1,135 @@
+//! A period that ended while a connector ran: its log was set aside, and its text may not be kept yet.
+ghost use Rattle.std.specs.Prelude.{◌≡◌, option_map, IfOk};
+ghost use Rattle.ilp_starting.specs.Beginning.{GoesOn};
+ghost use Rattle.ilp_starting.specs.declared.ended.Aside.TheVariants as asides;
+
+use crate::finding::octets_of;
+use crate::not_carried::of_another_text;
+use crate::refused::Refused;
+use crate::whole_period::WholePeriod;
+use ilp_journal_file::{FileFault, JournalFile};
+use ilp_journal_text::JournalText;
+use ilp_log_text::LogText;
+use std::io::Eprint;
+use std::rt::Files;
+use std::time::Clock;
+
+/// What a log that was set aside is, beside what stands there now.
+#[derive(Clone, Copy, Debug, PartialEq, Eq)]
+pub(crate) enum Aside {
+    /// It goes on from the journal's text, and the next period has begun: the two are the period before.
+    Ended,
+    /// It goes on from the journal's text, and no other period has begun.
+    InForce,
+    /// The journal's text has all of it, or that of the period before.
+    Over,
+    /// None of these.
+    Strange,
+}
+
+/// Keeps the text of a period that ended while a connector ran, and has the journal be that of the next one, where
+/// that is still to be done. A stop at any moment of it leaves what the same call goes on from.
+///
+/// Refusals: `JournalUnread` where a file can't be read, or the log that was set aside is of another journal;
+/// `WriteFault` where one can't be written. A line on standard error says more. `Memory`.
+pub fn keep_ended<R, F>(rt: &R, file: &JournalFile<F>, path: &str) -> Result<(), Refused>
+where
+    R: AllocGlobal + Files + Clock + Eprint,
+{
+    let alloc = rt.alloc();
+    let Some(octets) = file.read_ended(rt, alloc)? else {
+        return Ok(());
+    };
+    let Ok(log) = LogText::read(&octets) else {
+        return Err(of_another_text(alloc, path));
+    };
+    let text = file.read(rt, alloc)?;
+    let text = octets_of(&text);
+    match aside_of(rt, file, text, &log)? {
+        Aside::Ended => {
+            let Some(whole) = WholePeriod::of(alloc, text, &log)? else {
+                return Err(of_another_text(alloc, path));
+            };
+            keep_whole(rt, file, text, &whole)?;
+        }
+        Aside::InForce => file.take_back(rt)?,
+        Aside::Over => file.remove_ended(rt)?,
+        Aside::Strange => return Err(of_another_text(alloc, path)),
+    }
+    Ok(())
+}
+
+// Keeps a period, of which this is the text, behind that of the journal.
+fn keep_whole<R, F>(
+    rt: &R,
+    file: &JournalFile<F>,
+    text: Option<&[u8]>,
+    whole: &WholePeriod<'_>,
+) -> Result<(), FileFault>
+where
+    R: AllocGlobal + Files + Clock + Eprint,
+{
+    file.keep_period(rt, rt.alloc(), period_of(text), whole)?;
+    file.begin_next(rt)?;
+    file.remove_ended(rt)
+}
+
+/// What a log that was set aside is, beside this text of the journal, or beside none.
+pub(crate) fn aside_of<R, F>(
+    rt: &R,
+    file: &JournalFile<F>,
+    text: Option<&[u8]>,
+    log: &LogText<'_>,
+) -> Result<Aside, FileFault>
+where
+    R: AllocGlobal + Files + Clock + Eprint,
+    ensures ended { IfOk result (λ aside. aside ≡ asides.Ended
+        → GoesOn log.now (option_map (λ t. t.now) text)) }
+    ensures in_force { IfOk result (λ aside. aside ≡ asides.InForce
+        → GoesOn log.now (option_map (λ t. t.now) text)) }
+{
+    let octets = text.unwrap_or(&[]);
+    if log.is_of(octets) {
+        return beside_own_text(rt, file, log);
+    }
+    if log.is_in(octets) {
+        return Ok(Aside::Over);
+    }
+    let Some(before) = period_of(text).checked_sub(1) else {
+        return Ok(Aside::Strange);
+    };
+    match file.read_period(rt, rt.alloc(), before)? {
+        Some(kept) if log.is_in(&kept) => Ok(Aside::Over),
+        _ => Ok(Aside::Strange),
+    }
+}
+
+// What it is beside the text from which it goes on.
+fn beside_own_text<R, F>(
+    rt: &R,
+    file: &JournalFile<F>,
+    log: &LogText<'_>,
+) -> Result<Aside, FileFault>
+where
+    R: AllocGlobal + Files + Clock + Eprint,
+{
+    let alloc = rt.alloc();
+    if file.read_next(rt, alloc)?.is_some() {
+        return Ok(Aside::Ended);
+    }
+    if log.lines().is_empty() {
+        return Ok(Aside::Over);
+    }
+    match file.read_log(rt, alloc)? {
+        None => Ok(Aside::InForce),
+        Some(_) => Ok(Aside::Strange),
+    }
+}
+
+// The number of the period that a text is of, or that of the first one.
+fn period_of(text: Option<&[u8]>) -> u32 {
+    match JournalText::begin(text.unwrap_or(&[])) {
+        Ok(text) => text.period(),
+        Err(_) => 0,
+    }
+}
