@@ -9,8 +9,9 @@ from pathlib import Path
 from cases.case import case, expect, expect_that
 from cases.journals import SETTLEMENTS, Kept, keys_of
 from cases.laboratory import END, Laboratory, close, credit, expect_served, post_close
+from cases.lines import PATH
 from cases.messages import created, response
-from cases.program import Setup
+from cases.program import Program, Setup
 from cases.stand_ins import ACCEPTS, FULFILLS, engine_of, in_turn, never_answers
 from connections import quantity
 
@@ -179,6 +180,51 @@ def period_behind_a_sudden_stop(laboratory: Laboratory) -> None:
     program.kill()
     Closing(kept, kept.setup).expect_closed("peer alice balance -30", "peer bob balance 30")
     expect("the files", kept.files(), ["journal", "journal.0", "journal.lock"])
+
+
+def stopped_book(laboratory: Laboratory) -> tuple[Kept, Program, dict[str, bytes]]:
+    """A journal with a log, as a sudden stop left them, and who was stopped; and what `new-period` makes of a copy."""
+    kept = closed_book(laboratory)
+    program = kept.serve()
+    expect_served(program, amount=5)
+    expect("a credit", credit(program, 7, key="another key"), created(quantity(7, 2)))
+    program.kill()
+    copy = Kept(laboratory, kept.setup)
+    shutil.copytree(kept.folder, copy.folder, dirs_exist_ok=True)
+    Closing(copy, copy.setup).expect_closed("peer alice balance -35", "peer bob balance 1042")
+    return kept, program, copy.contents()
+
+
+@case
+def period_whose_log_was_set_aside(laboratory: Laboratory) -> None:
+    """Stopped once the log was set aside, `check` tells with what a start begins, and changes nothing. `new-period` and
+    a start keep just the text that `new-period` makes of the journal and its log. Where there is nothing to begin with
+    the log is taken back, and another journal's is refused."""
+    kept, stopped, done = stopped_book(laboratory)
+    kept.beside("log").rename(kept.beside("ended"))
+    aside = kept.contents()
+    kept.beside("next").write_bytes(done["journal"])
+    kept.expect_checked(stopped, entries=done["journal"].count(b"\n") - 2)
+    Closing(kept, kept.setup).expect_closed("peer alice balance -35", "peer bob balance 1042")
+    expect("the files", {name: kept.contents()[name] for name in ("journal", "journal.0")},
+           {name: done[name] for name in ("journal", "journal.0")})
+    for name, octets in aside.items():
+        kept.folder.joinpath(name).write_bytes(octets)
+    kept.beside("0").unlink()
+    kept.beside("next").write_bytes(done["journal"])
+    program = kept.serve()
+    expect("the text that is kept", kept.beside("0").read_bytes(), done["journal.0"])
+    expect("what stands there", kept.files(), ["journal", "journal.0", "journal.lock", "journal.log"])
+    post_close(program)
+    expect("the exit status", program.end(END), 0)
+    expect("the journal in the end", kept.contents()["journal"], done["journal"])
+    kept, _, _ = stopped_book(laboratory)
+    kept.beside("log").rename(kept.beside("ended"))
+    program = kept.serve()
+    expect("what stands there", kept.files(), ["journal", "journal.lock", "journal.log"])
+    close(program, alice=-35, bob=1042)
+    kept.beside("ended").write_bytes(aside["journal.ended"].replace(b"ilp-log 1 ", b"ilp-log 1 1"))
+    kept.expect_refused("73 JournalUnread", f"journal {PATH}: its log goes on from another text, .+")
 
 
 @case
