@@ -9,11 +9,11 @@ use crate::taking::JournalFile;
 use ilp_accounts::LogSync;
 use ilp_notices::{log_begun, log_left, not_made};
 use std::alloc::{AllocError, Global};
+use std::fs;
 use std::fs::OpenFile;
 use std::io::{Eprint, ErrorKind, Read, Seek, Write};
 use std::rt::Files;
 use std::time::Clock;
-use std::fs;
 
 impl<F> JournalFile<F> {
     /// The path of `J.log`, as lines tell it.

@@ -197,8 +197,7 @@ where
             book: next,
             config: self.next,
         };
-        self.file
-            .set_aside(self.rt, alloc, next.period(), &head)?;
+        self.file.set_aside(self.rt, alloc, next.period(), &head)?;
         tell_left_out(self.rt, ended, self.next);
         Ok(())
     }

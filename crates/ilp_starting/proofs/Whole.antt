@@ -17,15 +17,15 @@ pub whole_text : (C : Configuration) (period : ℕ) (j logged : Entries) (log : 
 whole_text C period j logged log whole count lines as_many is =
     let first = first_line period in
     let front : is.front ≡ first ++ entry_lines C j =
-        append_cancel_right is.front (first ++ entry_lines C j) (end_line log.count)
-          (sym is.saved ∙ ap (λ n. first ++ (entry_lines C j ++ end_line n)) (sym count) ∙ sym (append_assoc first (entry_lines C j) (end_line log.count))) in
+    append_cancel_right is.front (first ++ entry_lines C j) (end_line log.count)
+    (sym is.saved ∙ ap (λ n. first ++ (entry_lines C j ++ end_line n)) (sym count) ∙ sym (append_assoc first (entry_lines C j) (end_line log.count))) in
     let behind : log.count + line_count (text_of log.lines) ≡ length (j ++ logged) =
-        ap (λ n. n + line_count (text_of log.lines)) count ∙ ap (λ n. length j + n) as_many ∙ sym (length-append j logged) in
+    ap (λ n. n + line_count (text_of log.lines)) count ∙ ap (λ n. length j + n) as_many ∙ sym (length-append j logged) in
     let all : entry_lines C (j ++ logged) ≡ entry_lines C j ++ entry_lines C logged = flat_map-append (entry_line C) j logged in
     is.whole
-      ∙ ap (λ (octets : List ℕ). octets ++ (text_of log.lines ++ end_line (log.count + line_count (text_of log.lines)))) front
-      ∙ ap (λ (octets : List ℕ). (first ++ entry_lines C j) ++ (octets ++ end_line (log.count + line_count (text_of log.lines)))) lines
-      ∙ ap (λ n. (first ++ entry_lines C j) ++ (entry_lines C logged ++ end_line n)) behind
-      ∙ append_assoc first (entry_lines C j) (entry_lines C logged ++ end_line (length (j ++ logged)))
-      ∙ ap (λ (octets : List ℕ). first ++ octets) (sym (append_assoc (entry_lines C j) (entry_lines C logged) (end_line (length (j ++ logged)))))
-      ∙ ap (λ (octets : List ℕ). first ++ (octets ++ end_line (length (j ++ logged)))) (sym all)
+    ∙ ap (λ (octets : List ℕ). octets ++ (text_of log.lines ++ end_line (log.count + line_count (text_of log.lines)))) front
+    ∙ ap (λ (octets : List ℕ). (first ++ entry_lines C j) ++ (octets ++ end_line (log.count + line_count (text_of log.lines)))) lines
+    ∙ ap (λ n. (first ++ entry_lines C j) ++ (entry_lines C logged ++ end_line n)) behind
+    ∙ append_assoc first (entry_lines C j) (entry_lines C logged ++ end_line (length (j ++ logged)))
+    ∙ ap (λ (octets : List ℕ). first ++ octets) (sym (append_assoc (entry_lines C j) (entry_lines C logged) (end_line (length (j ++ logged)))))
+    ∙ ap (λ (octets : List ℕ). first ++ (octets ++ end_line (length (j ++ logged)))) (sym all)

@@ -28,7 +28,7 @@ impl<'t> WholePeriod<'t> {
     ) -> Result<Option<WholePeriod<'t>>, AllocError>
         ensures whole { IfOk result (λ found. IfSome found (λ whole.
             IsWhole (option_map (λ t. t.now) text) log.now
-                (whole.front.now ++ (whole.lines.now ++ string_bytes whole.end)))) }
+            (whole.front.now ++ (whole.lines.now ++ string_bytes whole.end)))) }
     {
         let saved = text.unwrap_or(NO_ENTRIES);
         let last = end_line(alloc, u64::from(log.count()))?;

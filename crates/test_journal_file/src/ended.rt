@@ -16,7 +16,8 @@ use test_disk::{
 const OLD_TEXT: &[u8] = b"ilp-journal 1\n100 1 asked bob 7\nend 1\n";
 
 // It goes on from that text, as `sha256sum` has it.
-const OLD_LOG: &[u8] = b"ilp-log 1 1 1dddc7002f4397e19c43a32f13edbad9e02acd9e810064805bb0a9760d4c10b6\nrun r1; peer bob XRP 9\n200 1 confirmed 0\n300 1 asked bob 8\n\0\0";
+const OLD_LOG: &[u8] =
+    b"ilp-log 1 1 1dddc7002f4397e19c43a32f13edbad9e02acd9e810064805bb0a9760d4c10b6\nrun r1; peer bob XRP 9\n200 1 confirmed 0\n300 1 asked bob 8\n\0\0";
 
 // The two of them.
 const WHOLE: &[u8] =
@@ -26,7 +27,8 @@ const NEXT_TEXT: &[u8] = b"ilp-journal 2 1\n300 0 opened bob 15\nend 1\n";
 
 const NEXT_LOG: &[u8] = b"a log that goes on from the next text";
 
-const OTHER_LOG: &[u8] = b"ilp-log 1 0 e3b0c44298fc1c149afbf4c8996fb92427ae41e4649b934ca495991b7852b855\nrun r1\n200 1 asked bob 9\n";
+const OTHER_LOG: &[u8] =
+    b"ilp-log 1 0 e3b0c44298fc1c149afbf4c8996fb92427ae41e4649b934ca495991b7852b855\nrun r1\n200 1 asked bob 9\n";
 
 // A disk with these files.
 fn disk_with(alloc: Global, faults: Faults, files: &[(&str, &[u8])]) -> io::Result<Disk> {
@@ -188,20 +190,31 @@ fn a_log_goes_of_which_the_journal_has_all(rt: HostRuntime) -> Result<(), Fail> 
 fn what_is_of_another_journal_stays(rt: HostRuntime) -> Result<(), Fail> {
     let other = [(JOURNAL, NEXT_TEXT), (ENDED, OLD_LOG)];
     expect_refused(&rt, &other)?;
-    expect_refused(&rt, &[(JOURNAL, NEXT_TEXT), (ENDED, OLD_LOG), (PERIOD, OLD_TEXT)])?;
-    expect_refused(&rt, &[(JOURNAL, OLD_TEXT), (ENDED, OTHER_LOG), (NEXT, NEXT_TEXT)])?;
-    expect_refused(&rt, &[(JOURNAL, OLD_TEXT), (ENDED, OLD_LOG), (LOG, NEXT_LOG)])?;
     expect_refused(
         &rt,
-        &[(JOURNAL, OLD_TEXT), (ENDED, OLD_LOG), (NEXT, NEXT_TEXT), (PERIOD, OLD_TEXT)],
+        &[(JOURNAL, NEXT_TEXT), (ENDED, OLD_LOG), (PERIOD, OLD_TEXT)],
+    )?;
+    expect_refused(
+        &rt,
+        &[(JOURNAL, OLD_TEXT), (ENDED, OTHER_LOG), (NEXT, NEXT_TEXT)],
+    )?;
+    expect_refused(
+        &rt,
+        &[(JOURNAL, OLD_TEXT), (ENDED, OLD_LOG), (LOG, NEXT_LOG)],
+    )?;
+    expect_refused(
+        &rt,
+        &[
+            (JOURNAL, OLD_TEXT),
+            (ENDED, OLD_LOG),
+            (NEXT, NEXT_TEXT),
+            (PERIOD, OLD_TEXT),
+        ],
     )
 }
 
 // It is refused, and all files stay.
-fn expect_refused(
-    rt: &(impl Abort + AllocGlobal),
-    files: &[(&str, &[u8])],
-) -> Result<(), Fail> {
+fn expect_refused(rt: &(impl Abort + AllocGlobal), files: &[(&str, &[u8])]) -> Result<(), Fail> {
     let disk = disk_with(rt.alloc(), NEVER, files)?;
     let kept = keep(&Machine(&disk), rt.alloc());
     assert!(rt; kept.is_err_and(|refused| refused.refusal == Refusal::JournalUnread));
