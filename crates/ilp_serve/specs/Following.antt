@@ -18,12 +18,12 @@ pub record IsNext (ended : PlainBook) (asked : Option Configuration) (begun : Pl
 abbrev pub Follows : PlainBook → Option Configuration → PlainBook → Type 0
 Follows ended asked begun = IsNext ended asked begun ⊎ (begun ≡ reopened ended)
 
--- the same by what is told of it
+-- the same, by whether a new period is noted
 abbrev pub FollowsAs : Change → PlainBook → Option Configuration → PlainBook → Type 0
 FollowsAs NewPeriod ended asked begun = IsNext ended asked begun
 FollowsAs None ended asked begun = begun ≡ reopened ended
 
--- the next book begins, or the one that ended goes on, by what is told of it
+-- the next book begins, or the one that ended goes on, by whether that is
 abbrev pub BeginsAs : Change → PlainBook → PlainBook → PlainBook → Type 0
 BeginsAs NewPeriod ended next begun = begun ≡ next
 BeginsAs None ended next begun = begun ≡ reopened ended

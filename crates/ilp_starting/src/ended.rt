@@ -84,9 +84,9 @@ pub(crate) fn aside_of<R, F>(
 where
     R: AllocGlobal + Files + Clock + Eprint,
     ensures ended { IfOk result (λ aside. aside ≡ asides.Ended
-        → GoesOn log.now (option_map (λ t. t.now) text)) }
+        → GoesOn log.now (option_map (λ t. t.now) text.entry)) }
     ensures in_force { IfOk result (λ aside. aside ≡ asides.InForce
-        → GoesOn log.now (option_map (λ t. t.now) text)) }
+        → GoesOn log.now (option_map (λ t. t.now) text.entry)) }
 {
     let octets = text.unwrap_or(&[]);
     if log.is_of(octets) {

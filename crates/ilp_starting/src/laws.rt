@@ -1,5 +1,5 @@
 //! What holds of the definitions. These functions do nothing: their contracts are the laws.
-ghost use Rattle.std.specs.Prelude.{◌≡◌, ◌++◌, ℕ, List, Some, length};
+ghost use Rattle.std.specs.Prelude.{◌≡◌, ◌++◌, ℕ, List, length};
 ghost use Rattle.ilp_accounts.specs.Configuration.{Configuration};
 ghost use Rattle.ilp_journal.specs.Journal.{Entries};
 ghost use Rattle.ilp_journal_text.specs.Text.{entry_lines, journal_text};
@@ -14,6 +14,6 @@ pub fn whole_text()
     ensures { (C : Configuration) (period : ℕ) (j logged : Entries) (log : PlainLogText) (whole : List ℕ)
         → log.count ≡ length j → text_of log.lines ≡ entry_lines C logged
         → line_count (text_of log.lines) ≡ length logged
-        → IsWhole (Some (journal_text C period j)) log whole
+        → IsWhole (journal_text C period j) log whole
         → whole ≡ journal_text C period (j ++ logged) }
 {}

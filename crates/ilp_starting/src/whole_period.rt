@@ -1,6 +1,8 @@
 //! The whole text of a period, of that of its journal and of its log.
-ghost use Rattle.std.specs.Prelude.{◌≡◌, ◌++◌, option_map, string_bytes, IfOk, IfSome};
+ghost use Rattle.std.specs.Prelude.{◌≡◌, ◌++◌, codes, option_map, string_bytes, IfOk, IfSome};
+ghost use Rattle.std.specs.Fmt.{decimal};
 ghost use Rattle.ilp_journal_text.specs.Text.{end_line};
+ghost use Rattle.ilp_starting.specs.Beginning.{saved_or_none};
 ghost use Rattle.ilp_starting.specs.Ended.{IsWhole};
 
 use crate::carrying::{NO_ENTRIES, line_count};
@@ -27,10 +29,24 @@ impl<'t> WholePeriod<'t> {
         log: &LogText<'t>,
     ) -> Result<Option<WholePeriod<'t>>, AllocError>
         ensures whole { IfOk result (λ found. IfSome found (λ whole.
-            IsWhole (option_map (λ t. t.now) text) log.now
+            IsWhole (saved_or_none (option_map (λ t. t.now) text.entry)) log.now
             (whole.front.now ++ (whole.lines.now ++ string_bytes whole.end)))) }
     {
-        let saved = text.unwrap_or(NO_ENTRIES);
+        match text {
+            Some(saved) => WholePeriod::behind(alloc, saved, log),
+            None => WholePeriod::behind(alloc, NO_ENTRIES, log),
+        }
+    }
+
+    // The same behind a text.
+    fn behind(
+        alloc: Global,
+        saved: &'t [u8],
+        log: &LogText<'t>,
+    ) -> Result<Option<WholePeriod<'t>>, AllocError>
+        ensures whole { IfOk result (λ found. IfSome found (λ whole.
+            IsWhole saved.now log.now (whole.front.now ++ (whole.lines.now ++ string_bytes whole.end)))) }
+    {
         let last = end_line(alloc, u64::from(log.count()))?;
         let Some(front) = saved.strip_suffix(last.as_bytes()) else {
             return Ok(None);
@@ -51,6 +67,12 @@ impl<'t> WholePeriod<'t> {
 // The last line of a journal of so many entries.
 fn end_line(alloc: Global, count: u64) -> Result<String, AllocError>
     ensures { IfOk result (λ line. string_bytes line ≡ end_line count) }
+{
+    end_text(alloc, count)
+}
+
+fn end_text(alloc: Global, count: u64) -> Result<String, AllocError>
+    ensures { IfOk result (λ line. string_bytes line ≡ codes "end " ++ (decimal count ++ codes "\n")) }
 {
     format!(in alloc; "end {count}\n")
 }
