@@ -1,4 +1,5 @@
 //! Periods of a connector whose books are kept in a journal's file and beside it.
+ghost use denote.Param.Send.{IsSend, IsSync};
 ghost use Rattle.std.specs.Prelude.{◌≡◌, ◌≤◌, length, IfOk, IfErr};
 ghost use Rattle.ilp_running.specs.Serving.{desk_of_book, IsClosed, IsOfNoDesk, IsWhyUnclosed};
 ghost use Rattle.ilp_serve.specs.Following.{BeginsAs, FollowsAs};
@@ -55,16 +56,17 @@ where
         configs: ConfigPath<'r, R>,
         sides: Sides,
     ) -> Result<RunPeriod<LogDevice<'r, R, File>>, ServeFault>
-        ensures closed { IfOk result (λ period. IsClosed (desk_of_book begun.entry.book) period.run.book) }
-        ensures refused { IfErr result (IsWhyUnclosed (desk_of_book begun.entry.book)) }
+        ensures closed { IfOk result (λ period. IsClosed (desk_of_book begun.book) period.run.book) }
+        ensures refused { IfErr result (IsWhyUnclosed (desk_of_book begun.book)) }
     {
         let (rt, path) = (self.rt, self.path);
         thread::scope(
             thread::scope_env(),
             rt,
             move |scope| -> Result<RunPeriod<LogDevice<'_, R, File>>, ServeFault>
-                ensures closed { IfOk result (λ period. IsClosed (desk_of_book begun.entry.book) period.run.book) }
-                ensures refused { IfErr result (IsWhyUnclosed (desk_of_book begun.entry.book)) }
+                requires { IsSend R.row × IsSync R.row }
+                ensures closed { IfOk result (λ period. IsClosed (desk_of_book begun.book) period.run.book) }
+                ensures refused { IfErr result (IsWhyUnclosed (desk_of_book begun.book)) }
             {
                 // Where no thread can be started it is kept at the end of this one.
                 let _keeping = scope.spawn(move || rt.keep_ended(path));

@@ -3,7 +3,7 @@
 ghost use Rattle.std.specs.Prelude.{◌≡◌, ◌≤◌, length, IfOk};
 
 use crate::carrying::Carried;
-use crate::ended::keep_ended;
+use crate::ended::{forget_next, keep_ended};
 use crate::finding::found_book;
 use crate::refused::Refused;
 use crate::saved::Saved;
@@ -125,14 +125,15 @@ where
     }
 
     /// Has the configuration remembered, and begins a log that goes on from this book, whose text the file has
-    /// then.
+    /// then. A period before it is kept first, and what one behind it was to begin with goes.
     ///
     /// Refusals: `WriteFault` and `JournalUnread`, of which a line on standard error says more; `Memory`.
     pub fn go_on(&self, book: &Book) -> Result<BegunLog<LogDevice<'r, R, F>>, Refused>
         requires { book.now.config ≡ self.now.config.now }
         ensures { IfOk result (λ log. log.start.base ≤ length book.now.entries) }
     {
-        self.file.forget_next(self.rt)?;
+        forget_next(self.rt, self.file, book.period())?;
+        keep_ended(self.rt, self.file, self.path)?;
         self.remember()?;
         let text = self.saved_text(book)?;
         self.begin_log(book.len(), &text)

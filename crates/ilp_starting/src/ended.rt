@@ -59,6 +59,19 @@ where
     Ok(())
 }
 
+/// Removes what a period behind this one was to begin with, where it is there: this one goes on.
+///
+/// Refusals: those of `JournalFile::read_next`; `Unwritten` where it can't be removed, and a line says so.
+pub(crate) fn forget_next<R, F>(rt: &R, file: &JournalFile<F>, period: u32) -> Result<(), FileFault>
+where
+    R: AllocGlobal + Files + Clock + Eprint,
+{
+    match file.read_next(rt, rt.alloc())? {
+        Some(text) if period_of(Some(text.as_slice())) > period => file.forget_next(rt),
+        _ => Ok(()),
+    }
+}
+
 // Keeps a period, of which this is the text, behind that of the journal.
 fn keep_whole<R, F>(
     rt: &R,

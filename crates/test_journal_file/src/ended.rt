@@ -1,9 +1,11 @@
 //! Logs of periods that end in a running connector, over a disk on which each call fails, once or from there on.
 
 use crate::tests::Text;
+use ilp_accounts::Config;
+use ilp_book::Book;
 use ilp_journal_file::{FileFault, JournalFile};
 use ilp_refusals::Refusal;
-use ilp_starting::{Refused, keep_ended};
+use ilp_starting::{BookFile, Refused, keep_ended};
 use std::alloc::Global;
 use std::io;
 use std::process::Abort;
@@ -13,22 +15,23 @@ use test_disk::{
     is_there,
 };
 
-const OLD_TEXT: &[u8] = b"ilp-journal 1\n100 1 asked bob 7\nend 1\n";
+const OLD_TEXT: &[u8] = b"ilp-journal 1\n100 1 credited bob 6b31 7 2 7\nend 1\n";
 
 // It goes on from that text, as `sha256sum` has it.
 const OLD_LOG: &[u8] =
-    b"ilp-log 1 1 1dddc7002f4397e19c43a32f13edbad9e02acd9e810064805bb0a9760d4c10b6\nrun r1; peer bob XRP 9\n200 1 confirmed 0\n300 1 asked bob 8\n\0\0";
+    b"ilp-log 1 1 d5dff4d01fd291ab5dfadb2ff7b90cea5b28e663beee6a4432836aa0c31e439b\nrun r1; peer alice XRP 9; peer bob USD 2\n200 1 credited bob 6b32 8 2 8\n\0\0";
 
 // The two of them.
 const WHOLE: &[u8] =
-    b"ilp-journal 1\n100 1 asked bob 7\n200 1 confirmed 0\n300 1 asked bob 8\nend 3\n";
+    b"ilp-journal 1\n100 1 credited bob 6b31 7 2 7\n200 1 credited bob 6b32 8 2 8\nend 2\n";
 
-const NEXT_TEXT: &[u8] = b"ilp-journal 2 1\n300 0 opened bob 15\nend 1\n";
+const NEXT_TEXT: &[u8] =
+    b"ilp-journal 2 1\n200 0 opened bob 15\n200 0 known bob 6b31 7 2 7\n200 0 known bob 6b32 8 2 8\nend 3\n";
 
 const NEXT_LOG: &[u8] = b"a log that goes on from the next text";
 
 const OTHER_LOG: &[u8] =
-    b"ilp-log 1 0 e3b0c44298fc1c149afbf4c8996fb92427ae41e4649b934ca495991b7852b855\nrun r1\n200 1 asked bob 9\n";
+    b"ilp-log 1 0 e3b0c44298fc1c149afbf4c8996fb92427ae41e4649b934ca495991b7852b855\nrun r1\n200 1 credited bob 6b39 9 2 9\n";
 
 // A disk with these files.
 fn disk_with(alloc: Global, faults: Faults, files: &[(&str, &[u8])]) -> io::Result<Disk> {
@@ -161,6 +164,72 @@ fn expect_either(rt: &impl Abort, disk: &Disk, when: When) -> Result<(), Fail> {
         assert!(rt; has(disk, ENDED, when, OLD_LOG)? && has(disk, NEXT, when, NEXT_TEXT)?);
     } else {
         assert!(rt; is_kept && has(disk, JOURNAL, when, NEXT_TEXT)?);
+    }
+    Ok(())
+}
+
+const TWO_PEERS: &str = r#"address = "test.hub"
+run = "r1"
+[[asset]]
+code = "USD"
+scale = 2
+[[asset]]
+code = "XRP"
+scale = 9
+[[peer]]
+name = "alice"
+asset = "XRP/9"
+token = "a-token"
+out_token = "to-alice"
+host = "127.0.0.1:7001"
+least = 0
+[[peer]]
+name = "bob"
+asset = "USD/2"
+token = "b-token"
+out_token = "to-bob"
+host = "127.0.0.1:7002"
+least = 0
+"#;
+
+// Goes on with the book of this text, over a disk.
+fn go_on(rt: &(impl Abort + AllocGlobal), disk: &Disk, text: &[u8]) -> Result<(), Fail> {
+    let alloc = rt.alloc();
+    let Ok(config) = Config::read(alloc, TWO_PEERS.as_bytes()) else {
+        panic!(rt; "no configuration");
+    };
+    let Ok(book) = Book::carry_over(alloc, &config, text, 300) else {
+        panic!(rt; "no book");
+    };
+    let machine = Machine(disk);
+    let taken = JournalFile::take(&machine, alloc, JOURNAL)?;
+    let file = BookFile {
+        rt: &machine,
+        config: &config,
+        file: &taken,
+        path: JOURNAL,
+    };
+    file.go_on(&book)?;
+    Ok(())
+}
+
+#[test]
+fn a_period_before_the_one_that_goes_on_is_kept_first(rt: HostRuntime) -> Result<(), Fail> {
+    let disk = disk_with(rt.alloc(), NEVER, &ASIDE)?;
+    go_on(&rt, &disk, NEXT_TEXT)?;
+    expect_kept(&rt, &disk)
+}
+
+#[test]
+fn what_a_period_was_to_begin_with_goes_where_the_one_before_goes_on(
+    rt: HostRuntime,
+) -> Result<(), Fail> {
+    let disk = disk_with(rt.alloc(), NEVER, &ASIDE)?;
+    disk.take_away(LOG)?;
+    go_on(&rt, &disk, WHOLE)?;
+    assert!(rt; has(&disk, JOURNAL, When::Stopped, WHOLE)?);
+    for gone in [ENDED, NEXT, PERIOD] {
+        assert!(rt; !is_there(&disk, gone, When::Stopped)?);
     }
     Ok(())
 }
