@@ -56,8 +56,8 @@ where
         configs: ConfigPath<'r, R>,
         sides: Sides,
     ) -> Result<RunPeriod<LogDevice<'r, R, File>>, ServeFault>
-        ensures closed { IfOk result (λ period. IsClosed (desk_of_book begun.book) period.run.book) }
-        ensures refused { IfErr result (IsWhyUnclosed (desk_of_book begun.book)) }
+        ensures closed { IfOk result (λ period. IsClosed (desk_of_book begun.entry.book) period.run.book) }
+        ensures refused { IfErr result (IsWhyUnclosed (desk_of_book begun.entry.book)) }
     {
         let (rt, path) = (self.rt, self.path);
         thread::scope(
@@ -65,8 +65,8 @@ where
             rt,
             move |scope| -> Result<RunPeriod<LogDevice<'_, R, File>>, ServeFault>
                 requires { IsSend R.row × IsSync R.row }
-                ensures closed { IfOk result (λ period. IsClosed (desk_of_book begun.book) period.run.book) }
-                ensures refused { IfErr result (IsWhyUnclosed (desk_of_book begun.book)) }
+                ensures closed { IfOk result (λ period. IsClosed (desk_of_book begun.entry.book) period.run.book) }
+                ensures refused { IfErr result (IsWhyUnclosed (desk_of_book begun.entry.book)) }
             {
                 // Where no thread can be started it is kept at the end of this one.
                 let _keeping = scope.spawn(move || rt.keep_ended(path));
