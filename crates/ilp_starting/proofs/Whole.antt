@@ -10,14 +10,14 @@ use Rattle.ilp_journal_text.specs.Text.{entry_line, entry_lines, end_line, first
 use Rattle.ilp_line_file.specs.Text.{text_of}
 use Rattle.ilp_log_text.specs.Text.{PlainLogText}
 use Rattle.ilp_starting.specs.Beginning.{line_count}
-use Rattle.ilp_starting.specs.Ended.{IsWhole}
+use Rattle.ilp_starting.specs.Ended.{IsWholeText}
 
 -- how the last line is spelt
 pub end_spelt : (count : ℕ) → codes "end " ++ (decimal count ++ codes "\n") ≡ end_line count
 end_spelt count = ap (λ (digits : List ℕ). codes "end " ++ (digits ++ 10 ∷ [])) (sym (append-nil (decimal count)))
 
 pub whole_text : (C : Configuration) (period : ℕ) (j logged : Entries) (log : PlainLogText) (whole : List ℕ) → log.count ≡ length j
-    → text_of log.lines ≡ entry_lines C logged → line_count (text_of log.lines) ≡ length logged → IsWhole (journal_text C period j) log whole
+    → text_of log.lines ≡ entry_lines C logged → line_count (text_of log.lines) ≡ length logged → IsWholeText (journal_text C period j) log whole
     → whole ≡ journal_text C period (j ++ logged)
 whole_text C period j logged log whole count lines as_many is =
     let first = first_line period in

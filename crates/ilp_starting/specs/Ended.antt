@@ -7,7 +7,7 @@ use Rattle.ilp_starting.specs.Beginning.{line_count}
 
 -- The whole text of a period, of that of its journal and of the log that goes on from it: the log's lines stand before the last line,
 -- which counts them too.
-pub record IsWhole (saved : List ℕ) (log : PlainLogText) (whole : List ℕ) : Type 0 where
+pub record IsWholeText (saved : List ℕ) (log : PlainLogText) (whole : List ℕ) : Type 0 where
   pub front : List ℕ
   pub is : saved ≡ front ++ end_line log.count
   pub all : whole ≡ front ++ (text_of log.lines ++ end_line (log.count + line_count (text_of log.lines)))

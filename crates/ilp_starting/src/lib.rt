@@ -12,7 +12,7 @@
 //!   journal has all that it has. Where it is refused, the refusal names why
 //!   (`specs/Beginning.antt`, `BeginsBy`, `IsWhyNotBegunBy`).
 //! - The text that `keep_ended` keeps of a period has the journal's entries and behind them the log's lines
-//!   (`specs/Ended.antt`, `IsWhole`), of a log that goes on from that text. By `whole_text` it is the text of all
+//!   (`specs/Ended.antt`, `IsWholeText`), of a log that goes on from that text. By `whole_text` it is the text of all
 //!   these entries.
 //! - `config_of`: the configuration of the octets, or the refusal by their first fault or for want of
 //!   memory (`specs/Configuring.antt`).

@@ -3,7 +3,7 @@ ghost use Rattle.std.specs.Prelude.{◌≡◌, ◌++◌, codes, option_map, stri
 ghost use Rattle.std.specs.Fmt.{decimal};
 ghost use Rattle.ilp_journal_text.specs.Text.{end_line};
 ghost use Rattle.ilp_starting.specs.Beginning.{saved_or_none};
-ghost use Rattle.ilp_starting.specs.Ended.{IsWhole};
+ghost use Rattle.ilp_starting.specs.Ended.{IsWholeText};
 
 use crate::carrying::{NO_ENTRIES, line_count};
 use ilp_io::{Sink, WriteFault, put_all};
@@ -29,7 +29,7 @@ impl<'t> WholePeriod<'t> {
         log: &LogText<'t>,
     ) -> Result<Option<WholePeriod<'t>>, AllocError>
         ensures whole { IfOk result (λ found. IfSome found (λ whole.
-            IsWhole (saved_or_none (option_map (λ t. t.now) text.entry)) log.now
+            IsWholeText (saved_or_none (option_map (λ t. t.now) text.entry)) log.now
             (whole.front.now ++ (whole.lines.now ++ string_bytes whole.end)))) }
     {
         match text {
@@ -45,7 +45,7 @@ impl<'t> WholePeriod<'t> {
         log: &LogText<'t>,
     ) -> Result<Option<WholePeriod<'t>>, AllocError>
         ensures whole { IfOk result (λ found. IfSome found (λ whole.
-            IsWhole saved.now log.now (whole.front.now ++ (whole.lines.now ++ string_bytes whole.end)))) }
+            IsWholeText saved.now log.now (whole.front.now ++ (whole.lines.now ++ string_bytes whole.end)))) }
     {
         let last = end_line(alloc, u64::from(log.count()))?;
         let Some(front) = saved.strip_suffix(last.as_bytes()) else {
