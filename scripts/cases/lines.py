@@ -49,9 +49,12 @@ INCOMPLETE = "journal: its log lacks what was booked last: keep the report until
 OPEN_HOLDS = (rf"\d+ holds that went on to (?P<peer>{NAME}) were open, of \d+ in all: what (?P=peer) fulfilled of "
               r"them it may say that it is owed; the last that was handed on may be missing here")
 
-# Why a start is refused by a log, which is told without a time.
+# Why a start is refused by a log, and by one that was set aside, which is told without a time.
 OF_ANOTHER_TEXT = (rf"journal {PATH}: its log goes on from another text, and the journal lacks what the log has: put "
                    r"both back as they stood together, or move the log away and lose what it has")
+ENDED_OF_ANOTHER_TEXT = (rf"journal {PATH}: the log of an ended period beside it, named .ended, is of another text, and "
+                         r"what it has stands nowhere else: put both back as they stood together, or move that one "
+                         r"away and lose what it has")
 
 # What is told of a period's file that has another text, and of a peer that a next period leaves out.
 ANOTHER_PERIOD = (rf"{PATH} has another text than the period that is to be kept there, and is never written again: "

@@ -9,7 +9,7 @@ from pathlib import Path
 from cases.case import case, expect, expect_that
 from cases.journals import SETTLEMENTS, Kept, keys_of
 from cases.laboratory import END, Laboratory, close, credit, expect_served, post_close
-from cases.lines import PATH
+from cases.lines import ENDED_OF_ANOTHER_TEXT
 from cases.messages import created, response
 from cases.program import Program, Setup
 from cases.stand_ins import ACCEPTS, FULFILLS, engine_of, in_turn, never_answers
@@ -224,7 +224,7 @@ def period_whose_log_was_set_aside(laboratory: Laboratory) -> None:
     expect("what stands there", kept.files(), ["journal", "journal.lock", "journal.log"])
     close(program, alice=-35, bob=1042)
     kept.beside("ended").write_bytes(aside["journal.ended"].replace(b"ilp-log 1 ", b"ilp-log 1 1"))
-    kept.expect_refused("73 JournalUnread", f"journal {PATH}: its log goes on from another text, .+")
+    kept.expect_refused("73 JournalUnread", ENDED_OF_ANOTHER_TEXT)
 
 
 @case

@@ -10,7 +10,7 @@ from dataclasses import dataclass, field
 from pathlib import Path
 
 from cases.case import Differs, expect, expect_that
-from cases.lines import OF_ANOTHER_TEXT, WARNING, Line, check_lines, read_lines
+from cases.lines import ENDED_OF_ANOTHER_TEXT, OF_ANOTHER_TEXT, WARNING, Line, check_lines, read_lines
 from cases.messages import HERE, connect
 from cases.stand_ins import free_port
 
@@ -214,7 +214,8 @@ class Program:
     def refused_to_run(self) -> bool:
         """Whether its configuration was refused, or a text of its journal, which is told without a time."""
         text = self.output()
-        has_time = text.startswith(TOLD_WITH_A_TIME) and not re.search(f"(?m)^{OF_ANOTHER_TEXT}$", self.errors())
+        untimed = f"(?m)^({OF_ANOTHER_TEXT}|{ENDED_OF_ANOTHER_TEXT})$"
+        has_time = text.startswith(TOLD_WITH_A_TIME) and not re.search(untimed, self.errors())
         return text.startswith("refused ") and not has_time
 
     def await_listening(self, within: float = 10.0) -> None:

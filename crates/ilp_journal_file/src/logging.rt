@@ -81,7 +81,7 @@ impl Names {
         })
     }
 
-    /// Removes a file of which the journal has all, where it is there, and has the system keep that it is gone.
+    /// Removes a file that is needed no more, where it is there, and has the system keep that it is gone.
     /// Where it can't be removed a line says so.
     pub(crate) fn remove<R: Files + Clock + Eprint>(
         &self,

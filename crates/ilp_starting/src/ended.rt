@@ -4,7 +4,7 @@ ghost use Rattle.ilp_starting.specs.Beginning.{GoesOn};
 ghost use Rattle.ilp_starting.specs.declared.ended.Aside.TheVariants as asides;
 
 use crate::finding::octets_of;
-use crate::not_carried::of_another_text;
+use crate::not_carried::ended_of_another_text;
 use crate::refused::Refused;
 use crate::whole_period::WholePeriod;
 use ilp_journal_file::{FileFault, JournalFile};
@@ -31,7 +31,7 @@ pub(crate) enum Aside {
 /// that is still to be done. A stop at any moment of it leaves what the same call goes on from.
 ///
 /// Refusals: `JournalUnread` where a file can't be read, or the log that was set aside is of another journal;
-/// `WriteFault` where one can't be written. A line on standard error says more. `Memory`.
+/// `WriteFault` where one can't be written; `Memory`. A line on standard error says more, or the refusal.
 pub fn keep_ended<R, F>(rt: &R, file: &JournalFile<F>, path: &str) -> Result<(), Refused>
 where
     R: AllocGlobal + Files + Clock + Eprint,
@@ -41,20 +41,20 @@ where
         return Ok(());
     };
     let Ok(log) = LogText::read(&octets) else {
-        return Err(of_another_text(alloc, path));
+        return Err(ended_of_another_text(alloc, path));
     };
     let text = file.read(rt, alloc)?;
     let text = octets_of(&text);
     match aside_of(rt, file, text, &log)? {
         Aside::Ended => {
             let Some(whole) = WholePeriod::of(alloc, text, &log)? else {
-                return Err(of_another_text(alloc, path));
+                return Err(ended_of_another_text(alloc, path));
             };
             keep_whole(rt, file, text, &whole)?;
         }
         Aside::InForce => file.take_back(rt)?,
         Aside::Over => file.remove_ended(rt)?,
-        Aside::Strange => return Err(of_another_text(alloc, path)),
+        Aside::Strange => return Err(ended_of_another_text(alloc, path)),
     }
     Ok(())
 }

@@ -3,7 +3,7 @@ ghost use Rattle.std.specs.Prelude.{◌≡◌, length, IfOk};
 
 use crate::carrying::{Carried, Source, book_of};
 use crate::ended::{Aside, aside_of};
-use crate::not_carried::of_another_text;
+use crate::not_carried::ended_of_another_text;
 use crate::refused::Refused;
 use crate::remembering::expect_unchanged;
 use ilp_accounts::Config;
@@ -45,14 +45,14 @@ where
         return Ok(found);
     };
     let Ok(log) = LogText::read(&ended) else {
-        return Err(of_another_text(alloc, path));
+        return Err(ended_of_another_text(alloc, path));
     };
     let mut found = found;
     match aside_of(rt, &file, octets_of(&found.text), &log)? {
         Aside::Ended => found.text = file.read_next(rt, alloc)?,
         Aside::InForce => found.log = Some(ended),
         Aside::Over => {}
-        Aside::Strange => return Err(of_another_text(alloc, path)),
+        Aside::Strange => return Err(ended_of_another_text(alloc, path)),
     }
     Ok(found)
 }

@@ -86,6 +86,17 @@ pub(crate) fn of_another_text(alloc: Global, path: &str) -> Refused
     Refused::because(Refusal::JournalUnread, why)
 }
 
+/// That a log which was set aside as its period ended goes on from another text than that of the journal beside it,
+/// and nobody has kept what it has.
+pub(crate) fn ended_of_another_text(alloc: Global, path: &str) -> Refused
+    ensures { result.refusal ≡ refusals.JournalUnread }
+{
+    let why = format!(in alloc;
+        "journal {path:?}: the log of an ended period beside it, named .ended, is of another text, and what it has stands nowhere else: put both back as they stood together, or move that one away and lose what it has"
+    );
+    Refused::because(Refusal::JournalUnread, why)
+}
+
 fn bad_line(alloc: Global, path: &str, text: &[u8], line: u64) -> Result<String, AllocError> {
     let expected = expected_at(alloc, text, line)?;
     format!(in alloc; "{path:?} line {line}: expected {expected}")
