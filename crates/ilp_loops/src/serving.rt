@@ -475,8 +475,8 @@ impl<J: Naming, C: Clock + Drop, K: Keeper<J> + Drop> Serving<J, C, K> {
     }
 
     /// Ends a turn. The senders of packets that are booked are told: a Fulfill once the journal is kept
-    /// that has it, which one keeping is for all of. Without somebody to ask for that, it is waited for.
-    /// Those whose service is over give back their places.
+    /// that has it, which one keeping is for all of. Without somebody to ask for that, it is waited for,
+    /// and so it is where no loop has anything else. Those whose service is over give back their places.
     pub(crate) fn end_turn<R: Wait + time::Clock + Eprint + Net>(
         &mut self,
         shared: &Shared<'_, J, R>,
@@ -494,7 +494,7 @@ impl<J: Naming, C: Clock + Drop, K: Keeper<J> + Drop> Serving<J, C, K> {
         }
         if let Some(asker) = asker {
             if !self.booked.is_empty() {
-                asker.ask(shared.rt);
+                self.have_kept(shared, registry, asker, now);
             }
         }
         for _ in 0..self.over.len() {
@@ -505,6 +505,24 @@ impl<J: Naming, C: Clock + Drop, K: Keeper<J> + Drop> Serving<J, C, K> {
                 leave(shared, registry, guest);
             }
         }
+    }
+
+    // Has the journal kept for those that are booked. Whoever is asked for that hands it back later than it
+    // takes, so a packet that is all that the loops have is kept here.
+    fn have_kept<R: Wait + time::Clock + Eprint + Net>(
+        &mut self,
+        shared: &Shared<'_, J, R>,
+        registry: &Registry,
+        asker: &KeepingAsker,
+        now: Duration,
+    ) {
+        if !shared.places.has_one_alone(shared.rt) {
+            asker.ask(shared.rt);
+            return;
+        }
+        let handed = self.flight.keep();
+        self.answer_behind(&handed, now);
+        self.send_answers(shared, registry, now);
     }
 
     /// Whether a sender may be told now whose packet was booked before.

@@ -1,5 +1,6 @@
 //! With what a connector goes on behind a period.
 
+use ilp_book::Book;
 use ilp_journal_file::LogDevice;
 use ilp_line_file::Device;
 use ilp_running::BegunPeriod;
@@ -18,9 +19,18 @@ pub(crate) enum Change {
 #[derive(Drop)]
 pub(crate) struct Followed<D: Device + Drop> {
     pub(crate) period: BegunPeriod<D>,
+    /// The book of the period that ended, where its log was set aside: its text is still to be kept.
+    pub(crate) unkept: Option<Book>,
     pub(crate) change: Change,
     /// What whoever asked for another configuration is told; nothing where memory for it is short.
     pub(crate) told: Option<String>,
+}
+
+/// A period that begins, and the book of the one before it, where the text of that is still to be kept.
+#[derive(Drop)]
+pub(crate) struct NextPeriod<D: Device + Drop> {
+    pub(crate) period: BegunPeriod<D>,
+    pub(crate) unkept: Option<Book>,
 }
 
 /// With what a connector goes on whose log, where it has one, is a file.

@@ -1,6 +1,6 @@
 //! Periods of a connector whose books are kept in a journal's file and beside it.
 ghost use denote.Param.Send.{IsSend, IsSync};
-ghost use Rattle.std.specs.Prelude.{◌≡◌, ◌≤◌, length, IfOk, IfErr};
+ghost use Rattle.std.specs.Prelude.{◌≡◌, ◌≤◌, length, None, IfOk, IfErr, IfSome};
 ghost use Rattle.ilp_running.specs.Serving.{desk_of_book, IsClosed, IsOfNoDesk, IsWhyUnclosed};
 ghost use Rattle.ilp_serve.specs.Following.{BeginsAs, FollowsAs};
 ghost use Rattle.ilp_serve.specs.declared.followed.Change.TheVariants as changes;
@@ -48,10 +48,12 @@ where
         + KeepsPeriods
         + Net<Listener = TcpListener, Stream = TcpStream>,
 {
-    /// Runs a connector for a period between these, and has the period before it kept as a whole meanwhile.
+    /// Runs a connector for a period between these, and has the text kept meanwhile of the one before it, where that
+    /// is still to be done: this is its book.
     pub(crate) fn run(
         &self,
         begun: BegunPeriod<LogDevice<'r, R, File>>,
+        unkept: Option<Book>,
         links: &TcpLinks<SystemClock<R>>,
         configs: ConfigPath<'r, R>,
         sides: Sides,
@@ -60,6 +62,9 @@ where
         ensures refused { IfErr result (IsWhyUnclosed (desk_of_book begun.entry.book)) }
     {
         let (rt, path) = (self.rt, self.path);
+        let Some(ended) = unkept else {
+            return run_begun(rt, begun, links, configs, sides);
+        };
         thread::scope(
             thread::scope_env(),
             rt,
@@ -69,7 +74,7 @@ where
                 ensures refused { IfErr result (IsWhyUnclosed (desk_of_book begun.entry.book)) }
             {
                 // Where no thread can be started it is kept at the end of this one.
-                let _keeping = scope.spawn(move || rt.keep_ended(path));
+                let _keeping = scope.spawn(move || rt.keep_set_aside(path, &ended));
                 run_begun(rt, begun, links, configs, sides)
             },
         )
@@ -86,6 +91,7 @@ where
         is_logged: bool,
     ) -> Result<FollowedBy<'r, R>, ServeFault>
         ensures follows { IfOk result (λ f. FollowsAs f.change book next f.period.book) }
+        ensures unkept { IfOk result (λ f. IfSome f.unkept (λ ended. ended ≡ book)) }
         ensures refused { IfErr result IsOfNoDesk }
     {
         match next_books(self.rt.alloc(), book, next)? {
@@ -109,14 +115,17 @@ where
     ) -> Result<FollowedBy<'r, R>, ServeFault>
         requires opening { length next.entries ≡ next.base }
         ensures book { IfOk result (λ f. BeginsAs f.change ended next f.period.book) }
+        ensures unkept { IfOk result (λ f. IfSome f.unkept (λ b. b ≡ ended)) }
         ensures refused { IfErr result IsOfNoDesk }
     {
         let rt = self.rt;
         match keep_behind(rt, self.file, self.path, &ended, &next, is_logged) {
-            Ok(kept) => {
-                drop(ended);
-                self.logged(next, kept, Change::NewPeriod, told)
-            }
+            Ok(kept) => Ok(Followed {
+                period: self.logged(next, kept),
+                unkept: unless_whole(ended, kept),
+                change: Change::NewPeriod,
+                told,
+            }),
             Err(refused) => {
                 drop(next);
                 self.forget_kept(&ended);
@@ -147,35 +156,29 @@ where
     ) -> Result<FollowedBy<'r, R>, ServeFault>
         requires opening { length book.entries ≡ book.base }
         ensures book { IfOk result (λ f. (f.change ≡ changes.None) × (f.period.book ≡ book)) }
+        ensures unkept { IfOk result (λ f. f.unkept ≡ None) }
         ensures refused { IfErr result IsOfNoDesk }
     {
         no_next_period(self.rt, self.path, &refused.refusal, why_of(refused));
-        self.logged(book, Kept::Whole, Change::None, told)
+        Ok(Followed {
+            period: self.logged(book, Kept::Whole),
+            unkept: None,
+            change: Change::None,
+            told,
+        })
     }
 
     // A period of this book, whose text the file has then, and a log that goes on from it. Both sides wait
     // until they can be written: what was told of the book may stand nowhere else, so it isn't left.
-    fn logged(
-        &self,
-        book: Book,
-        kept: Kept,
-        change: Change,
-        told: Option<String>,
-    ) -> Result<FollowedBy<'r, R>, ServeFault>
+    fn logged(&self, book: Book, kept: Kept) -> BegunPeriod<LogDevice<'r, R, File>>
         requires opening { length book.entries ≡ book.base }
-        ensures book { IfOk result (λ f. (f.change ≡ change) × (f.period.book ≡ book)) }
-        ensures refused { IfErr result IsOfNoDesk }
+        ensures { result.book ≡ book }
     {
         let log = self.log_of(&book, kept);
-        let period = BegunPeriod {
+        BegunPeriod {
             book,
             log: Some(log),
-        };
-        Ok(Followed {
-            period,
-            change,
-            told,
-        })
+        }
     }
 
     // A log that goes on from this book. What can't be written is told, and tried again until it can.
@@ -200,5 +203,15 @@ where
             }
         }
         unreachable!()
+    }
+}
+
+// The book of a period that ended, unless its text is kept.
+fn unless_whole(ended: Book, kept: Kept) -> Option<Book>
+    ensures { IfSome result (λ book. book ≡ ended) }
+{
+    match kept {
+        Kept::Whole => None,
+        Kept::Aside => Some(ended),
     }
 }

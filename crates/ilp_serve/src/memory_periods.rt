@@ -1,5 +1,5 @@
 //! Periods of a connector whose books are nowhere kept.
-ghost use Rattle.std.specs.Prelude.{IfOk, IfErr};
+ghost use Rattle.std.specs.Prelude.{◌≡◌, None, IfOk, IfErr};
 ghost use Rattle.ilp_running.specs.Serving.{IsOfNoDesk};
 ghost use Rattle.ilp_serve.specs.Following.{FollowsAs};
 
@@ -19,6 +19,7 @@ pub(crate) fn follow_unkept<D: Device + Drop>(
     next: Option<Config>,
 ) -> Result<Followed<D>, ServeFault>
     ensures follows { IfOk result (λ f. FollowsAs f.change book next f.period.book) }
+    ensures unkept { IfOk result (λ f. f.unkept ≡ None) }
     ensures refused { IfErr result IsOfNoDesk }
 {
     match next_books(alloc, book, next)? {
@@ -31,11 +32,13 @@ pub(crate) fn follow_unkept<D: Device + Drop>(
                 book: next,
                 log: None,
             },
+            unkept: None,
             change: Change::NewPeriod,
             told,
         }),
         NextBooks::Same { book, told, .. } => Ok(Followed {
             period: BegunPeriod { book, log: None },
+            unkept: None,
             change: Change::None,
             told,
         }),

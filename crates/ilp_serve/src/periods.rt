@@ -1,12 +1,12 @@
 //! A connector from its first period on.
-ghost use Rattle.std.specs.Prelude.{Some, None, Option, IfOk, IfErr};
+ghost use Rattle.std.specs.Prelude.{◌≡◌, Some, None, Option, IfOk, IfErr, IfSome};
 ghost use Rattle.ilp_accounts.specs.Configuration.{Configuration};
 ghost use Rattle.ilp_running.specs.Serving.{desk_of_book, IsClosed, IsOfNoDesk, IsWhyUnclosed};
 ghost use Rattle.ilp_serve.specs.Following.{Follows, FollowsAs};
 ghost use Rattle.ilp_serve.specs.Periods.{ComesTo, EndsBy};
 
 use crate::config_path::{ConfigPath, ReadsConfigs};
-use crate::followed::{Change, Followed, FollowedBy};
+use crate::followed::{Change, Followed, FollowedBy, NextPeriod};
 use crate::journal_periods::JournalPeriods;
 use crate::keeping::KeepsPeriods;
 use crate::memory_periods::follow_unkept;
@@ -56,14 +56,17 @@ where
     {
         let rt = self.rt;
         let mut sides = open_sides(rt, first.book.config(), self.kept.is_some())?;
-        let mut begun = first;
+        let mut next = NextPeriod {
+            period: first,
+            unkept: None,
+        };
         for _ in rt.forever() {
-            let RunPeriod { run, sides: left } = self.run_one(begun, sides)?;
+            let RunPeriod { run, sides: left } = self.run_one(next, sides)?;
             let Some(left) = left else {
                 return Ok(run.book);
             };
             sides = left;
-            begun = self.go_on(run, &mut sides)?;
+            next = self.go_on(run, &mut sides)?;
         }
         unreachable!()
     }
@@ -71,13 +74,17 @@ where
     // Runs it for a period.
     fn run_one(
         &self,
-        begun: BegunPeriod<LogDevice<'r, R, File>>,
+        next: NextPeriod<LogDevice<'r, R, File>>,
         sides: Sides,
     ) -> Result<RunPeriod<LogDevice<'r, R, File>>, ServeFault>
-        ensures closed { IfOk result (λ period. IsClosed (desk_of_book begun.entry.book) period.run.book) }
-        ensures refused { IfErr result (IsWhyUnclosed (desk_of_book begun.entry.book)) }
+        ensures closed { IfOk result (λ period. IsClosed (desk_of_book next.entry.period.book) period.run.book) }
+        ensures refused { IfErr result (IsWhyUnclosed (desk_of_book next.entry.period.book)) }
     {
         let rt = self.rt;
+        let NextPeriod {
+            period: begun,
+            unkept,
+        } = next;
         let Ok(links) = links_of(rt, begun.book.config()) else {
             return Err(ServeFault::Unprinted(Unprinted::Memory));
         };
@@ -86,7 +93,7 @@ where
             path: self.config_path,
         };
         match &self.kept {
-            Some(kept) => kept.run(begun, &links, configs, sides),
+            Some(kept) => kept.run(begun, unkept, &links, configs, sides),
             None => run_begun(rt, begun, &links, configs, sides),
         }
     }
@@ -97,9 +104,10 @@ where
         &self,
         ended: ClosedRun<LogDevice<'r, R, File>>,
         sides: &mut Sides,
-    ) -> Result<BegunPeriod<LogDevice<'r, R, File>>, ServeFault>
-        ensures follows { IfOk result (λ period. (asked : Option Configuration)
-            × Follows ended.entry.book asked period.book) }
+    ) -> Result<NextPeriod<LogDevice<'r, R, File>>, ServeFault>
+        ensures follows { IfOk result (λ next. (asked : Option Configuration)
+            × Follows ended.entry.book asked next.period.book) }
+        ensures unkept { IfOk result (λ next. IfSome next.unkept (λ book. book ≡ ended.entry.book)) }
         ensures refused { IfErr result IsOfNoDesk }
     {
         let rt = self.rt;
@@ -121,15 +129,21 @@ where
         &self,
         ended: ClosedRun<LogDevice<'r, R, File>>,
         sides: &mut Sides,
-    ) -> Result<BegunPeriod<LogDevice<'r, R, File>>, ServeFault>
-        ensures follows { IfOk result (λ period. Follows ended.entry.book None period.book) }
+    ) -> Result<NextPeriod<LogDevice<'r, R, File>>, ServeFault>
+        ensures follows { IfOk result (λ next. Follows ended.entry.book None next.period.book) }
+        ensures unkept { IfOk result (λ next. IfSome next.unkept (λ book. book ≡ ended.entry.book)) }
         ensures refused { IfErr result IsOfNoDesk }
     {
-        let Followed { period, change, .. } = self.follow(ended, None)?;
+        let Followed {
+            period,
+            unkept,
+            change,
+            ..
+        } = self.follow(ended, None)?;
         if change == Change::None {
             sides.go_on_for_now(self.rt);
         }
-        Ok(period)
+        Ok(NextPeriod { period, unkept })
     }
 
     // The same by another configuration, for which the sides have room. Who asked for it is told what became
@@ -141,12 +155,14 @@ where
         room: SidesRoom,
         asker: Asker,
         sides: &mut Sides,
-    ) -> Result<BegunPeriod<LogDevice<'r, R, File>>, ServeFault>
-        ensures follows { IfOk result (λ period. Follows ended.entry.book (Some config) period.book) }
+    ) -> Result<NextPeriod<LogDevice<'r, R, File>>, ServeFault>
+        ensures follows { IfOk result (λ next. Follows ended.entry.book (Some config) next.period.book) }
+        ensures unkept { IfOk result (λ next. IfSome next.unkept (λ book. book ≡ ended.entry.book)) }
         ensures refused { IfErr result IsOfNoDesk }
     {
         let Followed {
             period,
+            unkept,
             change,
             told,
         } = self.follow(ended, Some(config))?;
@@ -155,7 +171,7 @@ where
         }
         tell_asker(self.rt, asker, change, &told);
         sides.free();
-        Ok(period)
+        Ok(NextPeriod { period, unkept })
     }
 
     // What comes behind a period: by another configuration where one is given, else by the same.
@@ -165,6 +181,7 @@ where
         next: Option<Config>,
     ) -> Result<FollowedBy<'r, R>, ServeFault>
         ensures follows { IfOk result (λ f. FollowsAs f.change ended.entry.book next f.period.book) }
+        ensures unkept { IfOk result (λ f. IfSome f.unkept (λ book. book ≡ ended.entry.book)) }
         ensures refused { IfErr result IsOfNoDesk }
     {
         let ClosedRun { book, log } = ended;

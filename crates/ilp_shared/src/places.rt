@@ -184,6 +184,12 @@ impl Places {
         HeldBack::BOTH
     }
 
+    /// Whether one packet or message is in flight, and the loops have nothing else.
+    pub fn has_one_alone(&self, rt: &impl Wait) -> bool {
+        let taken = self.taken.lock(rt);
+        taken.flow.flying() == 1 && taken.local == 0
+    }
+
     /// How many may be in flight at once.
     pub fn in_flight(&self) -> u32 {
         self.in_flight

@@ -6,8 +6,10 @@ ghost use Rattle.ilp_starting.specs.declared.ended.Aside.TheVariants as asides;
 use crate::finding::octets_of;
 use crate::not_carried::ended_of_another_text;
 use crate::refused::Refused;
+use crate::saved::Saved;
 use crate::whole_period::WholePeriod;
-use ilp_journal_file::{FileFault, JournalFile};
+use ilp_book::Book;
+use ilp_journal_file::{Content, FileFault, JournalFile};
 use ilp_journal_text::JournalText;
 use ilp_log_text::LogText;
 use std::io::Eprint;
@@ -50,13 +52,32 @@ where
             let Some(whole) = WholePeriod::of(alloc, text, &log)? else {
                 return Err(ended_of_another_text(alloc, path));
             };
-            keep_whole(rt, file, text, &whole)?;
+            keep_whole(rt, file, period_of(text), &whole)?;
         }
         Aside::InForce => file.take_back(rt)?,
         Aside::Over => file.remove_ended(rt)?,
         Aside::Strange => return Err(ended_of_another_text(alloc, path)),
     }
     Ok(())
+}
+
+/// The same where the book of the period that ended is at hand, and its log was set aside: its text is written of that.
+/// Nothing is read, and what it holds in memory doesn't grow with the book.
+///
+/// Refusals: `WriteFault` where a file can't be written; `JournalUnread` where one of the period has another text;
+/// `Memory`. A line on standard error says more.
+pub fn keep_set_aside<R, F>(rt: &R, file: &JournalFile<F>, book: &Book) -> Result<(), Refused>
+where
+    R: AllocGlobal + Files + Clock + Eprint,
+{
+    let whole = Saved {
+        book,
+        config: book.config(),
+    };
+    match keep_whole(rt, file, book.period(), &whole) {
+        Ok(()) => Ok(()),
+        Err(fault) => Err(Refused::from(fault)),
+    }
 }
 
 /// Removes what a period behind this one was to begin with, where it is there: this one goes on.
@@ -72,17 +93,17 @@ where
     }
 }
 
-// Keeps a period, of which this is the text, behind that of the journal.
+// Keeps a period, of which this is the text, and has the next one be the journal.
 fn keep_whole<R, F>(
     rt: &R,
     file: &JournalFile<F>,
-    text: Option<&[u8]>,
-    whole: &WholePeriod<'_>,
+    period: u32,
+    whole: &impl Content,
 ) -> Result<(), FileFault>
 where
     R: AllocGlobal + Files + Clock + Eprint,
 {
-    file.keep_period(rt, rt.alloc(), period_of(text), whole)?;
+    file.keep_period(rt, rt.alloc(), period, whole)?;
     file.begin_next(rt)?;
     file.remove_ended(rt)
 }

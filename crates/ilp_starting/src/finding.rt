@@ -34,8 +34,8 @@ where
     found_book(rt, config, path, &found)
 }
 
-// What a start would find where the log of a period was set aside, once that is kept.
-fn behind_ended<R>(rt: &R, path: &str, found: Found) -> Result<Found, Refused>
+/// What a start would find where the log of a period was set aside, once that is kept.
+pub(crate) fn behind_ended<R>(rt: &R, path: &str, found: Found) -> Result<Found, Refused>
 where
     R: AllocGlobal + Files + time::Clock + Eprint,
 {

@@ -11,7 +11,7 @@
 //!   from, the log's lines are recovered with it; a log of another text is passed over only where the
 //!   journal has all that it has. Where it is refused, the refusal names why
 //!   (`specs/Beginning.antt`, `BeginsBy`, `IsWhyNotBegunBy`).
-//! - The text that `keep_ended` keeps of a period has the journal's entries and behind them the log's lines
+//! - The text that `keep_set_aside` keeps of a period is that of its book (`Saved`), and the one of `keep_ended` has the journal's entries and behind them the log's lines
 //!   (`specs/Ended.antt`, `IsWholeText`), of a log that goes on from that text. By `whole_text` it is the text of all
 //!   these entries.
 //! - `config_of`: the configuration of the octets, or the refusal by their first fault or for want of
@@ -34,14 +34,16 @@ mod remembering;
 mod saved;
 mod warning;
 mod whole_period;
+mod written;
 
 pub use book_file::{Begun, BookFile};
 pub use carrying::{Carried, Source, book_of, new_book};
 pub use configuring::{config_octets, config_of, configured, noticed};
-pub use ended::keep_ended;
+pub use ended::{keep_ended, keep_set_aside};
 pub use finding::book_at;
 pub use host::Host;
 pub use ilp_journal_file::PlacesFiles;
 pub use refused::{Refused, RunFault};
 pub use saved::Saved;
 pub use warning::{JournalWarnings, Telling, tell_warnings};
+pub use written::{WrittenBook, written_book_at};

@@ -5,7 +5,7 @@ use ilp_accounts::Config;
 use ilp_book::Book;
 use ilp_journal_file::{FileFault, JournalFile};
 use ilp_refusals::Refusal;
-use ilp_starting::{BookFile, Refused, keep_ended};
+use ilp_starting::{BookFile, Refused, keep_ended, keep_set_aside};
 use std::alloc::Global;
 use std::io;
 use std::process::Abort;
@@ -62,6 +62,35 @@ fn set_aside(machine: &Machine<'_>, alloc: Global) -> Result<(), FileFault> {
 fn keep(machine: &Machine<'_>, alloc: Global) -> Result<(), Refused> {
     let file = JournalFile::take(machine, alloc, JOURNAL)?;
     keep_ended(machine, &file, JOURNAL)
+}
+
+// Keeps what was set aside, of the book of the period that ended.
+fn keep_of_book(machine: &Machine<'_>, alloc: Global) -> Result<(), Refused> {
+    let Ok(config) = Config::read(alloc, TWO_PEERS.as_bytes()) else {
+        return Err(Refused::from(Refusal::ConfigUnread));
+    };
+    let Ok(book) = Book::carry_over(alloc, &config, WHOLE, 300) else {
+        return Err(Refused::from(Refusal::JournalUnread));
+    };
+    let file = JournalFile::take(machine, alloc, JOURNAL)?;
+    keep_set_aside(machine, &file, &book)
+}
+
+// Of what the text of a period is made.
+#[derive(Clone, Copy)]
+enum Source {
+    Files,
+    Book,
+}
+
+impl Source {
+    // Keeps what was set aside.
+    fn keep(self, machine: &Machine<'_>, alloc: Global) -> Result<(), Refused> {
+        match self {
+            Source::Files => keep(machine, alloc),
+            Source::Book => keep_of_book(machine, alloc),
+        }
+    }
 }
 
 #[test]
@@ -127,19 +156,30 @@ fn expect_kept(rt: &impl Abort, disk: &Disk) -> Result<(), Fail> {
 
 #[test]
 fn each_call_fails_once_where_a_period_is_kept(rt: HostRuntime) -> Result<(), Fail> {
-    fail_keeping(&rt, 1)
+    fail_keeping(&rt, Source::Files, 1)
 }
 
 #[test]
 fn the_machine_stops_where_a_period_is_kept(rt: HostRuntime) -> Result<(), Fail> {
-    fail_keeping(&rt, u32::MAX)
+    fail_keeping(&rt, Source::Files, u32::MAX)
 }
 
-// Keeps a period with so many calls that fail, from each call on, and then again what a machine that stops has.
-fn fail_keeping(rt: &(impl Abort + AllocGlobal), count: u32) -> Result<(), Fail> {
+#[test]
+fn each_call_fails_once_where_a_period_is_kept_of_its_book(rt: HostRuntime) -> Result<(), Fail> {
+    fail_keeping(&rt, Source::Book, 1)
+}
+
+#[test]
+fn the_machine_stops_where_a_period_is_kept_of_its_book(rt: HostRuntime) -> Result<(), Fail> {
+    fail_keeping(&rt, Source::Book, u32::MAX)
+}
+
+// Keeps a period with so many calls that fail, from each call on, and then again what a machine that stops has, of its
+// files.
+fn fail_keeping(rt: &(impl Abort + AllocGlobal), source: Source, count: u32) -> Result<(), Fail> {
     for first in 0..MOST_CALLS {
         let disk = disk_with(rt.alloc(), Faults { first, count }, &ASIDE)?;
-        let is_kept = keep(&Machine(&disk), rt.alloc()).is_ok();
+        let is_kept = source.keep(&Machine(&disk), rt.alloc()).is_ok();
         for when in [When::Now, When::Stopped] {
             expect_either(rt, &disk, when)?;
             let left = Disk::new(rt.alloc(), NEVER);
@@ -271,21 +311,30 @@ fn what_is_of_another_journal_stays(rt: HostRuntime) -> Result<(), Fail> {
         &rt,
         &[(JOURNAL, OLD_TEXT), (ENDED, OLD_LOG), (LOG, NEXT_LOG)],
     )?;
-    expect_refused(
-        &rt,
-        &[
-            (JOURNAL, OLD_TEXT),
-            (ENDED, OLD_LOG),
-            (NEXT, NEXT_TEXT),
-            (PERIOD, OLD_TEXT),
-        ],
-    )
+    expect_refused(&rt, &PERIOD_DIFFERS)?;
+    expect_refused_from(&rt, Source::Book, &PERIOD_DIFFERS)
 }
+
+// Where another text is kept of the period.
+const PERIOD_DIFFERS: [(&str, &[u8]); 4] = [
+    (JOURNAL, OLD_TEXT),
+    (ENDED, OLD_LOG),
+    (NEXT, NEXT_TEXT),
+    (PERIOD, OLD_TEXT),
+];
 
 // It is refused, and all files stay.
 fn expect_refused(rt: &(impl Abort + AllocGlobal), files: &[(&str, &[u8])]) -> Result<(), Fail> {
+    expect_refused_from(rt, Source::Files, files)
+}
+
+fn expect_refused_from(
+    rt: &(impl Abort + AllocGlobal),
+    source: Source,
+    files: &[(&str, &[u8])],
+) -> Result<(), Fail> {
     let disk = disk_with(rt.alloc(), NEVER, files)?;
-    let kept = keep(&Machine(&disk), rt.alloc());
+    let kept = source.keep(&Machine(&disk), rt.alloc());
     assert!(rt; kept.is_err_and(|refused| refused.refusal == Refusal::JournalUnread));
     for (name, text) in files {
         assert!(rt; has(&disk, name, When::Now, text)?);

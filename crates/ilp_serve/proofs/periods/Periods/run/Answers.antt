@@ -10,11 +10,11 @@ returns-in_err-sides-clause-refused g c =
     rw (p.1, p.2) (ends_behind first first c.in_err-sides.field-0.0 (reaches_first first) c.in_err-sides.ensures.refused)
 
 -- No next period could be begun.
-pub returns-in_err-begun-clause-refused : goal.returns-in_err-begun-clause-refused
-returns-in_err-begun-clause-refused g c =
-    let p = err_from_is_err_and c.from_residual-in_err-begun.result c.from_residual-in_err-begun.ensures.1 in
-    rw (p.1, p.2) (ends_behind c.args.first.book c.loop.begun.book c.in_err-begun.field-0.0 c.loop.invariant c.in_err-begun.ensures.refused)
+pub returns-in_err-next-clause-refused : goal.returns-in_err-next-clause-refused
+returns-in_err-next-clause-refused g c =
+    let p = err_from_is_err_and c.from_residual-in_err-next.result c.from_residual-in_err-next.ensures.1 in
+    rw (p.1, p.2) (ends_behind c.args.first.book c.loop.next.period.book c.in_err-next.field-0.0 c.loop.invariant c.in_err-next.ensures.refused)
 
 pub loop-preserved : goal.loop-preserved
 loop-preserved g c =
-    reaches_next c.args.first.book c.loop.begun.book c.in_ok-run.field-0.run.book c.in_ok-begun.begun.book c.loop.invariant c.in_ok-run.ensures.closed c.in_ok-begun.ensures.follows
+    reaches_next c.args.first.book c.loop.next.period.book c.in_ok-run.field-0.run.book c.in_ok-next.next.period.book c.loop.invariant c.in_ok-run.ensures.closed c.in_ok-next.ensures.follows
