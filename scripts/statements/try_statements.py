@@ -1,0 +1,34 @@
+#!/usr/bin/env python3
+"""Tries scripts/statement.py, examples/reconcile.py and examples/report_page.py; the exit status is 1 where one of them
+does not do what is meant.
+
+    scripts/statements/try_statements.py
+"""
+import sys
+from pathlib import Path
+
+sys.path.insert(0, str(Path(__file__).resolve().parent.parent))
+
+from cases.case import Differs  # noqa: E402
+from statements import by_hand, pages, reconciling  # noqa: E402
+
+TRIES = (by_hand.try_rows, by_hand.try_moments, by_hand.try_texts,
+         reconciling.try_planted, reconciling.try_parts, reconciling.try_sums,
+         reconciling.try_matches, reconciling.try_dispute, reconciling.try_bad_input,
+         pages.try_examples, pages.try_small, pages.try_periods, pages.try_great, pages.try_many)
+
+
+def main() -> int:
+    differed = 0
+    for one in TRIES:
+        try:
+            one()
+            said = "ok"
+        except Differs as differs:
+            said, differed = str(differs), differed + 1
+        print(f"{one.__name__}: {said}", flush=True)
+    return 1 if differed else 0
+
+
+if __name__ == "__main__":
+    sys.exit(main())
