@@ -4,8 +4,10 @@ scripts/statements/reckoned.py, which shares nothing with the crates.
 
     scripts/statement.py CONFIG JOURNAL PEER [FROM [TO]]
 
-FROM and TO are in milliseconds since 1970: entries are listed from FROM on, and before TO. The exit status is 1 where
-a file is not as it must be, and 2 where the arguments are not understood.
+Entries are listed from FROM on, and before TO: each is a date, which stands for its midnight in UTC, or a moment such
+as 2026-11-26T20:00:00Z, with up to three decimals of the second. What JOURNAL.log has counts where it goes on from
+JOURNAL, be it in use or not, and what is open stays so. The exit status is 1 where a file is not as it must be, and 2
+where the arguments are not understood.
 """
 import sys
 

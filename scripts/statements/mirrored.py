@@ -2,16 +2,18 @@
 import hashlib
 import random
 from collections import Counter
-from collections.abc import Iterable
+from collections.abc import Iterable, Iterator
 from dataclasses import dataclass, field
+
+from killing.period_books import book_of
 
 # A peer of each book is the other one, and a second one stands behind it.
 NAMES = {"ours": ("them", "shop"), "theirs": ("us", "bank")}
-RUN = "first"
+RUNS = {"ours": "hub", "theirs": "spoke"}
 BEGIN = 1_795_723_200_000
 
 
-def configuration(names: Iterable[str], scale: int, run: str = RUN) -> str:
+def configuration(names: Iterable[str], scale: int, run: str = "hub") -> str:
     """A configuration of these peers, of which a statement takes no more."""
     peers = "".join(f'[[peer]]\nname = "{name}"\nasset = "USD/{scale}"\nleast = -1000\n' for name in names)
     return f'run = "{run}"\n[[asset]]\ncode = "USD"\nscale = {scale}\n{peers}'
@@ -100,25 +102,39 @@ class Books:
 
     def texts(self) -> dict[str, str]:
         """Both journals, in order of time."""
+        return self.texts_of(self.happenings, 0, {book: [] for book in NAMES})
+
+    def texts_of_periods(self) -> Iterator[dict[str, str]]:
+        """Both journals of what happened before the cut, and both of the next period. No hold may be open there."""
+        earlier = self.texts_of([one for one in self.happenings if one.moment < self.cut], 0,
+                                {book: [] for book in NAMES})
+        yield earlier
+        heads = {book: book_of(text.encode()).head_behind(NAMES[book]) for book, text in earlier.items()}
+        yield self.texts_of([one for one in self.happenings if one.moment >= self.cut], 1, heads)
+
+    def texts_of(self, happenings: list[Happening], period: int, heads: dict[str, list[str]]) -> dict[str, str]:
+        """Both journals of a period, which begins with what was brought forward."""
         keys: dict[int, str] = {}
         numbered: dict[str, list[tuple[int, Happening]]] = {book: [] for book in NAMES}
-        for happening in sorted(self.happenings, key=lambda one: one.moment):
-            entries = numbered[happening.book]
+        for happening in sorted(happenings, key=lambda one: one.moment):
+            book, entries = happening.book, numbered[happening.book]
+            number = len(heads[book]) + len(entries)
             if happening.what == "asked":
-                keys[happening.thread] = f"{RUN}-{len(entries)}".encode().hex()
-            entries.append((len(entries), happening))
-        return {book: self.text(entries, keys) for book, entries in numbered.items()}
+                keys[happening.thread] = f"{RUNS[book]}{f'.{period}' if period else ''}-{number}".encode().hex()
+            entries.append((number, happening))
+        first = f"ilp-journal 2 {period}" if period else "ilp-journal 1"
+        return {book: "\n".join([first, *(f"{self.cut} 0 {line}" for line in heads[book]), *lines_of(entries, keys),
+                                 f"end {len(heads[book]) + len(entries)}\n"]) for book, entries in numbered.items()}
 
-    def text(self, entries: list[tuple[int, Happening]], keys: dict[int, str]) -> str:
-        """A journal of these entries, by their numbers."""
-        begun: dict[int, int] = {}
-        lines = ["ilp-journal 1"]
-        for number, one in entries:
-            ends = one.thread in begun
-            begun.setdefault(one.thread, number)
-            fields = f"{begun[one.thread]} {one.fields}".rstrip() if ends else one.fields
-            lines.append(f"{one.moment} 0 {one.what} {fields}".replace("KEY", keys.get(one.thread, "6b")))
-        return "\n".join([*lines, f"end {len(entries)}\n"])
+
+def lines_of(entries: list[tuple[int, Happening]], keys: dict[int, str]) -> Iterator[str]:
+    """The lines of entries, by their numbers."""
+    begun: dict[int, int] = {}
+    for number, one in entries:
+        ends = one.thread in begun
+        begun.setdefault(one.thread, number)
+        fields = f"{begun[one.thread]} {one.fields}".rstrip() if ends else one.fields
+        yield f"{one.moment} 0 {one.what} {fields}".replace("KEY", keys.get(one.thread, "6b"))
 
 
 # ---- what may happen, each with the group that must have it, and its sum

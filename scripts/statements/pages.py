@@ -5,6 +5,7 @@ import hashlib
 import io
 import random
 import tempfile
+from itertools import accumulate
 from pathlib import Path
 from xml.etree import ElementTree
 
@@ -15,12 +16,16 @@ import markup
 import report_page
 from cases.case import expect, expect_that
 from charts import Columns
-from statements.by_hand import CONFIGURATION, FIRST, LOG, MET, SECOND, ZERO
+from statements.by_hand import CONFIGURATION, ENDED_LOG, FIRST, MET, SECOND, ZERO
 from statements.mirrored import configuration
 
 HTML, SVG = "{http://www.w3.org/1999/xhtml}", "{http://www.w3.org/2000/svg}"
 HOUR, MOST = 3_600_000, 2**64 - 1
 EVENING = 1_795_723_200_000
+
+# All elements of a page, none of which asks for another file; and attributes that would.
+ELEMENTS = set("html head meta title style body h1 h2 h3 p table thead tbody tr th td svg text line polyline".split())
+ASKING = {"src", "srcset", "href", "data", "action", "style", "http-equiv", "{http://www.w3.org/1999/xlink}href"}
 
 Page = ElementTree.Element
 
@@ -32,7 +37,19 @@ def page_of(config: str, **files: str) -> Page:
         for kind, text in files.items():
             name = "journal" if kind == "journal" else f"journal.{kind.removeprefix('kept_')}"
             Path(folder, name).write_text(text, encoding="ascii")
-        return ElementTree.fromstring(report_page.make_page(Path(folder, "hub.toml"), Path(folder, "journal")))
+        page = ElementTree.fromstring(report_page.make_page(Path(folder, "hub.toml"), Path(folder, "journal")))
+    expect_alone(page)
+    return page
+
+
+def expect_alone(page: Page) -> None:
+    """A page asks for no other file, and has no scripts."""
+    expect("elements that are none of a page", {one.tag.rpartition("}")[2] for one in page.iter()} - ELEMENTS, set())
+    attributes = {name for one in page.iter() for name in one.attrib}
+    expect("attributes that ask for a file, or have scripts",
+           {name for name in attributes if name in ASKING or name.startswith("on")}, set())
+    style = page.findtext(f"{HTML}head/{HTML}style") or ""
+    expect_that("the styles ask for a file", "@" not in style and "url" not in style)
 
 
 def journal(entries: list[str], period: int = 0) -> str:
@@ -108,10 +125,10 @@ def try_periods() -> None:
     begun = second[:second.index(last)] + "end 7\n"
     log = (f"ilp-log 1 7 {hashlib.sha256(begun.encode()).hexdigest()}\nrun hub; peer alice USD 2; peer bob USD 2\n"
            f"{last}\n{last[:9]}")
-    kept = journal(FIRST.splitlines()[1:-1] + LOG.splitlines()[2:-1])
+    kept = journal(FIRST.splitlines()[1:-1] + ENDED_LOG.splitlines()[2:])
     pages = [page_of(CONFIGURATION, kept_0=kept, journal=second),
              page_of(CONFIGURATION, kept_0=kept, journal=begun, log=log),
-             page_of(CONFIGURATION, journal=FIRST, ended=LOG, next=begun, log=log)]
+             page_of(CONFIGURATION, journal=FIRST, ended=ENDED_LOG, next=begun, log=log)]
     for page in pages:
         expect("the hours", rows_of(page, "Packets an hour"),
                [["2026-11-26T20:00:00.000Z", "4", "2", "1", "1"], ["2026-11-26T21:00:00.000Z", "1", "0", "0", "0"],
@@ -173,13 +190,19 @@ def try_many() -> None:
 
 def try_columns(chance: random.Random) -> None:
     """Columns keep the extremes of what lies in them, and the last of it."""
-    columns, numbers, moment = Columns(50), [], EVENING
-    for _ in range(5000):
-        moment += chance.choice((0, 1, chance.randrange(1000)))
-        numbers.append((moment, chance.randrange(-(2**127), 2**127)))
-        columns.note(*numbers[-1])
+    moments = list(accumulate((chance.choice((0, 1, chance.randrange(1000))) for _ in range(5000)), initial=EVENING))
+    numbers = [(moment, chance.randrange(-(2**127), 2**127)) for moment in moments]
+    columns = columns_of(numbers)
     expect_that("there are too many columns", 25 <= len(columns.columns) <= 50)
     for begin, column in columns.over_time():
         inside = [number for when, number in numbers if begin <= when < begin + columns.span]
         expect("the extremes of a column, and its last number", (column.least, column.most, column.last),
                (min(inside), max(inside), inside[-1]))
+
+
+def columns_of(numbers: list[tuple[int, int]]) -> Columns:
+    """At most fifty columns of numbers, each with its moment."""
+    columns = Columns(50)
+    for moment, number in numbers:
+        columns.note(moment, number)
+    return columns

@@ -1,5 +1,7 @@
 """The statement of a peer's account, reckoned entry by entry by the book of scripts/killing."""
 import csv
+import datetime
+import re
 import sys
 import tomllib
 from collections.abc import Iterable
@@ -7,28 +9,31 @@ from dataclasses import dataclass
 from pathlib import Path
 from typing import TextIO
 
-from amounts_and_times import decimal_of, time_of
+from amounts_and_times import EPOCH, MILLISECOND, decimal_of, time_of
 from cases.case import Differs
-from killing.books import Hold, entries_kept, period_in
+from killing.books import entries_kept, period_in
 from killing.period_books import PeriodBook, read_standing
 from statement_rows import HEADER
 
 USAGE = "usage: scripts/statement.py CONFIG JOURNAL PEER [FROM [TO]]"
 
+# A date, which stands for its midnight, or a moment; both in UTC.
+MOMENT = re.compile(r"[0-9]{4}-[0-9]{2}-[0-9]{2}(?:T[0-9]{2}:[0-9]{2}:[0-9]{2}(?:\.[0-9]{1,3})?Z)?")
+
 
 @dataclass(frozen=True)
 class Configuration:
-    """What a statement takes from a configuration: the name of the run, and the scale of each peer's asset."""
+    """What a statement takes from a configuration: the name of the run, and each peer's asset with its scale."""
 
     run: str
-    scales: dict[str, int]
+    assets: dict[str, tuple[str, int]]
 
 
 def configuration_of(text: str) -> Configuration:
     """What a configuration in TOML says of that."""
     read = tomllib.loads(text)
-    assets = {f"{asset['code']}/{asset['scale']}": asset["scale"] for asset in read["asset"]}
-    return Configuration(read["run"], {peer["name"]: assets[peer["asset"]] for peer in read["peer"]})
+    scales = {f"{asset['code']}/{asset['scale']}": asset["scale"] for asset in read["asset"]}
+    return Configuration(read["run"], {peer["name"]: (peer["asset"], scales[peer["asset"]]) for peer in read["peer"]})
 
 
 # ---- rows
@@ -40,6 +45,8 @@ class Said:
     what: str
     amount: int
     other: str = ""
+    ends: str = ""
+    cause: str = ""
     condition: str = ""
     key: str = ""
 
@@ -56,17 +63,27 @@ class Row:
 
 
 @dataclass(frozen=True)
+class Edge:
+    """Where a statement begins or ends: the moment that was asked for, the entry behind, and the balance there."""
+
+    moment: int | None
+    entry: int
+    balance: int
+
+
+@dataclass(frozen=True)
 class Statement:
-    """The balance before the first of the rows, the rows, and the balance behind the last."""
+    """Where it begins, its rows, and where it ends."""
 
-    opening: int
+    opening: Edge
     rows: list[Row]
-    closing: int
+    closing: Edge
 
 
-def text_of(key: str) -> str:
-    """A key that is in hexadecimal, in printable ASCII: other octets are escaped."""
-    return "".join(chr(octet) if 32 <= octet <= 126 else f"\\x{octet:02x}" for octet in bytes.fromhex(key))
+def text_of(key: bytes) -> str:
+    """A key in printable ASCII. What a spreadsheet would take for a formula begins with an escape."""
+    return "".join(f"\\x{octet:02x}" if not 32 <= octet <= 126 or octet == 0x5C or place == 0 and octet in b"=+-@"
+                   else chr(octet) for place, octet in enumerate(key))
 
 
 class Account(PeriodBook):
@@ -76,12 +93,15 @@ class Account(PeriodBook):
         super().__init__(period)
         self.peer, self.run = peer, run
         self.rows: list[Row] = []
+        # Those of all entries.
+        self.moments: list[int] = []
 
     def add(self, line: str) -> None:
         """The next entry, and its row where it is the peer's."""
         moment, _actor, what, *fields = line.split(" ")
         said, entry, before = self.said_of(what, fields), self.count, self.balances[self.peer]
         super().add(line)
+        self.moments.append(int(moment))
         if said is not None:
             self.rows.append(Row(int(moment), entry, said, before, self.balances[self.peer]))
 
@@ -99,48 +119,56 @@ class Account(PeriodBook):
     def said_of(self, what: str, fields: list[str]) -> Said | None:
         """What the next entry is to the peer, if it is the peer's."""
         if what in ("fulfilled", "released"):
-            hold = self.holds[int(fields[0])]
-            return self.of_hold(hold, *(("paid", "received") if what == "fulfilled" else ("returned", "refused")))
+            return self.of_end(what, *fields)
         if what in ("confirmed", "undone"):
             peer, amount = self.asks[int(fields[0])]
-            return Said(what, amount, key=self.keys[int(fields[0])]) if peer == self.peer else None
+            key = text_of(self.keys[int(fields[0])].encode())
+            return Said(what, amount, ends=fields[0], key=key) if peer == self.peer else None
         if fields[0] != self.peer:
             return None
         if what == "hold":
-            return Said("sent", int(fields[2]), fields[1], fields[6])
+            return Said("sent", int(fields[2]), fields[1], condition=fields[6])
         if what == "credited":
-            return Said(what, int(fields[4]), key=text_of(fields[1]))
+            return Said(what, int(fields[4]), key=text_of(bytes.fromhex(fields[1])))
         if what == "asked":
-            return Said(what, int(fields[1]), key=self.next_key())
+            return Said(what, int(fields[1]), key=text_of(self.next_key().encode()))
         return Said(what, int(fields[1])) if what == "opened" else None
 
-    def of_hold(self, hold: Hold, of_sender: str, of_receiver: str) -> Said | None:
-        """What the end of a hold is to the peer, where it is at one side of it."""
+    def of_end(self, what: str, number: str, *last: str) -> Said | None:
+        """What the end of a hold is to the peer, where it is at one side of it. Behind its number stand the preimage,
+        or the cause."""
+        hold = self.holds[int(number)]
+        is_paid, cause = what == "fulfilled", "" if what == "fulfilled" else " ".join(last)
         if hold.sender == self.peer:
-            return Said(of_sender, hold.amount, hold.receiver, hold.condition)
+            return Said("paid" if is_paid else "returned", hold.amount, hold.receiver, number, cause, hold.condition)
         if hold.receiver == self.peer:
-            return Said(of_receiver, hold.out, hold.sender, hold.condition)
+            return Said("received" if is_paid else "refused", hold.out, hold.sender, number, cause, hold.condition)
         return None
 
 
 # ---- statements
 
-def rows_of(configuration: Configuration, journal: bytes | None, log: bytes | None, peer: str) -> list[Row]:
-    """All rows of a peer, by a journal and its log as a start reads them. A text that isn't there is that of an
+def account_of(configuration: Configuration, journal: bytes | None, log: bytes | None, peer: str) -> Account:
+    """The account of a peer, by a journal and its log as a start reads them. A text that isn't there is that of an
     opening. What is open stays so."""
-    if peer not in configuration.scales:
+    if peer not in configuration.assets:
         raise Differs(f"the configuration has no peer {peer}")
     account = Account(peer, configuration.run, period_in(journal) if journal is not None else 0)
     account.extend(entries_kept(journal, log))
-    return account.rows
+    return account
 
 
-def between(rows: list[Row], since: int | None, until: int | None) -> Statement:
-    """The statement of the rows from a moment on and before another one."""
-    earlier = [row for row in rows if since is not None and row.moment < since]
-    opening = earlier[-1].balance if earlier else 0
-    listed = [row for row in rows[len(earlier):] if until is None or row.moment < until]
-    return Statement(opening, listed, listed[-1].balance if listed else opening)
+def edge_at(account: Account, moment: int | None, entry: int) -> Edge:
+    """What there is before an entry."""
+    return Edge(moment, entry, next((row.balance for row in reversed(account.rows) if row.entry < entry), 0))
+
+
+def between(account: Account, since: int | None, until: int | None) -> Statement:
+    """The statement of the entries from a moment on and before another one. If that is earlier there are none."""
+    first = 0 if since is None else sum(moment < since for moment in account.moments)
+    behind = account.count if until is None else max(sum(moment < until for moment in account.moments), first)
+    listed = [row for row in account.rows if first <= row.entry < behind]
+    return Statement(edge_at(account, since, first), listed, edge_at(account, until, behind))
 
 
 def fields_of(row: Row, scale: int) -> Iterable[str]:
@@ -148,24 +176,34 @@ def fields_of(row: Row, scale: int) -> Iterable[str]:
     said, moved = row.said, row.balance - row.before
     rises, falls = (decimal_of(abs(moved), scale) if is_so else "" for is_so in (moved > 0, moved < 0))
     return (time_of(row.moment), str(row.entry), said.what, said.other, decimal_of(said.amount, scale), rises, falls,
-            decimal_of(row.balance, scale), said.condition, said.key)
+            decimal_of(row.balance, scale), said.ends, said.cause, said.condition, said.key)
 
 
-def edge_of(what: str, balance: int, scale: int) -> Iterable[str]:
+def fields_of_edge(what: str, edge: Edge, scale: int) -> Iterable[str]:
     """The fields of the first row, or of the last."""
-    return "", "", what, "", "", "", "", decimal_of(balance, scale), "", ""
+    time = "" if edge.moment is None else time_of(edge.moment)
+    return time, str(edge.entry), what, "", "", "", "", decimal_of(edge.balance, scale), "", "", "", ""
 
 
-def write_statement(statement: Statement, scale: int, file: TextIO) -> None:
-    """Writes a statement in CSV."""
-    writer = csv.writer(file, lineterminator="\n")
+def write_statement(configuration: Configuration, account: Account, moments: list[int], file: TextIO) -> None:
+    """Writes a statement in CSV, from the first moment on and before the second, if they are given."""
+    statement = between(account, *[*moments, None, None][:2])
+    asset, scale = configuration.assets[account.peer]
+    writer = csv.writer(file, lineterminator="\r\n")
     writer.writerow(HEADER)
-    writer.writerow(edge_of("opening", statement.opening, scale))
-    writer.writerows(fields_of(row, scale) for row in statement.rows)
-    writer.writerow(edge_of("closing", statement.closing, scale))
+    rows = (fields_of_edge("opening", statement.opening, scale), *(fields_of(row, scale) for row in statement.rows),
+            fields_of_edge("closing", statement.closing, scale))
+    writer.writerows((configuration.run, str(account.period), account.peer, asset, *row) for row in rows)
 
 
 # ---- the program
+
+def moment_in(text: str) -> int:
+    """The milliseconds since 1970 of a date or a moment."""
+    if MOMENT.fullmatch(text) is None:
+        raise ValueError(text)
+    return (datetime.datetime.fromisoformat(text.removesuffix("Z")) - EPOCH) // MILLISECOND
+
 
 def print_statement(config: Path, journal: Path, peer: str, moments: list[int]) -> None:
     """Prints the statement of a peer, from the first moment on and before the second, if they are given."""
@@ -176,18 +214,20 @@ def print_statement(config: Path, journal: Path, peer: str, moments: list[int]) 
     text, log, _ = read_standing(journal)
     if text is None and log is None:
         raise Differs(f"{journal} is not there, and no log is beside it")
-    since, until = [*moments, None, None][:2]
-    statement = between(rows_of(configuration, text, log, peer), since, until)
-    write_statement(statement, configuration.scales[peer], sys.stdout)
+    write_statement(configuration, account_of(configuration, text, log, peer), moments, sys.stdout)
 
 
 def main(words: list[str]) -> int:
     """The exit status: 1 where a file is not as it must be, 2 where the arguments are not understood."""
-    if not 3 <= len(words) <= 5 or not all(word.isascii() and word.isdigit() for word in words[3:]):
+    try:
+        moments = [moment_in(word) for word in words[3:]]
+    except ValueError:
+        moments = []
+    if not 3 <= len(words) <= 5 or len(moments) != len(words) - 3:
         print(USAGE, file=sys.stderr)
         return 2
     try:
-        print_statement(Path(words[0]), Path(words[1]), words[2], [int(word) for word in words[3:]])
+        print_statement(Path(words[0]), Path(words[1]), words[2], moments)
     except (Differs, OSError) as why:
         print(f"statement.py: {why}", file=sys.stderr)
         return 1

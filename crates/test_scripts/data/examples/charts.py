@@ -7,6 +7,7 @@ from __future__ import annotations
 
 from collections.abc import Iterable, Iterator
 from dataclasses import dataclass, field
+from itertools import count
 
 from amounts_and_times import moment_of, shown
 from markup import element, escaped
@@ -104,12 +105,8 @@ def step_of(span: int) -> int:
     >>> [step_of(span) for span in (1, 7, 12, 99, 2**128)]
     [1, 2, 5, 20, 100000000000000000000000000000000000000]
     """
-    step = 1
-    while True:
-        for times in (1, 2, 5):
-            if span <= step * times * MOST_TICKS:
-                return step * times
-        step *= 10
+    return next(step for power in count() for step in (10**power, 2 * 10**power, 5 * 10**power)
+                if span <= step * MOST_TICKS)
 
 
 class Plane:
@@ -153,13 +150,12 @@ def points_of(line: Columns, plane: Plane) -> list[str]:
     points: list[str] = []
     last: int | None = None
     for moment, column in line.over_time():
-        before = column.least if last is None else last
-        for number in (before, column.least, column.most, column.last):
-            point = f"{plane.x(moment)},{plane.y(number)}"
-            if points[-1:] != [point]:
-                points.append(point)
+        x, before = plane.x(moment), column.least if last is None else last
+        points += [f"{x},{plane.y(number)}" for number in (before, column.least, column.most, column.last)]
         last = column.last
-    return points if last is None else [*points, f"{RIGHT},{plane.y(last)}"]
+    # Of points that are the same, one behind the other, the first is kept.
+    kept = [point for point, before in zip(points, ["", *points]) if point != before]
+    return kept if last is None else [*kept, f"{RIGHT},{plane.y(last)}"]
 
 
 def label(x: int, y: int, text: str, anchor: str = "start") -> str:

@@ -96,9 +96,7 @@ class Figures:
     def read(self, part: Part) -> None:
         """Takes up the entries of a period."""
         self.open_before = {one.key: one for one in self.asks.values()}
-        self.holds, self.asks = {}, {}
-        for account in self.accounts.values():
-            account.balance = account.holds = account.held = 0
+        self.reset()
         in_head = True
         for entry in entries_of(part):
             self.begin(part.period, entry)
@@ -108,6 +106,12 @@ class Figures:
             self.take(entry)
         if in_head:
             self.note_all()
+
+    def reset(self) -> None:
+        """A period begins with nothing but what its head says."""
+        self.holds, self.asks = {}, {}
+        for account in self.accounts.values():
+            account.balance = account.holds = account.held = 0
 
     def begin(self, number: int, entry: Entry) -> None:
         """The next entry of a period, which may be its first."""

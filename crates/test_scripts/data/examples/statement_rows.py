@@ -1,25 +1,46 @@
-"""The statement of a peer's account, as `connector statement CONFIG JOURNAL PEER --csv` prints it: its rows, read and
-judged. reconcile.py uses it. It needs Python 3.11 and nothing else.
+"""The rows of a peer's statement, as `connector statement CONFIG JOURNAL PEER --csv` prints them, each read and judged.
+
+statement_reading.py uses it. It needs Python 3.11 and nothing else.
 """
 from __future__ import annotations
 
-import csv
 import re
+from collections.abc import Collection
 from dataclasses import dataclass
-from pathlib import Path
 
-HEADER = ["time", "entry", "what", "with", "amount", "in", "out", "balance", "condition", "key"]
+ACCOUNT = ["run", "period", "peer", "asset"]
+HEADER = [*ACCOUNT, "time", "entry", "what", "with", "amount", "in", "out", "balance", "ends", "cause", "condition",
+          "key"]
+# What the rows opening and closing have beside the account.
+EDGE = ["time", "entry", "what", "balance"]
 
 # What an entry is to the peer, and how often its amount goes into the balance.
 MOVES = {"opened": 1, "sent": -1, "paid": 0, "returned": 1, "received": 1, "refused": 0,
          "credited": 1, "asked": -1, "confirmed": 0, "undone": 1}
 PACKETS = ("sent", "paid", "returned", "received", "refused")
 SETTLEMENTS = ("credited", "asked", "confirmed", "undone")
+# What ends something, and of that what has begun in a row of the same peer's, and in which.
+ENDING = ("paid", "returned", "received", "refused", "confirmed", "undone")
+BEGUN = {"paid": "sent", "returned": "sent", "confirmed": "asked", "undone": "asked"}
 
 TIME = re.compile(r"[0-9]{4}-[0-9]{2}-[0-9]{2}T[0-9]{2}:[0-9]{2}:[0-9]{2}\.[0-9]{3}Z")
-ENTRY = re.compile(r"0|[1-9][0-9]{0,9}")
+NUMBER = re.compile(r"0|[1-9][0-9]{0,9}")
 DECIMAL = re.compile(r"(-?)(0|[1-9][0-9]{0,59})(?:\.([0-9]{1,255}))?")
+PEER = re.compile(r"[a-z0-9_-]{1,16}")
+CAUSE = re.compile(r"Late|WrongPreimage|NoReply|Restart|Peer [0-9a-f]{6}")
 CONDITION = re.compile(r"[0-9a-f]{64}")
+KEY = re.compile(r"(?![=+@-])(?:[ -\[\]-~]|\\x[0-9a-f]{2})+")
+
+# What the columns of an account have.
+ACCOUNTS = {"run": re.compile(r"[A-Za-z0-9-]{1,32}"), "period": NUMBER, "peer": PEER,
+            "asset": re.compile(r"[A-Z0-9]{1,12}/(?:0|[1-9][0-9]{0,2})")}
+# What other columns have, and in which rows; in others they are empty.
+COLUMNS: dict[str, tuple[re.Pattern[str], Collection[str]]] = {
+    "time": (TIME, MOVES), "entry": (NUMBER, MOVES), "with": (PEER, PACKETS), "ends": (NUMBER, ENDING),
+    "cause": (CAUSE, ("returned", "refused")), "condition": (CONDITION, PACKETS), "key": (KEY, SETTLEMENTS)}
+
+# A row by its columns.
+Fields = dict[str, str]
 
 
 class NoStatement(Exception):
@@ -27,9 +48,34 @@ class NoStatement(Exception):
 
 
 @dataclass(frozen=True)
+class Account:
+    """Whose account a statement is of: the connector by its run, the peer by its name there, and its asset."""
+
+    run: str
+    peer: str
+    asset: str
+
+    @property
+    def scale(self) -> int:
+        """How many decimals an amount has."""
+        return int(self.asset.partition("/")[2])
+
+
+@dataclass(frozen=True)
+class Edge:
+    """Where a statement begins or ends: before an entry of a period, at a moment if one was given; and the balance."""
+
+    period: int
+    time: str
+    entry: int
+    balance: int
+
+
+@dataclass(frozen=True)
 class Row:
     """A row of an entry; amounts are in units, and `moved` is what it did to the balance."""
 
+    period: int
     time: str
     entry: int
     what: str
@@ -37,18 +83,20 @@ class Row:
     amount: int
     moved: int
     balance: int
+    ends: int | None
+    cause: str
     condition: str
     key: str
 
 
 @dataclass(frozen=True)
 class Statement:
-    """The balance before the first of the rows, the rows, and the balance behind the last."""
+    """Where it begins, its rows, and where it ends. What goes on in a next period is not opened again."""
 
-    scale: int
-    opening: int
+    account: Account
+    opening: Edge
     rows: list[Row]
-    closing: int
+    closing: Edge
 
 
 def expect(holds: object, why: str) -> None:
@@ -59,88 +107,57 @@ def expect(holds: object, why: str) -> None:
 
 # ---- a row
 
-def decimal_in(text: str, column: str) -> re.Match[str]:
-    """The parts of a decimal: its sign, what is before the point, and what is behind it."""
-    found = DECIMAL.fullmatch(text)
+def units_in(fields: Fields, column: str, scale: int) -> int:
+    """The units of a decimal of this scale."""
+    found = DECIMAL.fullmatch(fields[column])
     if found is None:
         raise NoStatement(f"its {column} is no decimal")
-    return found
-
-
-def scale_in(text: str) -> int:
-    """How many decimals a balance has."""
-    return len(decimal_in(text, "balance")[3] or "")
-
-
-def units_in(text: str, scale: int, column: str) -> int:
-    """The units of a decimal of this scale."""
-    sign, whole, decimals = decimal_in(text, column).groups(default="")
-    expect(len(decimals) == scale, f"its {column} has not the {scale} decimals of the first balance")
+    sign, whole, decimals = found.groups(default="")
+    expect(len(decimals) == scale, f"its {column} has not the {scale} decimals of its asset")
     return int(sign + whole + decimals)
 
 
-def movement_in(rises: str, falls: str, scale: int) -> int:
+def movement_in(fields: Fields, scale: int) -> int:
     """By how much a row says that its entry raises the balance, or lowers it."""
-    expect(not (rises and falls), "it has an in and an out")
-    return units_in(rises, scale, "in") if rises else -units_in(falls, scale, "out") if falls else 0
+    expect(not (fields["in"] and fields["out"]), "it has an in and an out")
+    rises = units_in(fields, "in", scale) if fields["in"] else 0
+    return rises - (units_in(fields, "out", scale) if fields["out"] else 0)
 
 
-def row_of(fields: list[str], scale: int) -> Row:
-    """The row that its fields are."""
-    time, entry, what, other, amount, rises, falls, balance, condition, key = fields
+def expect_columns(fields: Fields) -> None:
+    """Each column has what belongs to such a row."""
+    what = fields["what"]
     expect(what in MOVES, f"it has an unknown what: {what!r}")
-    expect(TIME.fullmatch(time), "its time is none in UTC with milliseconds")
-    expect(ENTRY.fullmatch(entry), "its entry is no number")
-    is_condition = bool(CONDITION.fullmatch(condition))
-    expect(is_condition if what in PACKETS else not condition, f"its condition is none of {what}")
-    expect(bool(key) == (what in SETTLEMENTS), f"its key is none of {what}")
-    expect(bool(other) == (what in PACKETS), f"its with is none of {what}")
-    units, moved = units_in(amount, scale, "amount"), movement_in(rises, falls, scale)
+    for column, (pattern, whats) in COLUMNS.items():
+        text = fields[column]
+        expect(pattern.fullmatch(text) if what in whats else not text, f"its {column} is none of {what}")
+
+
+def row_of(fields: Fields, scale: int) -> Row:
+    """The row that its fields are."""
+    expect_columns(fields)
+    what, entry = fields["what"], int(fields["entry"])
+    ends = int(fields["ends"]) if fields["ends"] else None
+    units, moved = units_in(fields, "amount", scale), movement_in(fields, scale)
     expect(units >= 0 or what == "opened", "its amount is below 0")
     expect(moved == MOVES[what] * units, f"its in and out are none of {what}")
-    return Row(time, int(entry), what, other, units, moved, units_in(balance, scale, "balance"), condition, key)
+    expect(ends is None or ends < entry, "its ends is not before it")
+    return Row(int(fields["period"]), fields["time"], entry, what, fields["with"], units, moved,
+               units_in(fields, "balance", scale), ends, fields["cause"], fields["condition"], fields["key"])
 
 
-def edge_of(fields: list[str], what: str, scale: int) -> int:
-    """The balance of the first row, or of the last."""
-    expect(fields[2] == what, f"it is not the row {what}")
-    expect(not any(fields[:2] + fields[3:7] + fields[8:]), f"the row {what} has more than a balance")
-    return units_in(fields[7], scale, "balance")
+def edge_of(fields: Fields, scale: int) -> Edge:
+    """The first row, or the last."""
+    what = fields["what"]
+    expect(not any(fields[column] for column in HEADER if column not in ACCOUNT + EDGE),
+           f"the row {what} has more than a balance")
+    expect(NUMBER.fullmatch(fields["entry"]), f"its entry is none of {what}")
+    expect(not fields["time"] or TIME.fullmatch(fields["time"]), f"its time is none of {what}")
+    return Edge(int(fields["period"]), fields["time"], int(fields["entry"]), units_in(fields, "balance", scale))
 
 
-# ---- a statement
-
-def statement_of(lines: list[tuple[int, list[str]]]) -> Statement:
-    """The statement of a file's lines, each with its number: each balance follows from the one before."""
-    expect(lines and lines[0][1] == HEADER, f"it does not begin with the line {','.join(HEADER)}")
-    expect(len(lines) > 2, "it ends before its row closing")
-    place, rows = 0, []
-    try:
-        for place, fields in lines:
-            expect(len(fields) == len(HEADER), f"it has {len(fields)} fields, and not {len(HEADER)}")
-        place, first = lines[1]
-        scale = scale_in(first[7])
-        balance = opening = edge_of(first, "opening", scale)
-        for place, fields in lines[2:-1]:
-            row = row_of(fields, scale)
-            balance += row.moved
-            expect(row.balance == balance, "its balance does not follow from the one before")
-            expect(not rows or rows[-1].entry < row.entry, "its entry is not behind the one before")
-            rows.append(row)
-        place, last = lines[-1]
-        expect(edge_of(last, "closing", scale) == balance, "its balance is not that of the row before")
-    except NoStatement as why:
-        raise NoStatement(f"line {place}: {why}") from None
-    return Statement(scale, opening, rows, balance)
-
-
-def read_statement(path: Path) -> Statement:
-    """The statement in a file."""
-    try:
-        with path.open(encoding="ascii", newline="") as file:
-            reader = csv.reader(file, strict=True)
-            return statement_of([(reader.line_num, fields) for fields in reader])
-    except (csv.Error, UnicodeDecodeError) as why:
-        raise NoStatement(f"{path}: it is no CSV in ASCII: {why}") from None
-    except NoStatement as why:
-        raise NoStatement(f"{path}: {why}") from None
+def account_of(fields: Fields) -> Account:
+    """The account that a row is of."""
+    for column, pattern in ACCOUNTS.items():
+        expect(pattern.fullmatch(fields[column]), f"its {column} is none")
+    return Account(fields["run"], fields["peer"], fields["asset"])
