@@ -1,15 +1,14 @@
 //! What the program is asked for.
 
 use crate::helping::is_help;
+use crate::inquiring::inquiry_of;
+use ilp_inquiry::Inquiry;
 
 /// The words that the program is started with: a command, and what it is about.
 #[derive(Drop)]
 pub(crate) struct Words {
     pub(crate) command: String,
-    pub(crate) first: Option<String>,
-    pub(crate) second: Option<String>,
-    pub(crate) third: Option<String>,
-    pub(crate) fourth: Option<String>,
+    pub(crate) about: Vec<String>,
 }
 
 /// A command and what it is about.
@@ -30,31 +29,41 @@ pub(crate) enum Asked<'w> {
     /// Of the paths of a configuration and of the period that it has ended, and of the next configuration and of
     /// the journal.
     Follows(&'w str, &'w str, &'w str, &'w str),
+    /// Of a peer's account.
+    Statement(Inquiry<'w>),
 }
 
 impl Words {
     /// What these words ask for; none where they are no command.
     pub(crate) fn asked(&self) -> Option<Asked<'_>> {
         let command = self.command.as_str();
-        match (&self.first, &self.second, &self.third, &self.fourth) {
+        if command == "statement" && self.about.len() > 1 {
+            return Some(Asked::Statement(inquiry_of(&self.about)?));
+        }
+        match (
+            self.about(0),
+            self.about(1),
+            self.about(2),
+            self.about(3),
+            self.about(4),
+        ) {
             (None, ..) => asked_alone(command),
-            (Some(argument), None, ..) => asked_of(command, argument.as_str()),
-            (Some(config), Some(journal), None, _) => {
-                asked_with_journal(command, config.as_str(), journal.as_str())
+            (Some(argument), None, ..) => asked_of(command, argument),
+            (Some(config), Some(journal), None, ..) => {
+                asked_with_journal(command, config, journal)
             }
-            (Some(config), Some(journal), Some(next), None) if command == "new-period" => Some(
-                Asked::NewPeriod(config.as_str(), journal.as_str(), Some(next.as_str())),
-            ),
-            (Some(config), Some(ended), Some(next), Some(journal)) if command == "follows" => {
-                Some(Asked::Follows(
-                    config.as_str(),
-                    ended.as_str(),
-                    next.as_str(),
-                    journal.as_str(),
-                ))
+            (Some(config), Some(journal), Some(next), None, _) if command == "new-period" => {
+                Some(Asked::NewPeriod(config, journal, Some(next)))
             }
+            (Some(config), Some(ended), Some(next), Some(journal), None) if command == "follows" =>
+                { Some(Asked::Follows(config, ended, next, journal)) }
             _ => None,
         }
+    }
+
+    // One of the words that it is about.
+    fn about(&self, place: usize) -> Option<&str> {
+        Some(self.about.get(place)?.as_str())
     }
 }
 
@@ -71,9 +80,8 @@ fn asked_alone<'w>(command: &str) -> Option<Asked<'w>> {
 fn asked_of<'w>(command: &str, argument: &'w str) -> Option<Asked<'w>> {
     match command {
         "help" => Some(Asked::Help),
-        "packet" | "check" | "replay" | "serve" | "new-period" | "follows" if is_help(argument) => {
-            Some(Asked::Help)
-        }
+        "packet" | "check" | "replay" | "serve" | "new-period" | "follows" | "statement"
+            if is_help(argument) => { Some(Asked::Help) }
         "packet" => Some(Asked::Packet(argument)),
         "check" => Some(Asked::Check(argument, None)),
         "replay" => Some(Asked::Replay(argument)),

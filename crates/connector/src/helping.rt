@@ -5,7 +5,7 @@ use std::rt::Runtime;
 
 /// How the program is called, for whoever called it otherwise.
 pub(crate) const USAGE: &str =
-    "usage: connector packet HEX, check CONFIG, replay CONFIG, serve CONFIG [JOURNAL], new-period CONFIG JOURNAL [NEW-CONFIG], follows CONFIG JOURNAL.P NEW-CONFIG JOURNAL";
+    "usage: connector packet HEX, check CONFIG, replay CONFIG, serve CONFIG [JOURNAL], new-period CONFIG JOURNAL [NEW-CONFIG], follows CONFIG JOURNAL.P NEW-CONFIG JOURNAL, statement CONFIG JOURNAL PEER [FROM [TO]] [--csv] [--packet HEX] [--key KEY]";
 
 // The versions of the program and of the kit that it is made with. The first stands in the file VERSION
 // too, and the manual is made from the help.
@@ -26,6 +26,11 @@ connector new-period CONFIG JOURNAL [NEW-CONFIG]
 connector follows CONFIG JOURNAL.P NEW-CONFIG JOURNAL
                                   says whether a journal begins with what the
                                   period P before it brought forward
+connector statement CONFIG JOURNAL PEER [FROM [TO]] [OPTION ..]
+                                  lists what moved a peer's balance from FROM on
+                                  and before TO, days or moments in UTC; --csv
+                                  for a spreadsheet, --packet HEX what is of one
+                                  condition, --key KEY what is of a settlement
 connector packet HEX              says in words what a packet has
 connector help                    says this, as -h and --help do
 connector --version               says the versions of the program and of the kit

@@ -1,13 +1,14 @@
-//! The connector's command line. It describes a packet, checks a configuration and a journal, replays a
-//! script from standard input over a configuration, or runs a connector of one.
+//! The connector's command line. It describes a packet, checks a configuration and a journal, prints the statement
+//! of a peer's account, replays a script from standard input over a configuration, or runs a connector of one.
 //!
 //! All of it is proved safe, and no more: what its commands do is promised by `ilp_described`,
-//! `ilp_offline` and `ilp_serve`.
+//! `ilp_offline`, `ilp_statement` and `ilp_serve`.
 #![tactic(auto)]
 
 mod asking;
 mod checking;
 mod helping;
+mod inquiring;
 mod replaying;
 mod streams;
 
@@ -19,6 +20,7 @@ use ilp_new_period::{follows, new_period};
 use ilp_refusals::Refusal;
 use ilp_serve::{KeepsPeriods, ReadsConfigs, serve};
 use ilp_starting::{Host, PlacesFiles, Refused, RunFault};
+use inquiring::run_statement;
 use replaying::run_replay;
 use std::env;
 use std::fs::File;
@@ -35,6 +37,8 @@ enum Exit {
     Refused(Refused),
     // Its words are none of the commands.
     Misused,
+    // Its words can't be meant so, of which a line on standard error has said more.
+    Told,
     // Standard output could not be written.
     OutputFailed,
 }
@@ -67,18 +71,13 @@ fn given_words<R: Runtime + AllocGlobal>(rt: &R) -> Result<Words, Exit> {
     let Some(command) = words.next() else {
         return Err(Exit::Misused);
     };
-    let (first, second) = (words.next(), words.next());
-    let (third, fourth) = (words.next(), words.next());
-    match words.next() {
-        None => Ok(Words {
-            command,
-            first,
-            second,
-            third,
-            fourth,
-        }),
-        Some(_) => Err(Exit::Misused),
+    let mut about = Vec::new(rt.alloc());
+    for word in words {
+        if about.push(word).is_err() {
+            return Err(Exit::from(Refusal::Memory));
+        }
     }
+    Ok(Words { command, about })
 }
 
 // Runs what the words ask for.
@@ -119,6 +118,7 @@ where
         Asked::Follows(config, kept, next, journal) => {
             ended(follows(rt, config, kept, next, journal))
         }
+        Asked::Statement(inquiry) => run_statement(rt, &inquiry),
     }
 }
 
@@ -167,6 +167,7 @@ fn status<R: Runtime + AllocGlobal>(rt: &R, exit: Exit) -> u8 {
             let _ = rt.eprintln(USAGE);
             2
         }
+        Exit::Told => 2,
         Exit::OutputFailed => 3,
     }
 }

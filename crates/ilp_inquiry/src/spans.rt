@@ -1,0 +1,64 @@
+//! From when to when entries are asked for.
+ghost use Rattle.std.specs.Prelude.{◌≤◌, length};
+
+use crate::fault::InquiryFault;
+use crate::inquiry::Inquiry;
+use ilp_book::Book;
+use ilp_statement::number_from;
+use ilp_statement_text::{Extent, moment_of};
+use std::io::Eprint;
+
+/// From when on entries are asked for, and before when they were booked, in milliseconds since 1970.
+#[derive(Clone, Copy, Debug)]
+pub(crate) struct Span {
+    from: Option<i64>,
+    to: Option<i64>,
+}
+
+impl Span {
+    /// The span that is asked for. Where a time is none, a line on standard error says which.
+    pub(crate) fn of<R: Eprint>(rt: &R, inquiry: &Inquiry<'_>) -> Result<Span, InquiryFault> {
+        Ok(Span {
+            from: moment_in(rt, inquiry.from)?,
+            to: moment_in(rt, inquiry.to)?,
+        })
+    }
+
+    /// The entries of a book in it, of the first ones, which are so many. Where it ends before it begins there are none.
+    pub(crate) fn extent(self, book: &Book, written: u32) -> Extent
+        requires { written ≤ length book.now.entries }
+        ensures order { result.first ≤ result.behind }
+        ensures within { result.behind ≤ length book.now.entries }
+    {
+        let first = match self.from {
+            Some(from) => number_from(book, from).min(written),
+            None => 0,
+        };
+        let behind = match self.to {
+            Some(to) => number_from(book, to).min(written).max(first),
+            None => written,
+        };
+        Extent {
+            first,
+            behind,
+            from: self.from,
+            to: self.to,
+        }
+    }
+}
+
+// The moment of a text, if there is one.
+fn moment_in<R: Eprint>(rt: &R, text: Option<&str>) -> Result<Option<i64>, InquiryFault> {
+    let Some(text) = text else {
+        return Ok(None);
+    };
+    match moment_of(text) {
+        Some(moment) => Ok(Some(moment)),
+        None => {
+            let _ = rt.eprintln(format_args!(
+                "{text:?} is no time: 2026-11-26 is one, and 2026-11-26T20:00:00Z"
+            ));
+            Err(InquiryFault::Misused)
+        }
+    }
+}

@@ -1,0 +1,4 @@
+pub mod Entries
+pub mod Balances
+pub mod Lines
+pub mod Sought

@@ -1,0 +1,3 @@
+pub mod Amounts
+pub mod Keys
+pub mod Sought

@@ -1,0 +1,188 @@
+//! A line of a statement with what its entry is about.
+ghost use Rattle.std.specs.Prelude.{◌≡◌, pos, Some, None, IfNone, IfSome, option_map, option_and_then, slice_get};
+ghost use Rattle.ilp_journal.specs.declared.entry.Entry.{Entry};
+ghost use Rattle.ilp_journal.specs.Journal.{ended};
+ghost use Rattle.ilp_rules.specs.SettlementKeys.{settlement_key_at};
+ghost use Rattle.ilp_statement.specs.Statement.{kind_at, kind_of};
+ghost use Rattle.ilp_statement_text.specs.Amounts.{amount_at, amount_in, amount_of, side_amount};
+ghost use Rattle.ilp_statement_text.specs.Sought.{condition_at, condition_in, condition_of, key_at, key_in, key_of};
+
+use crate::key::SettlementKey;
+use ilp_accounts::Config;
+use ilp_book::Book;
+use ilp_journal::{Cause, Hold, What};
+use ilp_statement::{Kind, Line, ask_at, hold_at};
+
+/// A line of a peer's statement with what its entry is about.
+#[derive(Clone, Copy, Debug)]
+pub struct Row<'b> {
+    pub line: Line,
+    /// When it was booked, in milliseconds since 1970.
+    pub moment: i64,
+    pub kind: Kind,
+    pub about: About<'b>,
+    /// The number of the hold or of the settlement that it ends.
+    pub ends: Option<u32>,
+    /// Why a packet was not fulfilled.
+    pub cause: Option<Cause>,
+}
+
+/// What an entry of a peer's is about, in units of the peer's asset.
+#[derive(Clone, Copy, Debug)]
+pub enum About<'b> {
+    /// A balance that was brought forward.
+    Balance(i64),
+    /// A packet: the other peer, the amount at this side, and its condition.
+    Packet {
+        with: &'b str,
+        amount: u64,
+        condition: [u8; 32],
+    },
+    /// A settlement of this amount under this key.
+    Settlement {
+        amount: u64,
+        key: SettlementKey<'b>,
+    },
+}
+
+impl<'b> Row<'b> {
+    /// The row of a line of a peer's statement; none where its entry isn't the peer's.
+    pub fn of(book: &'b Book, peer: u32, line: Line) -> Option<Row<'b>>
+        ensures kind { option_map (λ row. row.kind) result ≡ kind_at book.now.entries peer line.number }
+        ensures line { IfSome result (λ row. row.line ≡ line) }
+        ensures ends { IfSome result (λ row. row.ends ≡ option_and_then (λ (e : Entry). ended e.what)
+            (slice_get book.now.entries line.number)) }
+        ensures amount { IfSome result (λ row.
+            amount_at book.now.entries peer line.number ≡ Some (amount_in row.about)) }
+        ensures condition { IfSome result (λ row.
+            condition_in row.about ≡ condition_at book.now.entries line.number) }
+        ensures key { IfSome result (λ row. key_in row.about
+            ≡ key_at book.now.config book.now.period book.now.entries line.number) }
+    {
+        let entry = book.entry(line.number)?;
+        let what = &entry.what;
+        Some(Row {
+            line,
+            moment: entry.moment,
+            kind: Kind::at(book, peer, line.number)?,
+            about: About::of(book, peer, line.number, what)?,
+            ends: what.answered().or(what.closed()),
+            cause: cause_of(what),
+        })
+    }
+}
+
+impl Row<'_> {
+    /// What it is about, in units of the peer's asset.
+    pub fn amount(&self) -> i128
+        ensures { result ≡ amount_in self.now.about }
+    {
+        match self.about {
+            About::Balance(balance) => i128::from(balance),
+            About::Packet { amount, .. } | About::Settlement { amount, .. } => i128::from(amount),
+        }
+    }
+
+    /// The other peer of a packet.
+    pub fn with(&self) -> Option<&str> {
+        match &self.about {
+            About::Packet { with, .. } => Some(with),
+            _ => None,
+        }
+    }
+
+    /// The condition of a packet.
+    pub fn condition(&self) -> Option<&[u8]> {
+        match &self.about {
+            About::Packet { condition, .. } => Some(condition.as_slice()),
+            _ => None,
+        }
+    }
+
+    /// The key of a settlement.
+    pub fn key(&self) -> Option<SettlementKey<'_>> {
+        match self.about {
+            About::Settlement { key, .. } => Some(key),
+            _ => None,
+        }
+    }
+}
+
+impl<'b> About<'b> {
+    // What the peer's entry of a number is about.
+    fn of(book: &'b Book, peer: u32, number: u32, what: &'b What) -> Option<About<'b>>
+        ensures none { IfNone result (kind_of book.now.entries peer what.now ≡ None) }
+        ensures amount { IfSome result (λ about.
+            amount_of book.now.entries peer what.now ≡ Some (amount_in about)) }
+        ensures condition { IfSome result (λ about.
+            condition_in about ≡ condition_of book.now.entries what.now) }
+        ensures key { IfSome result (λ about. key_in about
+            ≡ key_of book.now.config book.now.period book.now.entries number what.now) }
+    {
+        match what {
+            What::Hold(hold) => Some(packet(book.config(), peer, *hold)),
+            What::Fulfilled { hold, .. } | What::Released { hold, .. } => {
+                Some(packet(book.config(), peer, hold_at(book, *hold)?))
+            }
+            What::Credited(credited) => Some(About::Settlement {
+                amount: credited.credited,
+                key: SettlementKey::Given(credited.key.as_slice()),
+            }),
+            What::Asked(ask) => Some(asked(book, number, ask.amount)),
+            What::Confirmed { ask } | What::Undone { ask } => {
+                Some(asked(book, *ask, ask_at(book, *ask)?.amount))
+            }
+            What::Opened { balance, .. } => Some(About::Balance(*balance)),
+            What::Known(_) | What::Pending { .. } => None,
+        }
+    }
+}
+
+// The packet of a hold, at the side of a peer.
+fn packet(config: &Config, peer: u32, hold: Hold) -> About<'_>
+    ensures amount { amount_in result ≡ side_amount peer hold }
+    ensures condition { condition_in result ≡ Some hold.condition }
+    ensures key { key_in result ≡ None }
+{
+    let (with, amount) = if hold.from == peer {
+        (hold.to, hold.amount)
+    } else {
+        (hold.from, hold.out)
+    };
+    let condition = hold.condition;
+    About::Packet {
+        with: name_of(config, with),
+        amount,
+        condition,
+    }
+}
+
+// The settlement that was asked for under a number.
+fn asked(book: &Book, number: u32, amount: u64) -> About<'_>
+    ensures amount { amount_in result ≡ pos amount }
+    ensures condition { condition_in result ≡ None }
+    ensures key { key_in result ≡ Some
+        (settlement_key_at book.now.config book.now.period book.now.entries number) }
+{
+    About::Settlement {
+        amount,
+        key: SettlementKey::asked(book, number),
+    }
+}
+
+// Why an entry's packet was not fulfilled.
+fn cause_of(what: &What) -> Option<Cause> {
+    match what {
+        What::Released { cause, .. } => Some(*cause),
+        _ => None,
+    }
+}
+
+// The name of a peer, empty where there is no such peer.
+fn name_of(config: &Config, peer: u32) -> &str {
+    if peer < config.peers() {
+        config.name(peer)
+    } else {
+        ""
+    }
+}

@@ -1,0 +1,47 @@
+//! How the parts of a row are printed.
+
+use ilp_journal::Cause;
+use std::fmt;
+use std::fmt::Display;
+
+/// What there is, and `-` where there is nothing.
+#[derive(Clone, Copy)]
+pub(crate) struct OrDash<T>(pub(crate) Option<T>);
+
+impl<T: Display> Display for OrDash<T> {
+    fn fmt<W: fmt::Write>(&self, f: &mut fmt::Formatter<W>) -> fmt::Result {
+        match &self.0 {
+            Some(shown) => write!(f, "{shown}"),
+            None => f.write_str("-"),
+        }
+    }
+}
+
+/// Octets in hexadecimal.
+#[derive(Clone, Copy)]
+pub(crate) struct Hexadecimal<'o>(pub(crate) &'o [u8]);
+
+impl Display for Hexadecimal<'_> {
+    fn fmt<W: fmt::Write>(&self, f: &mut fmt::Formatter<W>) -> fmt::Result {
+        for octet in self.0 {
+            write!(f, "{octet:02x}")?;
+        }
+        Ok(())
+    }
+}
+
+/// Why a packet was not fulfilled, as in the text of a journal.
+#[derive(Clone, Copy)]
+pub(crate) struct CauseText(pub(crate) Cause);
+
+impl Display for CauseText {
+    fn fmt<W: fmt::Write>(&self, f: &mut fmt::Formatter<W>) -> fmt::Result {
+        match &self.0 {
+            Cause::Late => f.write_str("Late"),
+            Cause::WrongPreimage => f.write_str("WrongPreimage"),
+            Cause::NoReply => f.write_str("NoReply"),
+            Cause::Restart => f.write_str("Restart"),
+            Cause::Peer(code) => write!(f, "Peer {}", Hexadecimal(code)),
+        }
+    }
+}

@@ -1,0 +1,146 @@
+"""Statements of accounts, as `connector statement` prints them of a journal that a connector has, of one that was kept,
+and of a period, beside what scripts/statement.py reckons of the same files."""
+import re
+import subprocess
+import sys
+from pathlib import Path
+
+from cases.case import case, expect, expect_that
+from cases.journals import SETTLEMENTS, Kept
+from cases.laboratory import Laboratory, close, credit, expect_served
+from cases.messages import created
+from cases.program import Program, Setup
+from cases.stand_ins import ACCEPTS, FULFILLS, engine_of, in_turn, never_answers
+from connections import quantity
+
+TOP = Path(__file__).resolve().parent.parent.parent
+
+# A day before each entry of a test, and one behind them.
+BEFORE, BEHIND = "2020-01-01", "2999-01-01T00:00:00Z"
+
+NO_TIME = '"{}" is no time: 2026-11-26 is one, and 2026-11-26T20:00:00Z\n'
+
+
+def state(program: Program, *words: str | Path) -> subprocess.CompletedProcess[bytes]:
+    """What the command prints by the configuration of a program."""
+    command = [str(program.binary), "statement", str(program.configuration), *map(str, words)]
+    return subprocess.run(command, capture_output=True, timeout=10.0)
+
+
+def expect_stated(program: Program, *words: str | Path) -> list[str]:
+    """It prints in CSV what is reckoned of the same files, and nothing else. Its rows are given back."""
+    command = [sys.executable, "-B", str(TOP / "scripts/statement.py"), str(program.configuration), *map(str, words)]
+    reckoned = subprocess.run(command, capture_output=True, timeout=20.0)
+    expect("what is said of what is reckoned", (reckoned.returncode, reckoned.stderr), (0, b""))
+    done = state(program, *words, "--csv")
+    expect("the status", (done.returncode, done.stderr), (0, b""))
+    expect(f"the statement of {words}", done.stdout, reckoned.stdout)
+    return done.stdout.decode("ascii").splitlines()[1:]
+
+
+def expect_ends(rows: list[str], opening: str, closing: str) -> None:
+    """The first row and the last have these balances."""
+    first, last = rows[0].split(","), rows[-1].split(",")
+    expect("the balances", (first[6], first[11], last[6], last[11]), ("opening", opening, "closing", closing))
+
+
+@case
+def statements_of_a_journal(laboratory: Laboratory) -> None:
+    """Statements of both peers, while a connector has the journal, with a settlement that is open, and once it was
+    kept, from a moment on and before one, and of one packet or key alone. No file is made or changed."""
+    bob, engine = laboratory.stand_in(FULFILLS), laboratory.stand_in(engine_of(in_turn(never_answers, ACCEPTS)))
+    kept = Kept(laboratory, Setup(bob=bob.port, engine=engine.port, top={"settle_ms": 20}))
+    program = kept.serve()
+    expect_served(program, amount=30)
+    expect("a credit", credit(program, 1000), created(quantity(1000, 2)))
+    engine.await_count(SETTLEMENTS, 1)
+    before = kept.contents()
+    expect_ends(expect_stated(program, kept.path, "alice"), "0.00", "-0.30")
+    rows = expect_stated(program, kept.path, "bob")
+    expect("what bob's are", [row.split(",")[6] for row in rows],
+           ["opening", "received", "credited", "asked", "closing"])
+    expect_ends(rows, "0.00", "2.00")
+    expect("the files", kept.contents(), before)
+    close(program, alice=-30, bob=200)
+    program = kept.serve()
+    program.await_told("info settlement 3 with bob of 830: confirmed")
+    close(program, alice=-30, bob=200)
+    rows = expect_stated(program, kept.path, "bob")
+    for words in ((BEFORE,), (BEHIND,), (BEFORE, BEHIND), (BEHIND, BEFORE), (BEFORE, BEFORE)):
+        expect_stated(program, kept.path, "bob", *words)
+    expect_ends(expect_stated(program, kept.path, "bob", BEHIND), "2.00", "2.00")
+    expect_sought(program, kept, rows)
+
+
+def expect_sought(program: Program, kept: Kept, rows: list[str]) -> None:
+    """Of bob's rows those of one packet, and those of one key."""
+    condition = rows[1].split(",")[14]
+    for option, text, places in (("--packet", condition, [1]), ("--packet", condition[:5].upper(), [1]),
+                                 ("--packet", "0" * 64, []), ("--key", "r1-3", [3, 4]), ("--key", "r1", [])):
+        done = state(program, option, text, kept.path, "--csv", "bob")
+        expect(f"the rows of {option} {text}", done.stdout.decode("ascii").splitlines()[1:],
+               [rows[place] for place in (0, *places, -1)])
+    lines = state(program, kept.path, "bob").stdout.decode("ascii").splitlines()
+    expect_that(f"the first line is {lines[0]!r}", lines[0].startswith("statement bob USD/2 run r1 period 0 "))
+    expect("the last lines", lines[-4:], ["total received 1 0.30", "total credited 1 10.00", "total asked 1 8.30",
+                                          "total confirmed 1 8.30"])
+
+
+@case
+def statement_behind_a_sudden_stop(laboratory: Laboratory) -> None:
+    """What a connector that was killed has in its log stands in a statement. What was held stays so in it, though a
+    start would end it."""
+    kept = Kept(laboratory, Setup(bob=laboratory.stand_in(FULFILLS).port))
+    program = kept.serve()
+    expect_served(program, amount=5)
+    close(program, alice=-5, bob=5)
+    program = kept.serve()
+    expect_served(program, amount=2)
+    program.kill()
+    program.child.wait()
+    moment = int(kept.beside("log").read_bytes().splitlines()[-1].split()[0])
+    with kept.beside("log").open("a") as log:
+        log.write(f"{moment} 1 hold alice bob 100 0 100 {moment + 1000} {'ab' * 32}\n{moment} 1 ho")
+    rows = expect_stated(program, kept.path, "alice")
+    expect("what alice's are", [row.split(",")[6] for row in rows],
+           ["opening", "sent", "paid", "sent", "paid", "sent", "closing"])
+    expect_ends(rows, "0.00", "-1.07")
+
+
+@case
+def statements_of_periods(laboratory: Laboratory) -> None:
+    """The statement of a period that has ended closes with what that of the next one opens with."""
+    kept = Kept(laboratory, Setup(bob=laboratory.stand_in(FULFILLS).port))
+    program = kept.serve()
+    expect_served(program, amount=5)
+    close(program, alice=-5, bob=5)
+    command = [str(program.binary), "new-period", str(program.configuration), str(kept.path)]
+    subprocess.run(command, check=True, capture_output=True, timeout=10.0)
+    expect_ends(expect_stated(program, kept.beside("0"), "bob"), "0.00", "0.05")
+    rows = expect_stated(program, kept.path, "bob")
+    expect_ends(rows, "0.00", "0.05")
+    expect("the row behind the opening", rows[1].split(",")[6:12], ["opened", "", "0.05", "0.05", "", "0.05"])
+
+
+@case
+def misused_statement(laboratory: Laboratory) -> None:
+    """A peer that isn't there, with whose name is near, and what is no time or no condition, each by a line and the
+    status 2; a journal that isn't there or isn't lawful is refused as ever."""
+    kept = Kept(laboratory)
+    program = kept.serve()
+    expect("a credit", credit(program, 7), created(quantity(7, 2)))
+    close(program, bob=7)
+    for words, line in ((("boob",), 'no peer is named "boob": "bob" may be meant\n'),
+                        (("somebody",), 'no peer is named "somebody"\n'),
+                        (("bob", "yesterday"), NO_TIME.format("yesterday")),
+                        (("bob", BEFORE, "2026-02-29"), NO_TIME.format("2026-02-29")),
+                        (("bob", "--packet", "0g"), "a condition begins with 1 to 64 hexadecimal digits\n"),
+                        (("bob", "--packet", ""), "a condition begins with 1 to 64 hexadecimal digits\n")):
+        done = state(program, kept.path, *words)
+        expect(f"what {words} print", (done.returncode, done.stdout, done.stderr), (2, b"", line.encode()))
+    done = state(program, kept.beside("not-there"), "bob")
+    expect("without a journal", (done.returncode, done.stdout), (1, b"refused 73 JournalUnread\n"))
+    expect_that(f"the line is {done.stderr!r}", re.search(rb"not-there", done.stderr) is not None)
+    kept.path.write_text(kept.text().replace("credited bob", "asked bob 7 #"))
+    done = state(program, kept.path, "bob")
+    expect("of a text that is none", (done.returncode, done.stdout), (1, b"refused 71 BadJournalText 2\n"))
