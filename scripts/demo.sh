@@ -5,7 +5,8 @@
 #
 # It sends packets through both connectors, some of which must be rejected, kills one of them and starts it again,
 # lets settlements be made, refused and lost, closes both, starts both again over their journals, and sends more.
-# A line says what each step does; in the end it prints both reports. What both books must come to is reckoned
+# A line says what each step does; in the end their statements of each other are held against each other, and both
+# reports are printed. What both books must come to is reckoned
 # beside them, from what was sent and from the fees and prices of scripts/demonstration/*.toml. The exit status is
 # 0 only where both reports are just that, and agree with each other; 1 where something differs, and 2 where
 # something is missing.

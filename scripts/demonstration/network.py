@@ -133,6 +133,23 @@ class Network:
             raise BadInput(f"{self.program} is no connector of this repository: build one by scripts/build.sh, or "
                            f"give --quick")
 
+    def statement(self, name: str, peer: str) -> Path:
+        """A file with a connector's statement of a peer's account, in CSV."""
+        words = [str(self.program), "statement", str(self.path(name, "toml")), str(self.path(name, "journal")), peer, "--csv"]
+        done = subprocess.run(words, capture_output=True, timeout=WITHIN)
+        expect(f"the status of {name}'s statement of {peer}", (done.returncode, done.stderr), (0, b""))
+        file = self.path(name, f"{peer}.csv")
+        file.write_bytes(done.stdout)
+        return file
+
+    def reconciled(self) -> str:
+        """What examples/reconcile.py says in the end of the statements of the two connectors' account."""
+        statements = [str(self.statement("north", "south")), str(self.statement("south", "north"))]
+        words = [sys.executable, str(EXAMPLES / "reconcile.py"), *statements]
+        done = subprocess.run(words, capture_output=True, text=True, timeout=WITHIN)
+        expect("the status of reconcile.py", (done.returncode, done.stderr), (0, ""))
+        return done.stdout.splitlines()[-1]
+
     def expect_saved(self, name: str, entries: int) -> None:
         """A connector's journal is there, and has so many entries."""
         said = self.checked(name, str(self.path(name, "journal")))

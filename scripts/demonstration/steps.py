@@ -174,6 +174,13 @@ class Demonstration:
         for _ in self.network.children["south_engine"].printed(r"refused \S+ to bob: .+"):
             self.reckoning.refused("south", "bob", amount)
 
+    def compare(self) -> None:
+        """The statements of both connectors' account with each other have the same packets and settlements."""
+        owed = shown(self.reckoning.books["north"].balance("south"))
+        said = self.network.reconciled()
+        expect("what reconcile.py says", said, f"the books agree: {owed} and -{owed} come to 0.00")
+        self.say(f"Holds north's statement of south against south's of north, entry by entry: {said}.")
+
     def play(self) -> None:
         """All steps, and what both connectors printed in the end."""
         self.start()
@@ -186,6 +193,8 @@ class Demonstration:
         self.start_again(key, amount)
         self.pay_in_again()
         self.send_more()
-        for name, text in self.close().items():
+        texts = self.close()
+        self.compare()
+        for name, text in texts.items():
             print(f"\n{name}:\n{text}", end="")
         print("\nBoth books agree with what was sent, and with each other.")
