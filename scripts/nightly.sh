@@ -50,6 +50,7 @@ benchmarks() {
 run watching python3 scripts/check_watching.py
 run demonstration "python3 curl" scripts/demo.sh
 run cases python3 scripts/check.py "$program"
+run statements python3 scripts/statements/try_statements.py
 run kills python3 scripts/kills.py "$program"
 run kill_periods python3 scripts/kill_periods.py "$program"
 run long_run python3 scripts/long_run.py "$program"
