@@ -476,7 +476,7 @@ impl<J: Naming, C: Clock + Drop, K: Keeper<J> + Drop> Serving<J, C, K> {
 
     /// Ends a turn. The senders of packets that are booked are told: a Fulfill once the journal is kept
     /// that has it, which one keeping is for all of. Without somebody to ask for that, it is waited for,
-    /// and so it is where no loop has anything else. Those whose service is over give back their places.
+    /// and so it is where no loop of several has anything else. Those whose service is over give back their places.
     pub(crate) fn end_turn<R: Wait + time::Clock + Eprint + Net>(
         &mut self,
         shared: &Shared<'_, J, R>,
@@ -508,7 +508,7 @@ impl<J: Naming, C: Clock + Drop, K: Keeper<J> + Drop> Serving<J, C, K> {
     }
 
     // Has the journal kept for those that are booked. Whoever is asked for that hands it back later than it
-    // takes, so a packet that is all that the loops have is kept here.
+    // takes, so a packet that is all that the loops have is kept here, where another loop serves who comes meanwhile.
     fn have_kept<R: Wait + time::Clock + Eprint + Net>(
         &mut self,
         shared: &Shared<'_, J, R>,
@@ -516,7 +516,8 @@ impl<J: Naming, C: Clock + Drop, K: Keeper<J> + Drop> Serving<J, C, K> {
         asker: &KeepingAsker,
         now: Duration,
     ) {
-        if !shared.places.has_one_alone(shared.rt) {
+        let has_others = shared.desk.config().workers() > 1;
+        if !has_others || !shared.places.has_one_alone(shared.rt) {
             asker.ask(shared.rt);
             return;
         }
