@@ -8,8 +8,8 @@ use std::rt::{Files, Runtime};
 // The words that stand by their places: the paths of a configuration and of a journal, a peer's name, and two times.
 const PLACES: usize = 5;
 
-/// What these words ask of a peer's account; none where they are no such inquiry. Options stand anywhere among them, and
-/// one that is given again counts as it was given last.
+/// What these words ask of a peer's account; none where they are no such inquiry. Options stand anywhere among
+/// them, and one that is given again counts as it was given last.
 pub(crate) fn inquiry_of(words: &[String]) -> Option<Inquiry<'_>> {
     let mut places = [None; PLACES];
     let mut packet = None;

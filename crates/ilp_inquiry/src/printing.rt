@@ -20,8 +20,8 @@ const DIGITS: usize = 64;
 /// Prints the statement of a peer's account from the files of a journal, which a connector may have, or of a period
 /// that is kept. Holds that are open stay open in it.
 ///
-/// Refusals: `Misused` where no peer has the name, a time is none, or what a condition begins with has other digits than
-/// hexadecimal ones, and a line on standard error says which; those of `configured` and `written_book_at`; `Memory`.
+/// Refusals: `Misused` where no peer has the name, a time is none, or what a condition begins with has other digits
+/// than hexadecimal ones, and a line on standard error says which; those of `configured` and `written_book_at`; `Memory`.
 /// Where standard output fails, what was printed is a front of the statement.
 pub fn print_statement<R>(rt: &R, inquiry: &Inquiry<'_>) -> Result<(), InquiryFault>
 where

@@ -24,7 +24,8 @@ impl Span {
         })
     }
 
-    /// The entries of a book in it, of the first ones, which are so many. Where it ends before it begins there are none.
+    /// The entries of a book in it, of the first ones, which are so many. There are none where it ends before it
+    /// begins.
     pub(crate) fn extent(self, book: &Book, written: u32) -> Extent
         requires { written ≤ length book.now.entries }
         ensures order { result.first ≤ result.behind }

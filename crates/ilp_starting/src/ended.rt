@@ -62,7 +62,8 @@ where
 }
 
 /// The same where the book of the period that ended is at hand, and its log was set aside: its text is written of that.
-/// Nothing is read, and what it holds in memory doesn't grow with the book.
+/// Neither journal nor log is read, and but for a text that is kept of the period already, what it holds in memory
+/// doesn't grow with the book.
 ///
 /// Refusals: `WriteFault` where a file can't be written; `JournalUnread` where one of the period has another text;
 /// `Memory`. A line on standard error says more.

@@ -11,9 +11,9 @@
 //!   from, the log's lines are recovered with it; a log of another text is passed over only where the
 //!   journal has all that it has. Where it is refused, the refusal names why
 //!   (`specs/Beginning.antt`, `BeginsBy`, `IsWhyNotBegunBy`).
-//! - The text that `keep_set_aside` keeps of a period is that of its book (`Saved`), and the one of `keep_ended` has the journal's entries and behind them the log's lines
+//! - The text that `keep_ended` keeps of a period has the journal's entries and behind them the log's lines
 //!   (`specs/Ended.antt`, `IsWholeText`), of a log that goes on from that text. By `whole_text` it is the text of all
-//!   these entries.
+//!   these entries. `Saved`, as which `keep_set_aside` writes a period, puts the text of its book.
 //! - `config_of`: the configuration of the octets, or the refusal by their first fault or for want of
 //!   memory (`specs/Configuring.antt`).
 //! - All else is proved safe, and no more.
