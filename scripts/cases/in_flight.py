@@ -354,11 +354,16 @@ def packet_without_a_home(laboratory: Laboratory) -> None:
 
 @case
 def sync_while_busy(laboratory: Laboratory) -> None:
-    """While the disk is busy with the entries of a packet, one worker holds and hands on others, and none is told of.
-    This is left out where there is no C compiler."""
-    if (disk := Disk.of(laboratory)) is None:
-        return
-    kept = Kept(laboratory, Setup(bob=laboratory.stand_in(FULFILLS).port, top={"workers": 1}))
+    """While the disk is busy with the entries of a packet, one worker or another holds and hands on others, and none is
+    told of. This is left out where there is no C compiler."""
+    for workers in (1, 2):
+        if (disk := Disk.of(laboratory)) is not None:
+            expect_held(laboratory, disk, workers)
+
+
+def expect_held(laboratory: Laboratory, disk: Disk, workers: int) -> None:
+    """So many workers hold a hundred packets while the disk is busy with the entries of one."""
+    kept = Kept(laboratory, Setup(bob=laboratory.stand_in(FULFILLS).port, top={"workers": workers}))
     program = kept.serve(environment=disk.environment())
     crowd, port, begun = Crowd(laboratory), program.setup.peers_port, disk.syncs()
     disk.busy.touch()
