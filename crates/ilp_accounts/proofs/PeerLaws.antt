@@ -20,6 +20,7 @@ use Rattle.ilp_fields.specs.Fields.{text_of}
 use Rattle.ilp_lookup.specs.Route.{Route, prefixes}
 use Rattle.ilp_accounts.specs.Configuration.{PlainPeer, fields_of, peer_from, peer_of, peer_names, peer_tokens, levels_from, route_of}
 use Rattle.ilp_accounts.specs.Faults.{is_among, fields_checks, fields_fault, levels_checks, levels_fault, are_ordered, peer_rules_checks, peer_rules_fault, peer_checks, peer_fault, route_checks, route_fault}
+use Rattle.ilp_accounts.specs.Limits.{longest_wait_ms}
 use Rattle.ilp_accounts.specs.Valid.{AreOrdered, IsMaxSettlement, IsPeer, IsRouteTo}
 use Rattle.ilp_accounts.proofs.FieldLaws.{text_formed, text_formed_if, text_formed_or, number_ranged_or, max_packet_of, max_settlement_of}
 
@@ -105,6 +106,7 @@ module _ (assets : List PlainAsset) (before : List PlainPeer) (t : Members) (non
         engine = text_formed_if form.SocketAddress field.Engine t (passed checks fields_pass 9);
         levels = levels_ordered (peer_of assets t) (fields_of t).threshold (fields_of t).settle_to (fields_of t).settle_max with_engine ordered;
         settle_max = levels_limited (fields_of t).threshold (fields_of t).settle_to (fields_of t).settle_max (max_settlement_of field.SettleMax t (passed checks fields_pass 12));
+        settle_after_ms = (number_ranged_or 0 longest_wait_ms field.SettleAfterMs t 0 (omega arith, omega arith) (passed checks fields_pass 13)).1;
       }
 
   -- no peer before it has its name, and none its token

@@ -28,7 +28,7 @@ pub record PlainSettings : Type 0 where
   pub in_flight : ℕ
   pub new_period_at : Option ℕ
 
--- a peer; amounts in units of its asset
+-- a peer; amounts in units of its asset, and in milliseconds the wait before a settlement
 pub record PlainPeer : Type 0 where
   pub name : List ℕ
   pub asset : ℕ
@@ -41,6 +41,7 @@ pub record PlainPeer : Type 0 where
   pub max_packet : ℕ
   pub engine : Option (List ℕ)
   pub levels : Option Levels
+  pub settle_after_ms : ℕ
 
 pub record Configuration : Type 0 where
   pub settings : PlainSettings
@@ -50,7 +51,7 @@ pub record Configuration : Type 0 where
 
 -- what stands for a peer that isn't there
 abbrev pub nobody : PlainPeer
-nobody = record { name = []; asset = 0; token = []; out_token = []; host = []; out_path = []; least = pos 0; fee_ppm = 0; max_packet = 0; engine = None; levels = None }
+nobody = record { name = []; asset = 0; token = []; out_token = []; host = []; out_path = []; least = pos 0; fee_ppm = 0; max_packet = 0; engine = None; levels = None; settle_after_ms = 0 }
 
 -- the peer at a place
 abbrev pub peer_at : Configuration → ℕ → PlainPeer
@@ -137,6 +138,7 @@ pub record PlainFields : Type 0 where
   pub threshold : Option ℤ
   pub settle_to : Option ℤ
   pub settle_max : Option ℕ
+  pub settle_after_ms : Option ℕ
 
 unfoldable pub fields_of : Members → PlainFields
 fields_of t = record {
@@ -153,6 +155,7 @@ fields_of t = record {
   threshold = integer_in field.Threshold t;
   settle_to = integer_in field.SettleTo t;
   settle_max = natural_in field.SettleMax t;
+  settle_after_ms = natural_in field.SettleAfterMs t;
 }
 
 -- settling has levels where both are given, and a most amount if there is one
@@ -174,6 +177,7 @@ peer_with place f = record {
   max_packet = f.max_packet;
   engine = f.engine;
   levels = levels_from f.threshold f.settle_to f.settle_max;
+  settle_after_ms = unwrap_or f.settle_after_ms 0;
 }
 
 unfoldable pub peer_from : List PlainAsset → PlainFields → PlainPeer

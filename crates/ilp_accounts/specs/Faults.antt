@@ -15,7 +15,7 @@ use Rattle.ilp_fields.specs.declared.fault.ConfigFault.TheVariants.{Missing, Bad
 use Rattle.ilp_fields.specs.FromAssets.{from_assets}
 use Rattle.ilp_fields.specs.Checks.{required, optional, first_beside}
 use Rattle.ilp_fields.specs.Fields.{is_text, is_natural, is_integer, is_asset, are_tables, text_of, elements_of, tables}
-use Rattle.ilp_accounts.specs.Limits.{most_assets, most_prices, most_peers, most_routes, most_workers, most_in_flight, most_percent, least_journal, most_journal, longest_ms, longest_rest_ms, most_scale, most_term, most_written}
+use Rattle.ilp_accounts.specs.Limits.{most_assets, most_prices, most_peers, most_routes, most_workers, most_in_flight, most_percent, least_journal, most_journal, longest_ms, longest_rest_ms, longest_wait_ms, most_scale, most_term, most_written}
 use Rattle.ilp_accounts.specs.Configuration.{PlainPeer, PlainFields, PlainArrays, peer_names, peer_tokens, place_named, fields_of, peer_of, route_of, arrays_of, assets_of, prices_of, peers_of}
 
 -- the top fields
@@ -100,6 +100,7 @@ fields_checks t =
     ∷ optional is_integer field.Threshold t
     ∷ optional is_integer field.SettleTo t
     ∷ optional (is_natural 1 most_written) field.SettleMax t
+    ∷ optional (is_natural 0 longest_wait_ms) field.SettleAfterMs t
     ∷ []
 
 unfoldable pub fields_fault : Members → Option ConfigFault
@@ -112,7 +113,7 @@ are_ordered least None (Some settle_to) = false
 are_ordered least (Some threshold) None = true
 are_ordered least (Some threshold) (Some settle_to) = int_le least settle_to && int_lt settle_to threshold
 
--- a threshold goes with a level to settle to and with an engine, and a most amount with a threshold
+-- a threshold goes with a level to settle to and with an engine, and a most amount and a wait with a threshold
 abbrev pub levels_checks : PlainFields → List (Option ConfigFault)
 levels_checks f =
     when (is_some f.threshold && is_none f.settle_to) (Missing field.SettleTo)
@@ -120,6 +121,7 @@ levels_checks f =
     ∷ when (int_lt (pos 0) f.least) BadLevels
     ∷ when (not (are_ordered f.least f.threshold f.settle_to)) BadLevels
     ∷ when (is_some f.settle_max && is_none f.threshold) BadLevels
+    ∷ when (is_some f.settle_after_ms && is_none f.threshold) (Missing field.Threshold)
     ∷ []
 
 unfoldable pub levels_fault : PlainFields → Option ConfigFault

@@ -43,6 +43,10 @@ longest_ms = 3600000
 abbrev pub longest_rest_ms : ℕ
 longest_rest_ms = 60000
 
+-- a week, for the wait before a settlement
+abbrev pub longest_wait_ms : ℕ
+longest_wait_ms = 604800000
+
 -- ---- numbers of assets, prices and peers
 
 abbrev pub most_scale : ℕ

@@ -10,7 +10,7 @@ use Rattle.ilp_fields.specs.declared.form.Form.{Form}
 use Rattle.ilp_fields.specs.declared.form.Form.TheVariants as form
 use Rattle.ilp_accounts.specs.declared.peer.Levels.{Levels}
 use Rattle.ilp_fields.specs.Forms.{admits}
-use Rattle.ilp_accounts.specs.Limits.{most_assets, most_prices, most_peers, most_routes, most_workers, most_in_flight, most_percent, least_journal, most_journal, longest_ms, longest_rest_ms, most_scale, most_term, most_written}
+use Rattle.ilp_accounts.specs.Limits.{most_assets, most_prices, most_peers, most_routes, most_workers, most_in_flight, most_percent, least_journal, most_journal, longest_ms, longest_rest_ms, longest_wait_ms, most_scale, most_term, most_written}
 use Rattle.ilp_accounts.specs.Configuration.{PlainSettings, PlainPeer, Configuration, peer_names, peer_tokens}
 
 -- no two texts are equal
@@ -80,6 +80,7 @@ pub record IsPeer (assets : ℕ) (p : PlainPeer) : Type 0 where
   pub engine : IfSome p.engine (HasForm form.SocketAddress)
   pub levels : IfSome p.levels (AreOrdered p)
   pub settle_max : IfSome p.levels (λ levels. IsMaxSettlement levels.settle_max)
+  pub settle_after_ms : p.settle_after_ms ≤ longest_wait_ms
 
 -- a route to one of so many peers
 pub record IsRouteTo (peers : ℕ) (r : Route) : Type 0 where

@@ -48,6 +48,7 @@ plain_peer p = record {
   max_packet = p.max_packet;
   engine = option_map string_bytes p.engine;
   levels = p.levels;
+  settle_after_ms = p.settle_after_ms;
 }
 
 abbrev pub plain_fields : PeerFields → PlainFields
@@ -65,6 +66,7 @@ plain_fields f = record {
   threshold = f.threshold;
   settle_to = f.settle_to;
   settle_max = f.settle_max;
+  settle_after_ms = f.settle_after_ms;
 }
 
 -- the names and tokens that were kept beside peers are theirs

@@ -344,6 +344,15 @@ impl Config {
         self.peer(peer).levels
     }
 
+    /// For how long the balance of a peer is to have been at its threshold or above before a settlement is
+    /// asked for, in milliseconds: at most a week, and 0 where the configuration doesn't say.
+    pub fn settle_after_ms(&self, peer: u32) -> u32
+        requires { peer < length self.now.peers }
+        ensures { result ≡ (peer_at self.now peer).settle_after_ms }
+    {
+        self.peer(peer).settle_after_ms
+    }
+
     /// The scale of a peer's asset.
     pub fn scale(&self, peer: u32) -> u8
         requires { peer < length self.now.peers }

@@ -85,6 +85,7 @@ fn expected_number(field: Field) -> &'static str {
         Field::FeePpm => "a whole number from 0 to 1000000",
         Field::MaxPacket => "a whole number from 0 to 9223372036854775807",
         Field::SettleMax => "a whole number from 1 to 9223372036854775807",
+        Field::SettleAfterMs => "a whole number from 0 to 604800000",
         _ => "a whole number",
     }
 }

@@ -9,13 +9,16 @@ ghost use Rattle.ilp_accounts.specs.Faults.{fields_fault};
 use ilp_assets::Asset;
 use ilp_fields::{
     ConfigFault, Field, Form, defaulted_amount, defaulted_number, defaulted_text, optional_amount,
-    optional_integer, optional_text, required_asset, required_integer, required_text,
+    optional_integer, optional_number, optional_text, required_asset, required_integer, required_text,
 };
 use std::alloc::{AllocError, Global};
 use toml::Table;
 
 // The greatest amount that TOML can write.
 const MAX_WRITTEN: u64 = i64::MAX as u64;
+
+// The longest time in milliseconds for which a settlement may wait: a week.
+const LONGEST_WAIT_MS: u32 = 604_800_000;
 
 /// The levels between which the connector settles with a peer, in units of the peer's asset.
 #[derive(Clone, Copy, Debug, PartialEq, Eq)]
@@ -43,6 +46,7 @@ pub(crate) struct Peer {
     pub(crate) max_packet: u64,
     pub(crate) engine: Option<String>,
     pub(crate) levels: Option<Levels>,
+    pub(crate) settle_after_ms: u32,
 }
 
 /// What stands in the fields of a peer's table.
@@ -61,6 +65,7 @@ pub(crate) struct PeerFields<'a> {
     pub(crate) threshold: Option<i64>,
     pub(crate) settle_to: Option<i64>,
     pub(crate) settle_max: Option<u64>,
+    pub(crate) settle_after_ms: Option<u32>,
 }
 
 /// Reads the fields of a peer's table.
@@ -82,6 +87,7 @@ pub(crate) fn fields_of(table: &Table) -> Result<PeerFields<'_>, ConfigFault>
     let threshold = optional_integer(table, Field::Threshold)?;
     let settle_to = optional_integer(table, Field::SettleTo)?;
     let settle_max = optional_amount(table, Field::SettleMax, 1, MAX_WRITTEN)?;
+    let settle_after_ms = optional_number(table, Field::SettleAfterMs, 0, LONGEST_WAIT_MS)?;
     Ok(PeerFields {
         name,
         asset,
@@ -96,6 +102,7 @@ pub(crate) fn fields_of(table: &Table) -> Result<PeerFields<'_>, ConfigFault>
         threshold,
         settle_to,
         settle_max,
+        settle_after_ms,
     })
 }
 
@@ -130,6 +137,7 @@ impl PeerFields<'_> {
             max_packet: self.max_packet,
             engine: owned_text(alloc, self.engine)?,
             levels: self.levels(),
+            settle_after_ms: self.settle_after_ms.unwrap_or(0),
         })
     }
 }
@@ -151,6 +159,7 @@ impl Peer {
             max_packet: self.max_packet,
             engine: owned_text(alloc, self.engine())?,
             levels: self.levels,
+            settle_after_ms: self.settle_after_ms,
         })
     }
 

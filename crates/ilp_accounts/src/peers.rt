@@ -217,6 +217,11 @@ fn check_levels(fields: &PeerFields<'_>) -> Result<(), ConfigFault>
     if fields.settle_max.is_some() && fields.threshold.is_none() {
         return Err(ConfigFault::BadLevels);
     }
+    if fields.settle_after_ms.is_some() && fields.threshold.is_none() {
+        return Err(ConfigFault::Missing {
+            field: Field::Threshold,
+        });
+    }
     Ok(())
 }
 

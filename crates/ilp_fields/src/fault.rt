@@ -50,6 +50,7 @@ pub enum Field {
     Threshold,
     SettleTo,
     SettleMax,
+    SettleAfterMs,
     Prefix,
 }
 
@@ -95,6 +96,7 @@ impl Field {
             Field::Threshold => "threshold",
             Field::SettleTo => "settle_to",
             Field::SettleMax => "settle_max",
+            Field::SettleAfterMs => "settle_after_ms",
             Field::Prefix => "prefix",
         }
     }

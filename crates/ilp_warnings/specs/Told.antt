@@ -31,7 +31,7 @@ abbrev pub known_in : ConfigTable → List Field
 known_in Top = field.Address ∷ field.Run ∷ field.Listen ∷ field.EngineListen ∷ field.Path ∷ field.Workers ∷ field.Journal ∷ field.WindowMs ∷ field.MaxHoldMs ∷ field.SweepMs ∷ field.SettleMs ∷ field.Sync ∷ field.InFlight ∷ field.NewPeriodAt ∷ field.Asset ∷ field.Price ∷ field.Peer ∷ field.Route ∷ []
 known_in (Asset n) = field.Code ∷ field.Scale ∷ []
 known_in (Price n) = field.From ∷ field.To ∷ field.P ∷ field.Q ∷ []
-known_in (Peer n) = field.Name ∷ field.Asset ∷ field.Token ∷ field.OutToken ∷ field.Host ∷ field.OutPath ∷ field.Least ∷ field.FeePpm ∷ field.MaxPacket ∷ field.Engine ∷ field.Threshold ∷ field.SettleTo ∷ field.SettleMax ∷ []
+known_in (Peer n) = field.Name ∷ field.Asset ∷ field.Token ∷ field.OutToken ∷ field.Host ∷ field.OutPath ∷ field.Least ∷ field.FeePpm ∷ field.MaxPacket ∷ field.Engine ∷ field.Threshold ∷ field.SettleTo ∷ field.SettleMax ∷ field.SettleAfterMs ∷ []
 known_in (Route n) = field.Prefix ∷ field.Peer ∷ []
 
 -- none of these fields has the key

@@ -47,6 +47,7 @@ pub(crate) fn known_in(within: ConfigTable) -> &'static [Field]
             Field::Threshold,
             Field::SettleTo,
             Field::SettleMax,
+            Field::SettleAfterMs,
         ],
         ConfigTable::Route(_) => &[Field::Prefix, Field::Peer],
     }
