@@ -16,7 +16,7 @@ use Rattle.ilp_settler.specs.declared.asking.BegunTurn.{BegunTurn}
 use Rattle.ilp_settler.specs.declared.asking.BegunTurn.TheVariants.{NeedsAccount, Asks, Over}
 use Rattle.ilp_settler.specs.Asking.{PlainAsking, settlement_of}
 use Rattle.ilp_settler.specs.Settler.{PlainSettler, settler, knows_account, with_account, HasAccount, last_tried, with_tried, IsAsking, IsChoosing, settlement_told, verdict_by, ClosesBy, IsIdle, IsUnwritten, IsSettling, CarriesOut, GoesOn, IsTurn, Turns}
-use Rattle.ilp_settler.specs.Halves.{Finds, IsSeeking, IsGivenOut, IsHeldBack, GivesOut, IsOver, StartsAsking, EndsUnasked, LacksMemory, BeginsTurn, IsLooking, GivesOutFound, StartsOpen, TakesUpOpen, asking_told, IsEngineAsked, FinishesTurn}
+use Rattle.ilp_settler.specs.Halves.{Finds, IsSeeking, IsGivenOut, IsHeldBack, GivesOut, IsOver, StartsAsking, EndsUnasked, LacksMemory, BeginsTurn, IsLooking, GivesOutFound, TakesUpOpen, asking_told, IsEngineAsked, FinishesTurn}
 use Rattle.ilp_settler.proofs.TurnLemmas.{carries_a_settlement, told_turn, carried_on, idled, denied_on}
 
 -- a settler whose engine has the account by now
@@ -87,50 +87,6 @@ taken_by A E desk peer before between after None NeedsAccount knows looked given
 taken_by A E desk peer before between after (Some a) NeedsAccount knows looked given = absurd given
 taken_by A E desk peer before between after found (Asks p) knows looked given = (knows, record { between = between; found = found; looked = looked; given = given })
 taken_by A E desk peer before between after found (Over turn) knows looked given = (knows, record { between = between; found = found; looked = looked; given = given })
-
--- what a turn leaves as it is that asks for nothing new: share, records and moments
-pub record IsUnbooked (before after : PlainSettler) : Type 0 where
-  pub share : after.share ≡ before.share
-  pub records : after.records ≡ before.records
-  pub moments : after.moments ≡ before.moments
-
-same_unbooked : (before after : PlainSettler) → after ≡ before → IsUnbooked before after
-same_unbooked before after same = record {
-  share = ap (λ (s : PlainSettler). s.share) same;
-  records = ap (λ (s : PlainSettler). s.records) same;
-  moments = ap (λ (s : PlainSettler). s.moments) same;
-}
-
--- so does what is looked for and given out
-given_unbooked : (A : Type 0) (desk : PlainDesk) (peer : ℕ) (before after : PlainSettler) (begun : BegunTurn A) (found : Option Asked)
-    → GivesOutFound desk peer before after begun found → IsUnbooked before after
-given_unbooked A desk peer before after begun None given = same_unbooked before after given.1
-given_unbooked A desk peer before after NeedsAccount (Some a) given = absurd given
-given_unbooked A desk peer before after (Asks p) (Some a) given = record {
-  share = ap (λ (s : PlainSettler). s.share) given.others;
-  records = ap (λ (s : PlainSettler). s.records) given.others;
-  moments = ap (λ (s : PlainSettler). s.moments) given.others;
-}
-given_unbooked A desk peer before after (Over turn) (Some a) given = record {
-  share = ap (λ (s : PlainSettler). s.share) given.others;
-  records = ap (λ (s : PlainSettler). s.records) given.others;
-  moments = ap (λ (s : PlainSettler). s.moments) given.others;
-}
-
-started_unbooked : (A : Type 0) (desk : PlainDesk) (peer : ℕ) (before after : PlainSettler) (begun : BegunTurn A) → StartsOpen desk peer before after begun → IsUnbooked before after
-started_unbooked A desk peer before after begun starts =
-    let given = given_unbooked A desk peer starts.between after begun starts.found starts.given in
-    record {
-      share = given.share ∙ ap (λ (s : PlainSettler). s.share) starts.looked.others;
-      records = given.records ∙ ap (λ (s : PlainSettler). s.records) starts.looked.others;
-      moments = given.moments ∙ ap (λ (s : PlainSettler). s.moments) starts.looked.others;
-    }
-
-pub taken_unbooked : (A E : Type 0) (desk : PlainDesk) (peer : ℕ) (before after : PlainSettler) (begun : Result (BegunTurn A) E) → TakesUpOpen {A = A} {E = E} desk peer before after begun → IsUnbooked before after
-taken_unbooked A E desk peer before after (Ok NeedsAccount) taken = same_unbooked before after taken.1
-taken_unbooked A E desk peer before after (Ok (Asks p)) taken = started_unbooked A desk peer before after (Asks p) taken.1
-taken_unbooked A E desk peer before after (Ok (Over turn)) taken = started_unbooked A desk peer before after (Over turn) taken.1
-taken_unbooked A E desk peer before after (Err e) taken = same_unbooked before after taken.1
 
 -- ---- both halves
 
