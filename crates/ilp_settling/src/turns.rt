@@ -193,7 +193,7 @@ impl<J: Naming, C: Clock + Drop, K: Keeper<J> + Drop> Turns<J, C, K> {
         }
         let begun = self.settler.begin(shared.rt, shared.desk, peer);
         // What was asked for has left the balance. Where that is below the threshold now, the next settlement
-        // waits anew; where it is not, since one of them has a most amount, the next is asked for at once.
+        // waits anew. Where it is not, since none is of more than `settle_max`, the next doesn't wait.
         self.look_at_balance(shared, peer, monotonic(shared.rt));
         begun
     }
@@ -213,9 +213,9 @@ impl<J: Naming, C: Clock + Drop, K: Keeper<J> + Drop> Turns<J, C, K> {
         }
     }
 
-    // Looks at the balance of a peer whose settlements wait, paused or not. That is once a turn, so each
-    // `settle_ms`: a balance that falls below the threshold and rises again between two looks is not seen to.
-    // The lock is held for the look alone.
+    // Looks at the balance of a peer whose settlements wait, where its payouts are paused too. That is once a
+    // turn, so each `settle_ms`: where the balance falls below the threshold and rises again between two looks,
+    // that is not seen, and the wait goes on. The lock is held for the look alone.
     fn look_at_balance<R: Wait>(&mut self, shared: &Shared<'_, J, R>, peer: u32, now: Duration)
         requires known { IsKnown J.desk.config peer }
     {

@@ -17,8 +17,8 @@ pub(crate) fn is_at_threshold(book: &Book, peer: u32) -> bool
     }
 }
 
-/// Since when a peer's balance is seen at its threshold or above, once one look more was had at this time. A
-/// balance that fell below and rose again between two looks is not seen to have been there.
+/// Since when a peer's balance is seen at its threshold or above, once one look more was had at this time. What
+/// the balance is between two looks is not seen.
 pub(crate) fn reached_after(
     reached: Option<Duration>,
     reaches: bool,
