@@ -62,11 +62,11 @@ unfolding quote balance total_in total_out hold_terms hold_fitted hold_checked h
 older_row c = refl
 
 pub credited_row : CreditedRow
-unfolding credit_checked credit_step
+unfolding balance credit_checked credit_step
 credited_row = refl
 
 pub corrected_row : CorrectedRow
-unfolding credit_checked credit_step
+unfolding balance credit_checked credit_step
 corrected_row = refl
 
 pub settled_row : SettledRow

@@ -23,6 +23,12 @@ lowering Settled amount = 0
 lowering (Raised reason) amount = 0
 lowering (Lowered reason) amount = amount
 
+-- whether it lowers one
+abbrev pub lowers : CreditKind → Bool
+lowers Settled = false
+lowers (Raised reason) = false
+lowers (Lowered reason) = true
+
 -- a settlement both, or a correction in one direction, for one reason
 abbrev pub same_kind : CreditKind → CreditKind → Bool
 same_kind Settled Settled = true

@@ -1,6 +1,6 @@
 //! What moves a balance under a key.
 ghost use Rattle.std.specs.Prelude.{◌≡◌, IfOk};
-ghost use Rattle.ilp_journal.specs.Credits.{raising, lowering, same_kind};
+ghost use Rattle.ilp_journal.specs.Credits.{raising, lowering, lowers, same_kind};
 
 use crate::reason::Reason;
 use std::alloc::{AllocError, Global};
@@ -36,6 +36,13 @@ impl CreditKind {
             CreditKind::Lowered(_) => amount,
             CreditKind::Settled | CreditKind::Raised(_) => 0,
         }
+    }
+
+    /// Whether it lowers the balance.
+    pub fn lowers(&self) -> bool
+        ensures { result ≡ lowers self.now }
+    {
+        matches!(self, CreditKind::Lowered(_))
     }
 
     /// Whether the other is the same: a settlement both, or a correction in one direction, for one reason.

@@ -113,10 +113,10 @@ module _ (C : Configuration) (valid : IsValid C) where
 
   credit_ink : (c : Credited) → CreditIsTyped c → AreInk (credited_fields C c)
   credit_ink c typed =
-      All-cons (All IsInk) (name_at C c.peer) _ (peer_ink c.peer)
-      (All-cons (All IsInk) (encode_lower c.key) _ (hex_ink c.key typed.key.1)
-      (All-cons (All IsInk) (decimal c.named) _ (decimal_ink c.named (omega (arith, typed.named)))
-      (All-cons (All IsInk) (decimal c.scale) _ (decimal_ink c.scale (omega (arith, typed.scale)))
+      All-cons (All IsInk) (name_at C c.peer) (encode_lower c.key ∷ decimal c.named ∷ decimal c.scale ∷ decimal c.credited ∷ kind_fields c.kind) (peer_ink c.peer)
+      (All-cons (All IsInk) (encode_lower c.key) (decimal c.named ∷ decimal c.scale ∷ decimal c.credited ∷ kind_fields c.kind) (hex_ink c.key typed.key.1)
+      (All-cons (All IsInk) (decimal c.named) (decimal c.scale ∷ decimal c.credited ∷ kind_fields c.kind) (decimal_ink c.named (omega (arith, typed.named)))
+      (All-cons (All IsInk) (decimal c.scale) (decimal c.credited ∷ kind_fields c.kind) (decimal_ink c.scale (omega (arith, typed.scale)))
       (All-cons (All IsInk) (decimal c.credited) (kind_fields c.kind) (amount_ink c.credited typed.credited) (kind_ink c.kind typed.kind)))))
 
   pub what_ink : (w : What) → WhatIsTyped w → AreInk (what_fields C w)

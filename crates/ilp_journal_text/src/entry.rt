@@ -1,15 +1,15 @@
 //! The line of an entry.
-ghost use Rattle.std.specs.Prelude.{◌≡◌, ◌+◌, ◌<◌, ◌≤◌, ◌^◌, ◌++◌, length, FitsSigned};
+ghost use Rattle.std.specs.Prelude.{◌≡◌, ◌+◌, ◌<◌, ◌≤◌, ◌^◌, ◌++◌, ◌∷◌, [], length, FitsSigned};
 ghost use Rattle.std.specs.Int.{w64};
 ghost use Rattle.std.specs.List.{flat_map};
-ghost use Rattle.hex.specs.Hex.{IsBytes};
+ghost use Rattle.hex.specs.Hex.{IsBytes, encode_lower};
 ghost use Rattle.ilp_journal.specs.Keys.{IsKey};
 ghost use Rattle.ilp_journal_text.specs.Reading.{CauseStands, KindStands, CreditIsTyped, HasNoNul, HoldIsTyped, IsLine, IsTyped, WhatIsTyped};
 ghost use Rattle.ilp_journal_text.specs.Text.{after_space, name_at, cause_fields, kind_fields, credit_word, credited_fields, what_fields, entry_line};
 
 use crate::line::Line;
 use ilp_accounts::Config;
-use ilp_journal::{Cause, CreditKind, Credited, Entry, Hold, Key, What};
+use ilp_journal::{Cause, CreditKind, Credited, Entry, Hold, Key, Reason, What};
 
 // The most octets that stand before what an entry's line tells.
 const LONGEST_FRONT: usize = 81;
@@ -136,15 +136,22 @@ fn put_kind(line: &mut Line, kind: &CreditKind)
 {
     match kind {
         CreditKind::Settled => {}
-        CreditKind::Raised(reason) => {
-            line.word("rises");
-            line.hexadecimal(reason.as_slice());
-        }
-        CreditKind::Lowered(reason) => {
-            line.word("falls");
-            line.hexadecimal(reason.as_slice());
-        }
+        CreditKind::Raised(reason) => put_correction(line, "rises", reason),
+        CreditKind::Lowered(reason) => put_correction(line, "falls", reason),
     }
+}
+
+// Adds the word of a direction, and a reason.
+fn put_correction(line: &mut Line, way: &str, reason: &Reason)
+    requires front { length line.old ≤ 500 }
+    requires way { length way.now ≤ LONGEST_WORD }
+    ensures octets { line.new ≡ line.old
+        ++ flat_map after_space (way.now ∷ encode_lower reason.now ∷ []) }
+    ensures short { length line.new ≤ 767 }
+    ensures typed { IsKey reason.now × IsBytes reason.now }
+{
+    line.word(way);
+    line.hexadecimal(reason.as_slice());
 }
 
 // Adds a balance that is brought forward.
