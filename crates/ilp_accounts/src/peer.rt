@@ -9,7 +9,8 @@ ghost use Rattle.ilp_accounts.specs.Faults.{fields_fault};
 use ilp_assets::Asset;
 use ilp_fields::{
     ConfigFault, Field, Form, defaulted_amount, defaulted_number, defaulted_text, optional_amount,
-    optional_integer, optional_number, optional_text, required_asset, required_integer, required_text,
+    optional_integer, optional_number, optional_text, required_asset, required_integer,
+    required_text,
 };
 use std::alloc::{AllocError, Global};
 use toml::Table;
