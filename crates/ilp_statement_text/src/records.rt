@@ -8,7 +8,7 @@ use crate::key::Spaces;
 use crate::listing::listed;
 use crate::moment::Moment;
 use crate::row::Row;
-use crate::shown::{CauseText, Hexadecimal};
+use crate::shown::{Hexadecimal, WhyText};
 use crate::sought::Sought;
 use csv::{Terminator, Writer, WriterBuilder};
 use ilp_book::Book;
@@ -47,8 +47,8 @@ const COLUMNS: [&str; 16] = [
 /// - `amount` is what the entry is about, `in` and `out` by how much it raised or lowered the balance, if it did, and
 ///   `balance` what that was behind it, all in decimals of the asset's scale.
 /// - `ends` is the number of the packet or settlement that the entry ends, `cause` why a packet was not fulfilled,
-///   as in the text of a journal, and `condition` a packet's.
-/// - In `key`, a settlement's, a backslash, an octet that is not printable ASCII, and a first `=`, `+`, `-` or `@`
+///   as in the text of a journal, or the reason of a correction, and `condition` a packet's.
+/// - In `key`, a settlement's or a correction's, and in a reason, a backslash, an octet that is not printable ASCII, and a first `=`, `+`, `-` or `@`
 ///   are written as `\x` and two hexadecimal digits.
 ///
 /// It takes memory for each entry of the peer's in the extent, and for one field. `Memory` tells that it is short,
@@ -155,7 +155,8 @@ impl<'s, W: Sink> Records<'s, W> {
     // What it ends and why, and by what that is known.
     fn put_about(&mut self, row: &Row<'_>) -> Result<(), StatementFault> {
         self.put_if(row.ends)?;
-        self.put_if(row.cause.map(CauseText))?;
+        let spaces = Spaces::Stand;
+        self.put_if(row.why.map(|why| WhyText { why, spaces }))?;
         self.put_if(row.condition().map(|octets| Hexadecimal(octets)))?;
         self.put_if(row.key().map(|key| key.text(Spaces::Stand)))
     }
