@@ -1,18 +1,20 @@
 //! What a loop does for the connections that it serves.
 ghost use Rattle.std.specs.Prelude.{◌≡◌};
+ghost use Rattle.ilp_server.specs.Course.{IsOfKnownPeer};
 
 use crate::answers::{
     answered_message, answered_peer, ask_reload, behind, give_back, leave, responds,
 };
 use crate::deeds::{count_reject, tell_deed};
 use crate::guest::{Guest, Stage, Written};
+use crate::payouts::{pause_payouts, paused_lines, resume_payouts};
 use ilp_desk::{End, Naming};
 use ilp_flight::Flight;
 use ilp_http::{Buffer, Status};
 use ilp_links::{Call, Came};
 use ilp_notices::SentHold;
 use ilp_oer::Octets;
-use ilp_server::{Course, NotServed, Response, begin_request};
+use ilp_server::{Course, NotServed, Response, Side, begin_request};
 use ilp_shared::{Job, KeepingAsker, Nobody, Shared, monotonic};
 use ilp_workers::{Clock, EngineMessage, HandedJournal, Keeper, PeerMessage, Worker};
 use mio::{Registry, Token};
@@ -96,20 +98,32 @@ impl<J: Naming, C: Clock + Drop, K: Keeper<J> + Drop> Serving<J, C, K> {
             give_back(shared, work);
             return;
         };
-        let course = begin_request(
-            shared.rt,
-            &mut self.flight,
-            shared.desk,
-            side,
-            octets.as_slice(),
-            &mut self.buffer,
-        );
+        let course = self.course_of(shared, side, octets.as_slice());
         if let Course::Reload = course {
             self.begin_reload(shared, registry, place, now);
             return;
         }
         let stage = self.begin(shared, course, now);
         self.go_on_from(shared, registry, place, stage, now);
+    }
+
+    // How the request goes on that these octets begin with. Where memory is denied for what a report has of
+    // paused payouts, nothing is begun.
+    fn course_of<R: Wait>(&mut self, shared: &Shared<'_, J, R>, side: Side, octets: &[u8]) -> Course
+        ensures { IsOfKnownPeer J.desk.config result }
+    {
+        let Ok(paused) = paused_lines(shared, side) else {
+            return Course::Answered(Response::refusal(NotServed::Memory));
+        };
+        begin_request(
+            shared.rt,
+            &mut self.flight,
+            shared.desk,
+            side,
+            octets,
+            paused.as_slice(),
+            &mut self.buffer,
+        )
     }
 
     // Has the configuration read again for the connection at this place, which leaves the loop. Where that
@@ -147,9 +161,13 @@ impl<J: Naming, C: Clock + Drop, K: Keeper<J> + Drop> Serving<J, C, K> {
         shared: &Shared<'_, J, R>,
         course: Course,
         now: Duration,
-    ) -> Stage<J> {
+    ) -> Stage<J>
+        requires { IsOfKnownPeer J.desk.config course }
+    {
         match course {
             Course::Answered(response) => responds(shared, response, now),
+            Course::Pause { peer } => responds(shared, pause_payouts(shared, peer), now),
+            Course::Resume { peer } => responds(shared, resume_payouts(shared, peer), now),
             Course::Packet { sender, key } => {
                 self.has_begun = true;
                 self.call_next(shared, sender, key)

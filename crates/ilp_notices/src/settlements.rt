@@ -70,6 +70,25 @@ impl Notices {
         }
     }
 
+    /// Tells that the payouts of a peer are paused.
+    pub fn payouts_paused<R: Clock + Eprint>(&self, rt: &R, config: &Config, peer: u32) {
+        if self.of_peer(config, peer).is_some() {
+            let name = config.name(peer);
+            let text = format_args!(
+                "payouts: {name}'s are paused, until the next start or /accounts/{name}/resume"
+            );
+            tell(rt, Level::Info, text);
+        }
+    }
+
+    /// Tells that the payouts of a peer go on.
+    pub fn payouts_resumed<R: Clock + Eprint>(&self, rt: &R, config: &Config, peer: u32) {
+        if self.of_peer(config, peer).is_some() {
+            let name = config.name(peer);
+            tell(rt, Level::Info, format_args!("payouts: {name}'s go on"));
+        }
+    }
+
     /// Tells that this amount, in units of the peer's asset, came from a peer as a settlement, under
     /// this key.
     pub fn credited<R: Clock + Eprint>(

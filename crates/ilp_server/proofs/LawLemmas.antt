@@ -1,12 +1,12 @@
 -- A path asks for one thing, and a request is from one peer.
-use Rattle.std.proofs.Common.{◌≡◌, ℕ, List, ◌++◌, get_or, sym, ap, ◌∙◌, refl, subst, arith, codes, append_assoc}
+use Rattle.std.proofs.Common.{◌≡◌, ℕ, List, [], ◌∷◌, ◌++◌, get_or, sym, ap, ◌∙◌, refl, subst, arith, codes, append_assoc}
 use Rattle.std.proofs.lemmas.List.{append_cancel_left, same_from_push}
 use Rattle.ilp_accounts.specs.Configuration.{Configuration, peer_at}
 use Rattle.ilp_accounts.specs.Valid.{IsValid}
 use Rattle.ilp_server.specs.declared.target.Side.{Side}
 use Rattle.ilp_server.specs.declared.target.Side.TheVariants.{Ilp, Engine}
 use Rattle.ilp_server.specs.declared.target.Target.{Target}
-use Rattle.ilp_server.specs.declared.target.Target.TheVariants.{Packet, Settlement, Message, Report, Close, Reload}
+use Rattle.ilp_server.specs.declared.target.Target.TheVariants.{Packet, Settlement, Message, Report, Close, Reload, Pause, Resume}
 use Rattle.ilp_settlement.specs.Targets.{account_target}
 use Rattle.ilp_server.specs.Targets.{IsOfPeer, AsksFor}
 use Rattle.ilp_server.specs.Fields.{ShowsToken, IsFrom}
@@ -25,6 +25,47 @@ no_message path name other is also =
     append_assoc name (codes "/settlemen") (codes "t") ∙ fronts ∙ sym (append_assoc other (codes "/messag") (codes "e")) in
     let t_is_e = (same_from_push (name ++ codes "/settlemen") (other ++ codes "/messag") 116 101 before).1 in
     absurd (omega (arith, t_is_e))
+
+-- targets of accounts differ where their calls end in different octets
+ends_differ : (path first second name other : List ℕ) (x y : ℕ) → (x ≡ y → ⊥)
+    → path ≡ account_target (first ++ x ∷ []) name → path ≡ account_target (second ++ y ∷ []) other → ⊥
+ends_differ path first second name other x y unequal is also =
+    let same = append_cancel_left (codes "/accounts/") (name ++ (first ++ x ∷ [])) (other ++ (second ++ y ∷ [])) (sym is ∙ also) in
+    let ends : (name ++ first) ++ x ∷ [] ≡ (other ++ second) ++ y ∷ [] =
+    append_assoc name first (x ∷ []) ∙ same ∙ sym (append_assoc other second (y ∷ [])) in
+    unequal (same_from_push (name ++ first) (other ++ second) x y ends).1
+
+-- no target of settlements pauses payouts
+no_settlement_pauses : (path name other : List ℕ) → path ≡ account_target (codes "/settlements") name → path ≡ account_target (codes "/pause") other → ⊥
+no_settlement_pauses path name other is also =
+    ends_differ path (codes "/settlement") (codes "/paus") name other 115 101 (λ e. absurd (omega (arith, e))) is also
+
+-- or has them go on
+no_settlement_resumes : (path name other : List ℕ) → path ≡ account_target (codes "/settlements") name → path ≡ account_target (codes "/resume") other → ⊥
+no_settlement_resumes path name other is also =
+    ends_differ path (codes "/settlement") (codes "/resum") name other 115 101 (λ e. absurd (omega (arith, e))) is also
+
+-- no target of messages pauses payouts
+no_message_pauses : (path name other : List ℕ) → path ≡ account_target (codes "/messages") name → path ≡ account_target (codes "/pause") other → ⊥
+no_message_pauses path name other is also =
+    ends_differ path (codes "/message") (codes "/paus") name other 115 101 (λ e. absurd (omega (arith, e))) is also
+
+-- or has them go on
+no_message_resumes : (path name other : List ℕ) → path ≡ account_target (codes "/messages") name → path ≡ account_target (codes "/resume") other → ⊥
+no_message_resumes path name other is also =
+    ends_differ path (codes "/message") (codes "/resum") name other 115 101 (λ e. absurd (omega (arith, e))) is also
+
+-- what pauses payouts does not have them go on
+no_pause_resumes : (path name other : List ℕ) → path ≡ account_target (codes "/pause") name → path ≡ account_target (codes "/resume") other → ⊥
+no_pause_resumes path name other is also =
+    let same = append_cancel_left (codes "/accounts/") (name ++ codes "/pause") (other ++ codes "/resume") (sym is ∙ also) in
+    let ends : (name ++ codes "/paus") ++ codes "e" ≡ (other ++ codes "/resum") ++ codes "e" =
+    append_assoc name (codes "/paus") (codes "e") ∙ same ∙ sym (append_assoc other (codes "/resum") (codes "e")) in
+    let fronts = (same_from_push (name ++ codes "/paus") (other ++ codes "/resum") 101 101 ends).0 in
+    let before : (name ++ codes "/pau") ++ codes "s" ≡ (other ++ codes "/resu") ++ codes "m" =
+    append_assoc name (codes "/pau") (codes "s") ∙ fronts ∙ sym (append_assoc other (codes "/resu") (codes "m")) in
+    let s_is_m = (same_from_push (name ++ codes "/pau") (other ++ codes "/resu") 115 109 before).1 in
+    absurd (omega (arith, s_is_m))
 
 -- no target of an account closes the connector
 no_close : (path call name : List ℕ) → path ≡ account_target call name → path ≡ codes "/close" → ⊥
@@ -76,11 +117,15 @@ one_target C Ilp path Packet (Message q) valid is also = absurd also
 one_target C Ilp path Packet Report valid is also = absurd also
 one_target C Ilp path Packet Close valid is also = absurd also
 one_target C Ilp path Packet Reload valid is also = absurd also
+one_target C Ilp path Packet (Pause q) valid is also = absurd also
+one_target C Ilp path Packet (Resume q) valid is also = absurd also
 one_target C Ilp path (Settlement p) other valid is also = absurd is
 one_target C Ilp path (Message p) other valid is also = absurd is
 one_target C Ilp path Report other valid is also = absurd is
 one_target C Ilp path Close other valid is also = absurd is
 one_target C Ilp path Reload other valid is also = absurd is
+one_target C Ilp path (Pause p) other valid is also = absurd is
+one_target C Ilp path (Resume p) other valid is also = absurd is
 one_target C Engine path Packet other valid is also = absurd is
 one_target C Engine path (Settlement p) Packet valid is also = absurd also
 one_target C Engine path (Settlement p) (Settlement q) valid is also = ap Settlement (of_one_peer C valid (codes "/settlements") path p q is also)
@@ -88,30 +133,56 @@ one_target C Engine path (Settlement p) (Message q) valid is also = absurd (no_m
 one_target C Engine path (Settlement p) Report valid is also = absurd (no_report path (codes "/settlements") (peer_at C p).name is.named also)
 one_target C Engine path (Settlement p) Close valid is also = absurd (no_close path (codes "/settlements") (peer_at C p).name is.named also)
 one_target C Engine path (Settlement p) Reload valid is also = absurd (no_reload path (codes "/settlements") (peer_at C p).name is.named also)
+one_target C Engine path (Settlement p) (Pause q) valid is also = absurd (no_settlement_pauses path (peer_at C p).name (peer_at C q).name is.named also.named)
+one_target C Engine path (Settlement p) (Resume q) valid is also = absurd (no_settlement_resumes path (peer_at C p).name (peer_at C q).name is.named also.named)
 one_target C Engine path (Message p) Packet valid is also = absurd also
 one_target C Engine path (Message p) (Settlement q) valid is also = absurd (no_message path (peer_at C q).name (peer_at C p).name also.named is.named)
 one_target C Engine path (Message p) (Message q) valid is also = ap Message (of_one_peer C valid (codes "/messages") path p q is also)
 one_target C Engine path (Message p) Report valid is also = absurd (no_report path (codes "/messages") (peer_at C p).name is.named also)
 one_target C Engine path (Message p) Close valid is also = absurd (no_close path (codes "/messages") (peer_at C p).name is.named also)
 one_target C Engine path (Message p) Reload valid is also = absurd (no_reload path (codes "/messages") (peer_at C p).name is.named also)
+one_target C Engine path (Message p) (Pause q) valid is also = absurd (no_message_pauses path (peer_at C p).name (peer_at C q).name is.named also.named)
+one_target C Engine path (Message p) (Resume q) valid is also = absurd (no_message_resumes path (peer_at C p).name (peer_at C q).name is.named also.named)
 one_target C Engine path Report Packet valid is also = absurd also
 one_target C Engine path Report (Settlement q) valid is also = absurd (no_report path (codes "/settlements") (peer_at C q).name also.named is)
 one_target C Engine path Report (Message q) valid is also = absurd (no_report path (codes "/messages") (peer_at C q).name also.named is)
 one_target C Engine path Report Report valid is also = refl
 one_target C Engine path Report Close valid is also = absurd (no_report_closes path is also)
 one_target C Engine path Report Reload valid is also = absurd (no_report_reloads path is also)
+one_target C Engine path Report (Pause q) valid is also = absurd (no_report path (codes "/pause") (peer_at C q).name also.named is)
+one_target C Engine path Report (Resume q) valid is also = absurd (no_report path (codes "/resume") (peer_at C q).name also.named is)
 one_target C Engine path Close Packet valid is also = absurd also
 one_target C Engine path Close (Settlement q) valid is also = absurd (no_close path (codes "/settlements") (peer_at C q).name also.named is)
 one_target C Engine path Close (Message q) valid is also = absurd (no_close path (codes "/messages") (peer_at C q).name also.named is)
 one_target C Engine path Close Report valid is also = absurd (no_report_closes path also is)
 one_target C Engine path Close Close valid is also = refl
 one_target C Engine path Close Reload valid is also = absurd (no_close_reloads path is also)
+one_target C Engine path Close (Pause q) valid is also = absurd (no_close path (codes "/pause") (peer_at C q).name also.named is)
+one_target C Engine path Close (Resume q) valid is also = absurd (no_close path (codes "/resume") (peer_at C q).name also.named is)
 one_target C Engine path Reload Packet valid is also = absurd also
 one_target C Engine path Reload (Settlement q) valid is also = absurd (no_reload path (codes "/settlements") (peer_at C q).name also.named is)
 one_target C Engine path Reload (Message q) valid is also = absurd (no_reload path (codes "/messages") (peer_at C q).name also.named is)
 one_target C Engine path Reload Report valid is also = absurd (no_report_reloads path also is)
 one_target C Engine path Reload Close valid is also = absurd (no_close_reloads path also is)
 one_target C Engine path Reload Reload valid is also = refl
+one_target C Engine path Reload (Pause q) valid is also = absurd (no_reload path (codes "/pause") (peer_at C q).name also.named is)
+one_target C Engine path Reload (Resume q) valid is also = absurd (no_reload path (codes "/resume") (peer_at C q).name also.named is)
+one_target C Engine path (Pause p) Packet valid is also = absurd also
+one_target C Engine path (Pause p) (Settlement q) valid is also = absurd (no_settlement_pauses path (peer_at C q).name (peer_at C p).name also.named is.named)
+one_target C Engine path (Pause p) (Message q) valid is also = absurd (no_message_pauses path (peer_at C q).name (peer_at C p).name also.named is.named)
+one_target C Engine path (Pause p) Report valid is also = absurd (no_report path (codes "/pause") (peer_at C p).name is.named also)
+one_target C Engine path (Pause p) Close valid is also = absurd (no_close path (codes "/pause") (peer_at C p).name is.named also)
+one_target C Engine path (Pause p) Reload valid is also = absurd (no_reload path (codes "/pause") (peer_at C p).name is.named also)
+one_target C Engine path (Pause p) (Pause q) valid is also = ap Pause (of_one_peer C valid (codes "/pause") path p q is also)
+one_target C Engine path (Pause p) (Resume q) valid is also = absurd (no_pause_resumes path (peer_at C p).name (peer_at C q).name is.named also.named)
+one_target C Engine path (Resume p) Packet valid is also = absurd also
+one_target C Engine path (Resume p) (Settlement q) valid is also = absurd (no_settlement_resumes path (peer_at C q).name (peer_at C p).name also.named is.named)
+one_target C Engine path (Resume p) (Message q) valid is also = absurd (no_message_resumes path (peer_at C q).name (peer_at C p).name also.named is.named)
+one_target C Engine path (Resume p) Report valid is also = absurd (no_report path (codes "/resume") (peer_at C p).name is.named also)
+one_target C Engine path (Resume p) Close valid is also = absurd (no_close path (codes "/resume") (peer_at C p).name is.named also)
+one_target C Engine path (Resume p) Reload valid is also = absurd (no_reload path (codes "/resume") (peer_at C p).name is.named also)
+one_target C Engine path (Resume p) (Pause q) valid is also = absurd (no_pause_resumes path (peer_at C q).name (peer_at C p).name also.named is.named)
+one_target C Engine path (Resume p) (Resume q) valid is also = ap Resume (of_one_peer C valid (codes "/resume") path p q is also)
 
 -- fields show the token of one peer
 pub one_sender : (C : Configuration) (values : List (List ℕ)) (peer other : ℕ) → IsValid C → IsFrom C values peer → IsFrom C values other → peer ≡ other

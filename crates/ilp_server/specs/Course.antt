@@ -1,8 +1,9 @@
 -- The first half of serving a connection: what is begun of the request that its octets begin with.
-use Rattle.std.specs.Prelude.{◌≡◌, ◌⊎◌, ℕ, List, codes, Result, Ok, Err}
+use Rattle.std.specs.Prelude.{◌≡◌, ◌⊎◌, ℕ, ◌<◌, List, length, codes, Result, Ok, Err, ⊤}
 use Rattle.http_header.specs.FieldValue.{FieldValue}
 use Rattle.http_header.specs.HeaderMap.{Entries}
 use Rattle.slab.specs.Slab.{Slab}
+use Rattle.ilp_accounts.specs.Configuration.{Configuration}
 use Rattle.ilp_http.specs.Answer.{IsAnswer}
 use Rattle.ilp_http.specs.declared.refusal.RequestFault.{RequestFault}
 use Rattle.ilp_http.specs.declared.request.Request.{Request}
@@ -26,11 +27,11 @@ use Rattle.ilp_server.specs.declared.unserved.NotServed.{NotServed}
 use Rattle.ilp_server.specs.declared.unserved.NotServed.TheVariants as unserved
 use Rattle.ilp_server.specs.declared.served.Served.{Served}
 use Rattle.ilp_server.specs.declared.course.Course.{Course}
-use Rattle.ilp_server.specs.declared.course.Course.TheVariants.{Answered, Packet, ToEngine, ToPeer, Reload, Unanswered}
+use Rattle.ilp_server.specs.declared.course.Course.TheVariants.{Answered, Packet, ToEngine, ToPeer, Reload, Pause, Resume, Unanswered}
 use Rattle.ilp_server.specs.Targets.{AsksFor}
 use Rattle.ilp_server.specs.Fields.{values_in, IsFrom}
 use Rattle.ilp_server.specs.Statuses.{unread}
-use Rattle.ilp_server.specs.Serving.{Inquiry, inquiry, ServesTarget}
+use Rattle.ilp_server.specs.Serving.{Inquiry, inquiry, TellsReport, ServesTarget}
 use Rattle.ilp_server.specs.Response.{PlainResponse, response_to, refusal, IsToPacket}
 
 -- a worker, and what it began that waits
@@ -88,20 +89,28 @@ IsServedWhole desk i t before after course =
     (outcome : Result Served NotServed)
     × ServesTarget desk i t before.worker after.worker outcome × (after.waiting ≡ before.waiting) × (course ≡ Answered (response_to after.worker outcome))
 
--- by what the request asks for
-abbrev pub BeginsTarget : PlainDesk → Inquiry → Target → PlainFlight → PlainFlight → Course → Type 0
-BeginsTarget desk i target.Packet before after course = BeginsPacket desk i.headers i.body before after course
-BeginsTarget desk i (target.Settlement peer) before after course = IsServedWhole desk i (target.Settlement peer) before after course
-BeginsTarget desk i (target.Message peer) before after course = BeginsMessage desk peer i.body before after course
-BeginsTarget desk i target.Report before after course = IsServedWhole desk i target.Report before after course
-BeginsTarget desk i target.Close before after course = IsServedWhole desk i target.Close before after course
-BeginsTarget desk i target.Reload before after course = (course ≡ Reload) × (after ≡ before)
+-- A report: it is told with this behind it, and all is as it was.
+abbrev pub BeginsReport : PlainDesk → List ℕ → PlainFlight → PlainFlight → Course → Type 0
+BeginsReport desk behind before after course =
+    (outcome : Result Served NotServed)
+    × TellsReport desk behind outcome × (after ≡ before) × (course ≡ Answered (response_to after.worker outcome))
+
+-- by what the request asks for, where a report has this behind it
+abbrev pub BeginsTarget : PlainDesk → List ℕ → Inquiry → Target → PlainFlight → PlainFlight → Course → Type 0
+BeginsTarget desk behind i target.Packet before after course = BeginsPacket desk i.headers i.body before after course
+BeginsTarget desk behind i (target.Settlement peer) before after course = IsServedWhole desk i (target.Settlement peer) before after course
+BeginsTarget desk behind i (target.Message peer) before after course = BeginsMessage desk peer i.body before after course
+BeginsTarget desk behind i target.Report before after course = BeginsReport desk behind before after course
+BeginsTarget desk behind i target.Close before after course = IsServedWhole desk i target.Close before after course
+BeginsTarget desk behind i target.Reload before after course = (course ≡ Reload) × (after ≡ before)
+BeginsTarget desk behind i (target.Pause peer) before after course = (course ≡ Pause peer) × (after ≡ before)
+BeginsTarget desk behind i (target.Resume peer) before after course = (course ≡ Resume peer) × (after ≡ before)
 
 -- What asks for nothing is refused, whatever else it has.
-abbrev pub BeginsInquiry : PlainDesk → Inquiry → PlainFlight → PlainFlight → Course → Type 0
-BeginsInquiry desk i before after course =
+abbrev pub BeginsInquiry : PlainDesk → List ℕ → Inquiry → PlainFlight → PlainFlight → Course → Type 0
+BeginsInquiry desk behind i before after course =
     (((t : Target) → ¬ (AsksFor desk.config i.side i.path t)) × IsSentAway unserved.UnknownTarget before after course)
-    ⊎ ((t : Target) × AsksFor desk.config i.side i.path t × BeginsTarget desk i t before after course)
+    ⊎ ((t : Target) × AsksFor desk.config i.side i.path t × BeginsTarget desk behind i t before after course)
 
 -- ---- the octets of a connection
 
@@ -111,12 +120,20 @@ course_of_unread (Ok why) = Answered (refusal why)
 course_of_unread (Err fault) = Unanswered fault
 
 -- by what was read
-abbrev pub IsBegunBy : PlainDesk → Side → Result Request RequestFault → PlainFlight → PlainFlight → Course → Type 0
-IsBegunBy desk side (Ok request) before after course =
-    BeginsInquiry desk (inquiry side request.path.now request.headers request.body.now) before after course
-IsBegunBy desk side (Err fault) before after course = (course ≡ course_of_unread (unread fault)) × (after ≡ before)
+abbrev pub IsBegunBy : PlainDesk → Side → List ℕ → Result Request RequestFault → PlainFlight → PlainFlight → Course → Type 0
+IsBegunBy desk side behind (Ok request) before after course =
+    BeginsInquiry desk behind (inquiry side request.path.now request.headers request.body.now) before after course
+IsBegunBy desk side behind (Err fault) before after course = (course ≡ course_of_unread (unread fault)) × (after ≡ before)
 
--- What the octets are read as is begun.
-abbrev pub BeginsRequest : PlainDesk → Side → List ℕ → PlainFlight → PlainFlight → Course → Type 0
-BeginsRequest desk side octets before after course =
-    (request : Result Request RequestFault) × IsAnswer octets request × IsBegunBy desk side request before after course
+-- What the octets are read as is begun. A report has this behind it.
+abbrev pub BeginsRequest : PlainDesk → Side → List ℕ → List ℕ → PlainFlight → PlainFlight → Course → Type 0
+BeginsRequest desk side octets behind before after course =
+    (request : Result Request RequestFault) × IsAnswer octets request × IsBegunBy desk side behind request before after course
+
+-- ---- whose payouts it is of
+
+-- A peer whose payouts are to be paused, or to go on, is one of the configuration's.
+abbrev pub IsOfKnownPeer : Configuration → Course → Type 0
+IsOfKnownPeer C (Pause peer) = peer < length C.peers
+IsOfKnownPeer C (Resume peer) = peer < length C.peers
+IsOfKnownPeer C course = ⊤

@@ -60,6 +60,10 @@ NeedsNoWorker (Err why) = ⊤
 abbrev pub refusal : NotServed → PlainResponse
 refusal why = response (bare (status_of why)) (deed_of (Err why)) false
 
+-- the response to what is done, and of which there is nothing to tell
+abbrev pub done : PlainResponse
+done = response (bare status.Ok) deed.Nothing false
+
 -- ---- to a packet and to a message
 
 -- the response to a packet of this sender, by the Reject that it is answered, if it is one, and by the octets

@@ -1,5 +1,5 @@
 -- What a request that was read is answered, and what a worker made of it.
-use Rattle.std.specs.Prelude.{◌≡◌, ℕ, ◌⊎◌, List, [], codes, unwrap_or, Some, Result, Ok, Err}
+use Rattle.std.specs.Prelude.{◌≡◌, ℕ, ◌⊎◌, List, [], ◌++◌, codes, unwrap_or, Some, Result, Ok, Err}
 use Rattle.http_header.specs.FieldValue.{FieldValue}
 use Rattle.http_header.specs.HeaderMap.{Entries}
 use Rattle.ilp_http.specs.declared.status.Status.{Status}
@@ -133,6 +133,12 @@ abbrev pub ServesMessage : PlainDesk → ℕ → List ℕ → PlainWorker → Pl
 ServesMessage desk peer body before after outcome =
     (sent : Result (Unit {0}) MessageFault) × Messages desk.config peer body before after sent × (outcome ≡ message_outcome sent)
 
+-- A report with this behind it: that of some book of the desk; or there is no memory for it.
+abbrev pub TellsReport : PlainDesk → List ℕ → Result Served NotServed → Type 0
+TellsReport desk behind (Ok (Report text)) = (book : PlainBook) × IsBookOf desk book × (text.items ≡ report_text book ++ behind)
+TellsReport desk behind (Ok other) = ⊥
+TellsReport desk behind (Err why) = why ≡ unserved.Memory
+
 -- A report: that of some book of the desk; or there is no memory for it.
 abbrev pub ServesReport : PlainDesk → Result Served NotServed → Type 0
 ServesReport desk (Ok (Report text)) = (book : PlainBook) × IsBookOf desk book × (text.items ≡ report_text book)
@@ -147,6 +153,8 @@ ServesTarget desk i (target.Message peer) before after outcome = ServesMessage d
 ServesTarget desk i target.Report before after outcome = ServesReport desk outcome × (after ≡ before)
 ServesTarget desk i target.Close before after outcome = (outcome ≡ Ok Close) × (after ≡ before)
 ServesTarget desk i target.Reload before after outcome = IsTurnedAway unserved.NewPeriod before after outcome
+ServesTarget desk i (target.Pause peer) before after outcome = IsTurnedAway unserved.NewPeriod before after outcome
+ServesTarget desk i (target.Resume peer) before after outcome = IsTurnedAway unserved.NewPeriod before after outcome
 
 -- What asks for nothing is turned away, whatever else it has.
 abbrev pub Serves : PlainDesk → Inquiry → PlainWorker → PlainWorker → Result Served NotServed → Type 0

@@ -3,13 +3,13 @@ ghost use Rattle.std.specs.Prelude.{◌≡◌};
 ghost use Rattle.ilp_book.specs.Configured.{IsKnown};
 ghost use Rattle.ilp_server.specs.Serving.{inquiry};
 ghost use Rattle.ilp_server.specs.Response.{IsToPacket};
-ghost use Rattle.ilp_server.specs.Course.{flight_of, BeginsPacket, BeginsMessage, BeginsInquiry, BeginsRequest};
+ghost use Rattle.ilp_server.specs.Course.{flight_of, BeginsPacket, BeginsMessage, BeginsInquiry, BeginsRequest, IsOfKnownPeer};
 
 use crate::fields::sender_of;
 use crate::handled::ConnectionFault;
 use crate::response::Response;
 use crate::served::Served;
-use crate::serving::{serve_report, serve_settlement};
+use crate::serving::{serve_report_with, serve_settlement};
 use crate::target::{Side, Target, target_of};
 use crate::unserved::{NotServed, unread};
 use ilp_desk::{Desk, Naming};
@@ -34,14 +34,18 @@ pub enum Course {
     /// The configuration is to be read again. Who asks for that is answered once it is known what becomes
     /// of it.
     Reload,
+    /// The peer's settlement engine is to be asked for no new settlement.
+    Pause { peer: u32 },
+    /// It is to be asked for new ones again.
+    Resume { peer: u32 },
     /// Nothing is written.
     Unanswered(ConnectionFault),
 }
 
 /// Begins to serve the request that the octets of a connection at a side begin with (RFC 0035 at the
 /// side of the peers, RFC 0038 at that of the engines). A packet is held, and waits with the worker
-/// until it is finished; a message is ready for whom it is handed to; all else is done. Nobody outside
-/// is waited for.
+/// until it is finished; a message is ready for whom it is handed to; all else is done, but for what is
+/// asked of the connector as a whole. Nobody outside is waited for. A report has `behind` at its end.
 ///
 /// What is refused is answered with a status and an empty body, and leaves the flight as it was unless
 /// a packet, a credit or a message was tried. The copy of a Reject that a packet is answered at once
@@ -58,15 +62,18 @@ pub fn begin_request<
     desk: &Desk<J>,
     side: Side,
     octets: &[u8],
+    behind: &[u8],
     buffer: &mut Buffer,
 ) -> Course
-    ensures begun { BeginsRequest J.desk side octets.now (flight_of flight.old.worker flight.old.waiting)
+    ensures begun { BeginsRequest J.desk side octets.now behind.now
+        (flight_of flight.old.worker flight.old.waiting)
         (flight_of flight.new.worker flight.new.waiting) result }
+    ensures peer { IsOfKnownPeer J.desk.config result }
 {
     let alloc = desk.config().allocator();
     let mut source = octets;
     match read_request(alloc, &mut source, buffer) {
-        Ok(request) => begin(rt, alloc, flight, desk, side, &request),
+        Ok(request) => begin(rt, alloc, flight, desk, side, &request, behind),
         Err(fault) => match unread(fault) {
             Ok(why) => Course::Answered(Response::refusal(why)),
             Err(fault) => Course::Unanswered(fault),
@@ -82,11 +89,13 @@ fn begin<J: Naming, C: Clock + Drop, U: Uplink + Drop, E: EngineLink + Drop, K: 
     desk: &Desk<J>,
     side: Side,
     request: &Request<'_>,
+    behind: &[u8],
 ) -> Course
-    ensures begun { BeginsInquiry J.desk
+    ensures begun { BeginsInquiry J.desk behind.now
         (inquiry side request.now.path.now request.now.headers request.now.body.now)
         (flight_of flight.old.worker flight.old.waiting)
         (flight_of flight.new.worker flight.new.waiting) result }
+    ensures peer { IsOfKnownPeer J.desk.config result }
 {
     match target_of(desk.config(), side, request.path) {
         None => Course::Answered(Response::refusal(NotServed::UnknownTarget)),
@@ -97,11 +106,13 @@ fn begin<J: Naming, C: Clock + Drop, U: Uplink + Drop, E: EngineLink + Drop, K: 
         }
         Some(Target::Message { peer }) => begin_message(flight, desk, peer, request.body),
         Some(Target::Report) => {
-            let report = serve_report(rt, alloc, desk);
+            let report = serve_report_with(rt, alloc, desk, behind);
             Course::Answered(Response::to_outcome(report))
         }
         Some(Target::Close) => Course::Answered(Response::to_outcome(Ok(Served::Close))),
         Some(Target::Reload) => Course::Reload,
+        Some(Target::Pause { peer }) => Course::Pause { peer },
+        Some(Target::Resume { peer }) => Course::Resume { peer },
     }
 }
 

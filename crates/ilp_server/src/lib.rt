@@ -15,7 +15,8 @@
 //!   credit of which the worker's keeper said that it is not kept is answered 503. Of a message
 //!   `Worker::message`'s relation holds.
 //! - A report is exactly the report of some book of the desk, or 503 where memory is short. It
-//!   changes nothing; nor does a close. Of a reload nothing is read: it is answered 503.
+//!   changes nothing; nor does a close. A reload, a pause and a resume do nothing: they are answered
+//!   503.
 //! - `Done`: the response with this status was written whole; `Close`: the same of 200, only for a
 //!   close at the engines' side. `Fault`: a write failed before its end; or nothing that is
 //!   answered was read, nothing was written, and the worker is as it was. `Done` and `Fault` have
@@ -30,8 +31,10 @@
 //!   no token leaves the flight as it was, and has the same refusal. A packet is begun as
 //!   `Flight::begin` does, from the token's peer: it waits under that key, or the engine here is to be
 //!   asked, or it is answered by the worker's octets, or by 503 where memory for their copy is denied.
-//!   A message is made ready for the path's peer. Settlements, reports and closes are served whole, as
-//!   above, and what waited still waits. A reload is handed on, and changes nothing.
+//!   A message is made ready for the path's peer. Settlements and closes are served whole, as above, and
+//!   what waited still waits; so are reports, with what they are to have behind their own text. A reload
+//!   is handed on, and so are a pause and a resume with the path's peer, whom the configuration has; they
+//!   change nothing.
 //! - A `Response` (`specs/Response.antt`) is written as `answer_connection` writes. `to_packet` is the
 //!   answer's octets with the deed that the sender is told its Reject; `to_message` is what the peer's
 //!   engine answered, 503 where memory for it is denied, and 502 where it answered nothing.

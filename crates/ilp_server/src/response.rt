@@ -7,7 +7,7 @@ ghost use Rattle.ilp_io.specs.Writing.{AppendsProperPrefix};
 ghost use Rattle.ilp_replies.specs.Messages.{peer_answer_of};
 ghost use Rattle.ilp_workers.specs.Worker.{PlainWorker};
 ghost use Rattle.ilp_server.specs.Connection.{response_octets};
-ghost use Rattle.ilp_server.specs.Response.{octets_in, NeedsNoWorker, response_to, refusal, to_packet, IsToMessage};
+ghost use Rattle.ilp_server.specs.Response.{octets_in, NeedsNoWorker, response_to, refusal, done, to_packet, IsToMessage};
 
 use crate::handled::Deed;
 use crate::served::{Served, deed_of};
@@ -91,6 +91,19 @@ impl Response {
             kind: Kind::Text,
             body: Body::Nothing,
             deed: deed_of(&Err(why)),
+            closes: false,
+        }
+    }
+
+    /// The response to what is done, and of which there is nothing to tell: 200 and an empty body.
+    pub fn done() -> Response
+        ensures { result ≡ done }
+    {
+        Response {
+            status: Status::Ok,
+            kind: Kind::Text,
+            body: Body::Nothing,
+            deed: Deed::Nothing,
             closes: false,
         }
     }

@@ -2,7 +2,7 @@
 ghost use Rattle.std.specs.Prelude.{◌≡◌};
 ghost use Rattle.ilp_journal.specs.Keys.{IsKey};
 ghost use Rattle.ilp_book.specs.Configured.{IsKnown};
-ghost use Rattle.ilp_server.specs.Serving.{inquiry, Serves, ServesPacket, ServesSettlement, ServesPayment, ServesMessage, ServesReport};
+ghost use Rattle.ilp_server.specs.Serving.{inquiry, Serves, ServesPacket, ServesSettlement, ServesPayment, ServesMessage, TellsReport, ServesReport};
 
 use crate::fields::{key_of, sender_of};
 use crate::served::Served;
@@ -47,7 +47,9 @@ pub(crate) fn serve<
         Some(Target::Message { peer }) => serve_message(worker, desk, peer, request.body),
         Some(Target::Report) => serve_report(rt, alloc, desk),
         Some(Target::Close) => Ok(Served::Close),
-        Some(Target::Reload) => Err(NotServed::NewPeriod),
+        Some(Target::Reload | Target::Pause { .. } | Target::Resume { .. }) => {
+            Err(NotServed::NewPeriod)
+        }
     }
 }
 
@@ -195,5 +197,26 @@ pub(crate) fn serve_report<J: Naming>(
     match print(&snapshot, &mut text) {
         Ok(()) => Ok(Served::Report(text)),
         Err(_) => Err(NotServed::Memory),
+    }
+}
+
+// Tells the balances, with this behind them.
+pub(crate) fn serve_report_with<J: Naming>(
+    rt: &impl Wait,
+    alloc: Global,
+    desk: &Desk<J>,
+    behind: &[u8],
+) -> Result<Served, NotServed>
+    ensures { TellsReport J.desk behind.now result }
+{
+    match serve_report(rt, alloc, desk) {
+        Ok(Served::Report(report)) => {
+            let mut text = report;
+            let Ok(()) = text.extend_from_slice(behind) else {
+                return Err(NotServed::Memory);
+            };
+            Ok(Served::Report(text))
+        }
+        other => other,
     }
 }

@@ -30,6 +30,10 @@ pub enum Target {
     Close,
     /// Read the configuration again.
     Reload,
+    /// Ask the peer's settlement engine for no new settlement.
+    Pause { peer: u32 },
+    /// Ask it for new ones again.
+    Resume { peer: u32 },
 }
 
 /// What a path asks for at a side; none where it asks for nothing there.
@@ -63,8 +67,14 @@ fn engine_target(config: &Config, path: &[u8]) -> Option<Target>
     if let Some(peer) = peer_in(config, path, b"/settlements") {
         return Some(Target::Settlement { peer });
     }
-    let peer = peer_in(config, path, b"/messages")?;
-    Some(Target::Message { peer })
+    if let Some(peer) = peer_in(config, path, b"/messages") {
+        return Some(Target::Message { peer });
+    }
+    if let Some(peer) = peer_in(config, path, b"/pause") {
+        return Some(Target::Pause { peer });
+    }
+    let peer = peer_in(config, path, b"/resume")?;
+    Some(Target::Resume { peer })
 }
 
 // The peer of whose account a path is that ends so.

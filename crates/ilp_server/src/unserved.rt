@@ -41,7 +41,7 @@ pub enum NotServed {
     /// The message has no answer.
     #[error("{0}")]
     Message(MessageFault),
-    /// The configuration is not read again now.
+    /// What is asked of the connector as a whole is not done now: the configuration is not read again.
     #[error("a new period is under way")]
     NewPeriod,
     /// Memory for the response was denied.

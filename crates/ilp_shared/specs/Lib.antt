@@ -1,1 +1,2 @@
 pub mod PeriodDue
+pub mod Payouts

@@ -3,6 +3,7 @@
 use crate::bells::Bells;
 use crate::intakes::Intakes;
 use crate::keeping::KeptJournal;
+use crate::payouts::Payouts;
 use crate::period_due::PeriodDue;
 use crate::places::Places;
 use crate::reloading::Reloading;
@@ -25,6 +26,7 @@ pub struct Shared<'a, J: Naming, R> {
     pub notices: &'a Notices,
     pub seen: &'a Seen,
     pub reloading: &'a Reloading,
+    pub payouts: &'a Payouts,
     /// When the desk's period ends by itself.
     pub due: Option<PeriodDue>,
 }
@@ -54,6 +56,7 @@ impl<'a, J: Naming, R> Shared<'a, J, R> {
             notices: self.notices,
             seen: self.seen,
             reloading: self.reloading,
+            payouts: self.payouts,
             due: self.due,
         }
     }

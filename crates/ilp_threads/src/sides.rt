@@ -16,8 +16,8 @@ use ilp_links::Links;
 use ilp_notices::{few_files, listening, no_thread, not_listening};
 use ilp_server::Side;
 use ilp_shared::{
-    Configurations, Intakes, KeptJournal, NextConfig, PeriodDue, Places, Reloading, Seen, Shared,
-    ending_after, monotonic,
+    Configurations, Intakes, KeptJournal, NextConfig, Payouts, PeriodDue, Places, Reloading, Seen,
+    Shared, ending_after, monotonic,
 };
 use std::alloc::AllocError;
 use std::io::{Eprint, ErrorKind};
@@ -36,6 +36,8 @@ pub struct Sides {
     acceptors: Acceptors,
     intakes: Intakes,
     reloading: Reloading,
+    // Whose payouts are paused, until the connector ends.
+    payouts: Payouts,
     // How many files the process may have open, where the system says so.
     open_files: Option<u64>,
     // Whether periods of the desk may end by themselves.
@@ -75,6 +77,7 @@ impl Sides {
             acceptors: Acceptors { peers, engines },
             intakes: Intakes::new(peer_handle, engine_handle, after),
             reloading: Reloading::new(),
+            payouts: Payouts::new(config.allocator()),
             open_files,
             has_periods,
             not_before: Duration::ZERO,
@@ -209,6 +212,7 @@ where
         acceptors,
         intakes,
         reloading,
+        payouts,
         open_files,
         has_periods,
         not_before,
@@ -243,6 +247,7 @@ where
         notices: links.notices(),
         seen: &seen,
         reloading: &reloading,
+        payouts: &payouts,
         due,
     };
     let running = Running {
@@ -258,6 +263,7 @@ where
                     acceptors,
                     intakes,
                     reloading,
+                    payouts,
                     open_files,
                     has_periods,
                     not_before,

@@ -9,6 +9,8 @@
 //!   its hold is over: the sweeper's thread released it, and the sender gets R00.
 //! - `serve` beside an engine that says nothing of the first of two open settlements: it is asked
 //!   for the other, and then for the first again under its key.
+//! - `serve` whose payouts to bob are paused and go on: both are answered, and the report says in between
+//!   whose are paused.
 //! - The links, with stand-ins for peers and engines: requests octet for octet; what responses come
 //!   to, one that is too long among them; peers and engines that aren't there, aren't configured or
 //!   have no `IP:PORT`; a deadline that is over; reads that end by their moment, writes to a closed

@@ -1,12 +1,13 @@
 //! The running connector, in a conversation of its peers and a settlement engine, beside a peer that says
-//! nothing, beside one that answers once its packet was swept, and beside an engine that says nothing of
-//! one of two settlements. The tests themselves start the threads:
+//! nothing, beside one that answers once its packet was swept, beside an engine that says nothing of one of
+//! two settlements, and with payouts that are paused. The tests themselves start the threads:
 //! what a connector asks of its runtime has types of its own, of which a proof knows nothing in another
 //! thread where the runtime is a parameter.
 
 mod conversation;
 mod messages;
 mod parts;
+mod pausing;
 mod silence;
 mod sweeping;
 
@@ -18,8 +19,9 @@ use ilp_config_file::BUILT_IN;
 use ilp_links::TcpLinks;
 use ilp_notices::Notices;
 use ilp_running::serve;
-use messages::{PRINTED, PRINTED_OF_PARTS, PRINTED_OF_SILENCE, SWEPT};
+use messages::{PRINTED, PRINTED_OF_PARTS, PRINTED_OF_SILENCE, SWEPT, UNTOUCHED};
 use parts::{Settling, settle_in_parts};
+use pausing::pause;
 use silence::{Scene, stay_silent};
 use std::alloc::Global;
 use std::io;
@@ -120,6 +122,15 @@ fn settle_in_parts_at<R: Net<Stream = TcpStream> + Clock>(
         engine,
     };
     settle_in_parts(rt, alloc, settling)
+}
+
+// Has the payouts to bob paused, and go on.
+fn pause_at<R: Net<Stream = TcpStream> + Clock>(
+    rt: &R,
+    alloc: Global,
+    engines: &String,
+) -> io::Result<bool> {
+    pause(rt, alloc, engines.as_str())
 }
 
 // What a test plays on: the configuration, and where bob and his engine listen.
@@ -287,5 +298,23 @@ fn two_open_settlements(rt: HostRuntime) -> Result<(), Fail> {
         || settle_in_parts_at(&rt, alloc, &engines, &engine),
     );
     assert!(rt; is_right(written, said, PRINTED_OF_PARTS));
+    Ok(())
+}
+
+#[test]
+fn paused_payouts(rt: HostRuntime) -> Result<(), Fail> {
+    let alloc = rt.alloc();
+    let (peers, engines) = (free_place(&rt, alloc)?, free_place(&rt, alloc)?);
+    let Stage {
+        config,
+        bob: _bob,
+        engine: _engine,
+    } = beside_bob(&rt, alloc, peers.as_str(), engines.as_str(), 30_000)?;
+    let (written, said) = join(
+        &rt,
+        || printed(&rt, &config, Still),
+        || pause_at(&rt, alloc, &engines),
+    );
+    assert!(rt; is_right(written, said, UNTOUCHED));
     Ok(())
 }

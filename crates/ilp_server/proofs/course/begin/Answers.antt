@@ -9,9 +9,9 @@ use Rattle.ilp_server.specs.Targets.{AsksFor}
 use Rattle.ilp_server.proofs.course.begin.Goals as goal
 
 -- a close is served whole
-pub returns-in-Some-Close : goal.returns-in-Some-Close
-returns-in-Some-Close g c =
+pub returns-in-Some-Close-clause-begun : goal.returns-in-Some-Close-clause-begun
+returns-in-Some-Close-clause-begun g c =
     let path = c.args.request.now.path.now in
     let asks = subst (λ (C : Configuration). AsksFor C c.args.side path c.in-Some-Close.field-0) c.config.ensures c.in-Some-Close.ensures in
     let closes = subst (λ (t : Target). AsksFor g.J.Naming.desk.config c.args.side path t) c.in-Some-Close.field-0-is asks in
-    record { begun = inr (target.Close, closes, (Ok served.Close, (refl, refl), refl, ap Answered (c.to_outcome-in-Some-Close.ensures c.args.flight.now.worker))) }
+    inr (target.Close, closes, (Ok served.Close, (refl, refl), refl, ap Answered (c.to_outcome-in-Some-Close.ensures c.args.flight.now.worker)))

@@ -62,6 +62,43 @@ pub(crate) const CLOSE: &[u8] = b"POST /close HTTP/1.1\r\nHost: hub\r\nContent-L
 pub(crate) const CLOSED: &[u8] =
     b"HTTP/1.1 200 OK\r\nContent-Length: 0\r\nConnection: close\r\n\r\n";
 
+/// The operator's request that no payout to bob be made.
+pub(crate) const PAUSE: &[u8] =
+    b"POST /accounts/bob/pause HTTP/1.1\r\nHost: hub\r\nContent-Length: 0\r\n\r\n";
+
+/// The same of a peer that there is none of.
+pub(crate) const PAUSE_OF_NOBODY: &[u8] =
+    b"POST /accounts/carol/pause HTTP/1.1\r\nHost: hub\r\nContent-Length: 0\r\n\r\n";
+
+/// What it is answered.
+pub(crate) const UNKNOWN: &[u8] =
+    b"HTTP/1.1 404 Not Found\r\nContent-Length: 0\r\nConnection: close\r\n\r\n";
+
+/// The operator's request that payouts to bob go on.
+pub(crate) const RESUME: &[u8] =
+    b"POST /accounts/bob/resume HTTP/1.1\r\nHost: hub\r\nContent-Length: 0\r\n\r\n";
+
+/// What both are answered.
+pub(crate) const DONE: &[u8] = CLOSED;
+
+/// The end of a report while payouts to bob are paused.
+pub(crate) const PAUSED: &[u8] = b"fulfilled                                                  0\n\
+paused    bob                                              1\n";
+
+/// The report where nothing came.
+pub(crate) const UNTOUCHED: &[u8] =
+    b"balance   alice                                            0\n\
+balance   bob                                              0\n\
+open      alice                                            0\n\
+open      bob                                              0\n\
+held      USD/2                                            0\n\
+fees      USD/2                                            0\n\
+bought    USD/2                                            0\n\
+sold      USD/2                                            0\n\
+settled   USD/2                                            0\n\
+entries                                                    0\n\
+fulfilled                                                  0\n";
+
 /// The head of a request whose body is longer than one may be.
 pub(crate) const TOO_LONG: &[u8] = b"POST /ilp HTTP/1.1\r\nHost: hub\r\n\
 Authorization: Bearer a-token\r\nContent-Length: 10000000\r\n\r\n";

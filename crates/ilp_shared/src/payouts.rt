@@ -1,0 +1,142 @@
+//! Whose payouts are paused.
+ghost use Rattle.std.specs.Prelude.{◌≡◌, ◌×◌, ◌++◌, ◌∷◌, [], ◌<◌, ◌≤◌, pos, List, String, map, codes, length, replicate, OnOk, OnErr, IfOk, string_bytes, if◌then◌else◌};
+ghost use Rattle.ilp_report.specs.Report.{line};
+ghost use Rattle.ilp_shared.specs.Payouts.{is_among, without, peer_line, paused_lines};
+
+use ilp_accounts::Config;
+use std::alloc::{AllocError, Global};
+use std::sync::atomic::{AtomicBool, Ordering};
+use std::sync::{Mutex, Wait};
+
+// How wide the report's column of names is.
+const NAME_WIDTH: usize = 20;
+
+/// The peers whose payouts are paused: their settlement engines are asked for no new settlement. It is
+/// by names, since a reload may change the places of peers. Threads share it by reference.
+#[derive(Drop)]
+pub struct Payouts {
+    // Whether somebody is named. It is written under the lock.
+    has_any: AtomicBool,
+    named: Mutex<Vec<String>>,
+}
+
+impl Payouts {
+    /// Nobody's are paused.
+    pub fn new(alloc: Global) -> Payouts {
+        Payouts {
+            has_any: AtomicBool::new(false),
+            named: Mutex::new(Vec::new(alloc)),
+        }
+    }
+
+    /// Those of the peer of this name are paused from now on. Where memory is denied all is as it was.
+    pub fn pause(&self, rt: &impl Wait, alloc: Global, name: &str) -> Result<(), AllocError> {
+        let mut named = self.named.lock(rt);
+        add(&mut named, alloc, name)?;
+        self.has_any.store(true, Ordering::SeqCst);
+        Ok(())
+    }
+
+    /// Those of the peer of this name go on.
+    pub fn resume(&self, rt: &impl Wait, name: &str) {
+        let mut named = self.named.lock(rt);
+        remove(&mut named, name);
+        self.has_any.store(!named.is_empty(), Ordering::SeqCst);
+    }
+
+    /// Whether those of the peer of this name are paused. Where nobody's are this takes no lock.
+    pub fn is_paused(&self, rt: &impl Wait, name: &str) -> bool {
+        self.has_any.load(Ordering::SeqCst) && is_among(&self.named.lock(rt), name)
+    }
+
+    /// The lines that the report has of the peers whose payouts are paused, in the configuration's order.
+    /// Where nobody's are this takes no lock and no memory.
+    pub fn lines(&self, rt: &impl Wait, config: &Config) -> Result<Vec<u8>, AllocError>
+        ensures { IfOk result (λ lines. (named : List String)
+            × (lines.items ≡ paused_lines named config.now)) }
+    {
+        if self.has_any.load(Ordering::SeqCst) {
+            return lines_of(&self.named.lock(rt), config);
+        }
+        lines_of(&[], config)
+    }
+}
+
+// Adds a name, unless it is there.
+fn add(named: &mut Vec<String>, alloc: Global, name: &str) -> Result<(), AllocError>
+    ensures ok { OnOk result (map string_bytes named.new.items
+        ≡ (if is_among named.old.items name.now then map string_bytes named.old.items
+        else map string_bytes named.old.items ++ name.now ∷ [])) }
+    ensures err { OnErr result (named.new.items ≡ named.old.items) }
+{
+    if is_among(named, name) {
+        return Ok(());
+    }
+    let name = String::from_str(alloc, name)?;
+    match named.push(name) {
+        Ok(()) => Ok(()),
+        Err(_) => Err(AllocError),
+    }
+}
+
+// Removes a name, if it is there.
+fn remove(named: &mut Vec<String>, name: &str)
+    ensures { named.new.items ≡ without name.now named.old.items }
+{
+    named.retain(|other| other.as_str() != name);
+}
+
+// Whether a name is there.
+fn is_among(named: &[String], name: &str) -> bool
+    ensures { result ≡ is_among named.now name.now }
+{
+    named.iter().any(|other| other.as_str() == name)
+}
+
+// The lines of the peers that are named.
+fn lines_of(named: &[String], config: &Config) -> Result<Vec<u8>, AllocError>
+    ensures { IfOk result (λ lines. lines.items ≡ paused_lines named.now config.now) }
+{
+    let mut lines = Vec::new(config.allocator());
+    for peer in 0..config.peers() {
+        put_peer(&mut lines, named, config, peer)?;
+    }
+    Ok(lines)
+}
+
+// Puts the line of a peer, if it is named.
+fn put_peer(
+    lines: &mut Vec<u8>,
+    named: &[String],
+    config: &Config,
+    peer: u32,
+) -> Result<(), AllocError>
+    requires { peer < length config.now.peers }
+    ensures { OnOk result (lines.new.items ≡ lines.old.items ++ peer_line named.now config.now peer) }
+{
+    let name = config.name(peer);
+    if is_among(named, name) {
+        put_line(lines, name)?;
+    }
+    Ok(())
+}
+
+// Puts the line of this name.
+#[tactic(auto, unfolding(ilp_report::specs::Report::line))]
+fn put_line(lines: &mut Vec<u8>, name: &str) -> Result<(), AllocError>
+    ensures { OnOk result (lines.new.items ≡ lines.old.items ++ line (codes "paused") name.now (pos 1)) }
+{
+    lines.extend_from_slice(b"paused    ")?;
+    lines.extend_from_slice(name.as_bytes())?;
+    put_spaces(lines, NAME_WIDTH.saturating_sub(name.len()))?;
+    lines.extend_from_slice(b"                             1\n")
+}
+
+// Puts so many spaces.
+fn put_spaces(lines: &mut Vec<u8>, count: usize) -> Result<(), AllocError>
+    requires { count ≤ NAME_WIDTH }
+    ensures { OnOk result (lines.new.items ≡ lines.old.items ++ replicate count 32) }
+{
+    let spaces = [b' '; NAME_WIDTH];
+    lines.extend_from_slice(&spaces[..count])
+}
