@@ -40,7 +40,10 @@ fn credit<J: Naming>(
         amount: 1,
         scale: 2,
     };
-    0 < desk.config().peers() && desk.credit(rt, share, 0, key, &one, CreditKind::Settled, START).is_ok()
+    0 < desk.config().peers()
+        && desk
+            .credit(rt, share, 0, key, &one, CreditKind::Settled, START)
+            .is_ok()
 }
 
 // Whether all entries so far are on the disk.
