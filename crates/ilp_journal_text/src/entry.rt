@@ -129,7 +129,7 @@ fn put_credit(line: &mut Line, config: &Config, credited: &Credited)
 
 // Adds which way a correction goes, and why.
 fn put_kind(line: &mut Line, kind: &CreditKind)
-    requires front { length line.old ≤ 500 }
+    requires front { length line.old ≤ 490 }
     ensures octets { line.new ≡ line.old ++ flat_map after_space (kind_fields kind.now) }
     ensures short { length line.new ≤ 767 }
     ensures typed { KindStands kind.now }
@@ -143,7 +143,7 @@ fn put_kind(line: &mut Line, kind: &CreditKind)
 
 // Adds the word of a direction, and a reason.
 fn put_correction(line: &mut Line, way: &str, reason: &Reason)
-    requires front { length line.old ≤ 500 }
+    requires front { length line.old ≤ 490 }
     requires way { length way.now ≤ LONGEST_WORD }
     ensures octets { line.new ≡ line.old
         ++ flat_map after_space (way.now ∷ encode_lower reason.now ∷ []) }
