@@ -87,8 +87,11 @@ fn respond<
         Ok(Served::Packet { .. }) => {
             send(sink, Status::Ok, Kind::OctetStream, worker.reply(), deed)
         }
-        Ok(Served::Settlement { text, .. }) => {
+        Ok(Served::Booked { text, .. }) => {
             send(sink, Status::Created, Kind::Json, text.as_slice(), deed)
+        }
+        Ok(Served::BelowLeast(text)) => {
+            send(sink, Status::Forbidden, Kind::Json, text.as_slice(), deed)
         }
         Ok(Served::Message) => send(
             sink,

@@ -5,6 +5,7 @@ ghost use Rattle.ilp_server.specs.Serving.{inquiry};
 ghost use Rattle.ilp_server.specs.Response.{IsToPacket};
 ghost use Rattle.ilp_server.specs.Course.{flight_of, BeginsPacket, BeginsMessage, BeginsInquiry, BeginsRequest, IsOfKnownPeer};
 
+use crate::correcting::serve_correction;
 use crate::fields::sender_of;
 use crate::handled::ConnectionFault;
 use crate::response::Response;
@@ -102,6 +103,10 @@ fn begin<J: Naming, C: Clock + Drop, U: Uplink + Drop, E: EngineLink + Drop, K: 
         Some(Target::Packet) => begin_packet(rt, alloc, flight, desk, request),
         Some(Target::Settlement { peer }) => {
             let outcome = serve_settlement(rt, alloc, &mut flight.worker, desk, peer, request);
+            Course::Answered(Response::to_outcome(outcome))
+        }
+        Some(Target::Correction { peer }) => {
+            let outcome = serve_correction(rt, alloc, &mut flight.worker, desk, peer, request);
             Course::Answered(Response::to_outcome(outcome))
         }
         Some(Target::Message { peer }) => begin_message(flight, desk, peer, request.body),

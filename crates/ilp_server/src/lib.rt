@@ -50,6 +50,8 @@
 #![tactic(auto)]
 
 mod answering;
+mod correcting;
+mod correction_text;
 mod course;
 mod fields;
 mod handled;
@@ -64,7 +66,7 @@ mod work;
 pub use answering::answer_connection;
 pub use course::{Course, begin_request};
 pub use fields::{key_of, sender_of};
-pub use handled::{ConnectionFault, Deed, Handled};
+pub use handled::{ConnectionFault, Deed, Handled, ToldChange};
 pub use response::Response;
 pub use target::{Side, Target, target_of};
 pub use unserved::{NotServed, unread};
