@@ -48,8 +48,9 @@ pub enum Course {
 /// until it is finished; a message is ready for whom it is handed to; all else is done, but for what is
 /// asked of the connector as a whole. Nobody outside is waited for. A report has `behind` at its end.
 ///
-/// What is refused is answered with a status and an empty body, and leaves the flight as it was unless
-/// a packet, a credit or a message was tried. The copy of a Reject that a packet is answered at once
+/// What is refused is answered with a status and an empty body, but for a correction by which the balance
+/// would fall below its least, and leaves the flight as it was unless a packet, a credit, a correction or
+/// a message was tried. The copy of a Reject that a packet is answered at once
 /// takes memory: where that is denied the packet is answered 503.
 pub fn begin_request<
     J: Naming,

@@ -46,9 +46,7 @@ pub(crate) fn deed_of(outcome: &Result<Served, NotServed>) -> Deed
             None => Deed::Nothing,
         },
         Ok(Served::Booked { peer, kept, .. }) => credit_deed(*peer, *kept),
-        Err(
-            NotServed::Credit { peer, told, fault },
-        ) => uncredited_deed(*peer, *told, *fault),
+        Err(NotServed::Credit { peer, told, fault }) => uncredited_deed(*peer, *told, *fault),
         _ => Deed::Nothing,
     }
 }
