@@ -107,8 +107,8 @@ fn begin<J: Naming, C: Clock + Drop, U: Uplink + Drop, E: EngineLink + Drop, K: 
             Course::Answered(Response::to_outcome(outcome))
         }
         Some(Target::Correction { peer }) => {
-            let outcome = serve_correction(rt, alloc, &mut flight.worker, desk, peer, request);
-            Course::Answered(Response::to_outcome(outcome))
+            let corrected = serve_correction(rt, alloc, &mut flight.worker, desk, peer, request);
+            Course::Answered(Response::to_outcome(corrected))
         }
         Some(Target::Message { peer }) => begin_message(flight, desk, peer, request.body),
         Some(Target::Report) => {

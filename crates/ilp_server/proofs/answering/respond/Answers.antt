@@ -17,3 +17,7 @@ returns-in-Ok-Booked-clause-written g c =
 pub returns-in-Ok-Message-clause-written : goal.returns-in-Ok-Message-clause-written
 returns-in-Ok-Message-clause-written g c =
     written_by c.args.worker.now c.args.outcome _ _ _ c.send-in-Ok-Message.result _ _ (c.in-Ok-Message.is ∙ ap Ok c.in-Ok-Message.field-0-is) (ap (reply status.Created kind.OctetStream) c.message_answer.ensures) c.deed_of-deed.ensures refl c.send-in-Ok-Message.ensures.written
+
+pub returns-in-Ok-BelowLeast-clause-written : goal.returns-in-Ok-BelowLeast-clause-written
+returns-in-Ok-BelowLeast-clause-written g c =
+    written_by c.args.worker.now c.args.outcome _ _ _ c.send-in-Ok-BelowLeast.result _ _ (c.in-Ok-BelowLeast.is ∙ ap Ok c.in-Ok-BelowLeast.field-0-is) (ap (reply status.Forbidden kind.Json) c.as_slice-in-Ok-BelowLeast.ensures) c.deed_of-deed.ensures refl c.send-in-Ok-BelowLeast.ensures.written
