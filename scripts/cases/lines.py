@@ -68,6 +68,10 @@ KEYS_LEFT_OUT = (rf"{NAME} is left out with \d+ keys of its settlements: where a
 NO_JOURNAL = ("warn no journal is kept: balances and keys are forgotten at the end, so each start needs a "
               "`run` that no earlier one had")
 
+# What is told where no new settlement to a peer is asked for, and where they are again.
+PAUSED = "payouts: {name}'s are paused, until the next start or /accounts/{name}/resume"
+GO_ON = "payouts: {name}'s go on"
+
 # What a line begins with that tells what is to be looked at in a configuration.
 WARNING = "warn configuration: "
 
@@ -86,6 +90,8 @@ FORMS = [re.compile(form) for form in (
     rf"warn settlement \d+ with {NAME} of \d+: refused with the status 4\d\d, and the amount is back; "
     rf"the next one waits {SECONDS}",
     rf"warn settlement \d+ with {NAME}: {KEPT_OPEN}{MORE}",
+    rf"(info|warn) {PAUSED.format(name=NAME)}",
+    rf"(info|warn) {GO_ON.format(name=NAME)}",
     rf"info credit \d+ of {NAME}: \d+, key {KEY}",
     rf"error settlement of {NAME} refused, and not credited: {QUANTITY} under the key {KEY}, which credit \d+ has with "
     rf"{QUANTITY}: see which one its engine means{MORE}",

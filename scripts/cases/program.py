@@ -45,6 +45,8 @@ class Setup:
     engine_of_alice: int | None = None
     levels: bool = True
     settle_max: int | None = None
+    # By peers' names, in milliseconds: for how long their settlements wait.
+    waits: dict[str, int | str] = field(default_factory=dict)
     top: dict[str, int | str] = field(default_factory=dict)
     listen: str = field(default_factory=lambda: f"{HERE}:{free_port()}")
     engine_listen: str = field(default_factory=lambda: f"{HERE}:{free_port()}")
@@ -90,6 +92,8 @@ class Setup:
             lines.append(f'engine = "{HERE}:{engine}"')
             lines += ["threshold = 1000", "settle_to = 200"] if self.levels else []
             lines += [] if self.settle_max is None else [f"settle_max = {self.settle_max}"]
+        if name in self.waits:
+            lines.append(f"settle_after_ms = {self.waits[name]}")
         return lines
 
     def text(self) -> str:

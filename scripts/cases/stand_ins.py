@@ -3,7 +3,7 @@ import socket
 import threading
 import time
 from collections.abc import Callable
-from dataclasses import dataclass
+from dataclasses import dataclass, field
 
 from cases.case import Differs
 from cases.messages import HERE, response
@@ -13,11 +13,13 @@ from scenes import FULFILL
 
 @dataclass(frozen=True)
 class Received:
-    """A request that a stand-in got: its octets, its target and its body."""
+    """A request that a stand-in got: its octets, its target and its body, and when it was there by the monotonic
+    clock."""
 
     octets: bytes
     target: str
     body: bytes
+    came: float = field(default_factory=time.monotonic, compare=False)
 
 
 # What a stand-in does with a request, on its connection, until it is told to stop.

@@ -207,8 +207,8 @@ def what_is_not_served(world: World) -> None:
     """Nothing of the engine side is reached, whatever is asked for, and only who shows a token sends."""
     place = world.setup.engine_listen
     key = ["-H", "Idempotency-Key: k", "-H", bearer(world.setup.token)]
-    for target in ("/close", "/report", "/accounts/alice/settlements", "//close", "/ilp/../close", "/ilp/",
-                   "/ilp?close", "/%63lose"):
+    for target in ("/close", "/report", "/accounts/alice/settlements", "/accounts/alice/pause", "//close",
+                   "/ilp/../close", "/ilp/", "/ilp?close", "/%63lose"):
         status, _ = curl(world, target, b'{"amount":"7","scale":2}', *key, "-H", f"Host: {place}")
         expect(f"the status of {target}", status, "404")
     status, _ = curl(world, "/ilp", b'{"amount":"7","scale":2}', *key, "--request-target", f"http://{place}/close")

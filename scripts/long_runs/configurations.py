@@ -8,6 +8,8 @@ from long_runs.packets import MOST, SCHEMES
 LEAST_INTEGER, MOST_INTEGER = -2**63, 2**63 - 1
 MOST_PRICE = 2**32 - 1
 MOST_GAP = 9
+# In milliseconds.
+LONGEST_WAIT = 604_800_000
 MOST_PEERS, MOST_ASSETS = 256, 64
 # With one for each peer, and three more, there are at most 4,096.
 MOST_FURTHER_ROUTES = 4_096 - MOST_PEERS - 3
@@ -43,6 +45,7 @@ class Peer:
     threshold: int | None = None
     settle_to: int | None = None
     settle_max: int | None = None
+    settle_after_ms: int | None = None
 
     @property
     def greatest(self) -> int:
@@ -102,7 +105,7 @@ def peer_fields(one: Configuration, peer: Peer) -> dict[str, int | str | None]:
             "out_token": peer.out_token, "host": peer.host, "out_path": peer.out_path,
             "least": peer.least, "fee_ppm": peer.fee_ppm, "max_packet": peer.max_packet,
             "engine": peer.engine, "threshold": peer.threshold, "settle_to": peer.settle_to,
-            "settle_max": peer.settle_max}
+            "settle_max": peer.settle_max, "settle_after_ms": peer.settle_after_ms}
 
 
 def integer(number: int, chance: random.Random) -> str:
@@ -198,17 +201,19 @@ def drawn_peer(chance: random.Random, name: str, assets: int, large: bool) -> Pe
     least = drawn_least(chance, large)
     greatest = chance.choice([0, 10, 100, 1_000, MOST_INTEGER, chance.randint(1, 10**9)])
     engine = "127.0.0.1:1" if chance.random() < 0.7 else None
-    settle_to = threshold = settle_max = None
+    settle_to = threshold = settle_max = wait = None
     if engine is not None and chance.random() < 0.9:
         settle_to, threshold = drawn_levels(chance, least, large)
         if chance.random() < 0.5:
             settle_max = chance.choice([1, threshold - settle_to, MOST_INTEGER, chance.randint(1, 10**4)])
+        # What is asked for in a script waits for nothing.
+        wait = chance.choice([None, 0, LONGEST_WAIT])
     return Peer(
         name, chance.randrange(assets), token=f"{name}-{chance.getrandbits(64):x}", least=least,
         fee_ppm=chance.choice([0] * 4 + [1, 1, 10_000, 10_000, 500_000, 10**6, chance.randint(0, 10**6)]),
         max_packet=greatest if chance.random() < 0.15 else None,
         engine=engine, threshold=threshold, settle_to=settle_to,
-        settle_max=settle_max)
+        settle_max=settle_max, settle_after_ms=wait)
 
 
 def drawn_routes(chance: random.Random, peers: int, further_ones: int) -> dict[str, int]:

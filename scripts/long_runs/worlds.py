@@ -97,7 +97,8 @@ def arranged(chance: random.Random, one: Configuration) -> tuple[str, Arranged]:
 def narrow(chance: random.Random, messages: int) -> World:
     """A configuration as scripts have it, without levels, so that no entry comes by itself."""
     drawn = drawn_configuration(chance, messages)
-    peers = tuple(replace(peer, threshold=None, settle_to=None, settle_max=None) for peer in drawn.peers)
+    peers = tuple(replace(peer, threshold=None, settle_to=None, settle_max=None, settle_after_ms=None)
+                  for peer in drawn.peers)
     journal = chance.randint(2, 200) if chance.random() < 0.5 else drawn.journal
     drawn = replace(drawn, peers=peers, journal=journal, window=WINDOW, max_hold=MAX_HOLD)
     away = chance.choice(peers).name if chance.random() < 0.3 else None
@@ -122,7 +123,8 @@ def wide_configuration(chance: random.Random) -> Configuration:
             max_packet=MOST_AMOUNT,
             engine="" if levels or name == "alice" else None,
             threshold=settle_to + chance.choice([1, 500, 100_000]) if levels else None,
-            settle_to=settle_to if levels else None)
+            settle_to=settle_to if levels else None,
+            settle_after_ms=chance.choice([None, 0, 30]) if levels else None)
     peers = (drawn("alice", 0), drawn("bob", 0, levels=True), drawn("carol", 1, levels=True),
              drawn("dave", 2), drawn(ALONE, 0, chance.choice([0, -1_000, -10**6])),
              drawn("away", 0), drawn(APART, 3))

@@ -30,14 +30,19 @@ ASKING = {"src", "srcset", "href", "data", "action", "style", "http-equiv", "{ht
 Page = ElementTree.Element
 
 
-def page_of(config: str, **files: str) -> Page:
-    """The page of a journal of these files, by their kinds; `journal` is the journal itself."""
+def text_of(config: str, **files: str) -> str:
+    """The text of the page of a journal of these files, by their kinds; `journal` is the journal itself."""
     with tempfile.TemporaryDirectory() as folder:
         Path(folder, "hub.toml").write_text(config, encoding="utf-8")
         for kind, text in files.items():
             name = "journal" if kind == "journal" else f"journal.{kind.removeprefix('kept_')}"
             Path(folder, name).write_text(text, encoding="ascii")
-        page = ElementTree.fromstring(report_page.make_page(Path(folder, "hub.toml"), Path(folder, "journal")))
+        return report_page.make_page(Path(folder, "hub.toml"), Path(folder, "journal"))
+
+
+def page_of(config: str, **files: str) -> Page:
+    """The page itself."""
+    page = ElementTree.fromstring(text_of(config, **files))
     expect_alone(page)
     return page
 

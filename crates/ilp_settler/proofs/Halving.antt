@@ -1,5 +1,5 @@
 -- Two halves make a turn.
-use Rattle.std.proofs.Common.{◌≡◌, ◌≢◌, ℕ, zero, suc, List, [], ◌∷◌, Option, refl, ap, sym, ◌∙◌, subst, inl, inr}
+use Rattle.std.proofs.Common.{◌≡◌, ◌≢◌, ℕ, zero, suc, List, [], ◌∷◌, Option, Some, None, refl, ap, sym, ◌∙◌, subst, inl, inr}
 use Rattle.std.specs.Prelude.{Bool, true, Result, Ok, Err, IsErr, ok_or}
 use Rattle.ilp_journal.specs.Journal.{Entries}
 use Rattle.ilp_book.specs.declared.calls.Asked.{Asked}
@@ -11,13 +11,13 @@ use Rattle.ilp_keeping.specs.Keeping.{IsHanded}
 use Rattle.ilp_link_traits.specs.declared.links.EngineReply.{EngineReply}
 use Rattle.ilp_link_traits.specs.Links.{Tells, ToEngine}
 use Rattle.ilp_settler.specs.declared.turn.Turn.{Turn}
-use Rattle.ilp_settler.specs.declared.turn.Turn.TheVariants.{Idle}
+use Rattle.ilp_settler.specs.declared.turn.Turn.TheVariants.{Idle, Withheld}
 use Rattle.ilp_settler.specs.declared.asking.BegunTurn.{BegunTurn}
 use Rattle.ilp_settler.specs.declared.asking.BegunTurn.TheVariants.{NeedsAccount, Asks, Over}
 use Rattle.ilp_settler.specs.Asking.{PlainAsking, settlement_of}
 use Rattle.ilp_settler.specs.Settler.{PlainSettler, settler, knows_account, with_account, HasAccount, last_tried, with_tried, IsAsking, IsChoosing, settlement_told, verdict_by, ClosesBy, IsIdle, IsUnwritten, IsSettling, CarriesOut, GoesOn, IsTurn, Turns}
-use Rattle.ilp_settler.specs.Halves.{Finds, IsSeeking, IsGivenOut, IsHeldBack, GivesOut, IsOver, StartsAsking, EndsUnasked, LacksMemory, BeginsTurn, asking_told, IsEngineAsked, FinishesTurn}
-use Rattle.ilp_settler.proofs.TurnLemmas.{carries_with_account, told_turn, carried_on, idled, denied_on}
+use Rattle.ilp_settler.specs.Halves.{Finds, IsSeeking, IsGivenOut, IsHeldBack, GivesOut, IsOver, StartsAsking, EndsUnasked, LacksMemory, BeginsTurn, IsLooking, GivesOutFound, TakesUpOpen, asking_told, IsEngineAsked, FinishesTurn}
+use Rattle.ilp_settler.proofs.TurnLemmas.{carries_a_settlement, told_turn, carried_on, idled, denied_on}
 
 -- a settler whose engine has the account by now
 abbrev pub knowing : PlainSettler → Option (List ToEngine) → List Bool → PlainSettler
@@ -77,6 +77,17 @@ begun_by A E desk peer before between after a NeedsAccount knows sought gives = 
 begun_by A E desk peer before between after a (Asks p) knows sought gives = (knows, record { between = between; settlement = a; sought = sought; given = gives })
 begun_by A E desk peer before between after a (Over turn) knows sought gives = (knows, record { between = between; found = Ok a; sought = sought; over = gives })
 
+-- ---- the first half, where nothing new is to be asked for
+
+-- a turn that has begun with what is open, once that was looked for
+pub taken_by : (A E : Type 0) (desk : PlainDesk) (peer : ℕ) (before between after : PlainSettler) (found : Option Asked) (begun : BegunTurn A)
+    → knows_account before.accounts peer ≡ true → IsLooking desk peer before between found → GivesOutFound desk peer between after begun found
+    → TakesUpOpen {A = A} {E = E} desk peer before after (Ok begun)
+taken_by A E desk peer before between after None NeedsAccount knows looked given = let no : ◌≡◌ {A = BegunTurn A} NeedsAccount (Over Withheld) = given.0 in cc
+taken_by A E desk peer before between after (Some a) NeedsAccount knows looked given = absurd given
+taken_by A E desk peer before between after found (Asks p) knows looked given = (knows, record { between = between; found = found; looked = looked; given = given })
+taken_by A E desk peer before between after found (Over turn) knows looked given = (knows, record { between = between; found = found; looked = looked; given = given })
+
 -- ---- both halves
 
 -- what a settler learns of a settlement that was given out, of which the engine was asked, and that was finished
@@ -126,7 +137,7 @@ turn_by_halves E desk peer before begun asked after engine accounts p said turn 
     inl (settled_by_halves desk peer before between begun asked after engine accounts a p said turn s.others starts.given hands finishes) in
     let same : after.accounts ≡ accounts = ap (λ (x : PlainSettler). x.accounts) finishes.others
     ∙ (ap (λ (x : PlainSettler). x.accounts) hands.others ∙ (ap (λ (x : PlainSettler). x.accounts) starts.given.others ∙ ap (λ (x : PlainSettler). x.accounts) s.others)) in
-    told_turn {E = E} desk peer before after turn (carries_with_account desk peer before after engine a between.share between.moments between.seen turn carries)
+    told_turn {E = E} desk peer before after turn (carries_a_settlement desk peer before after engine a between.share between.moments between.seen turn carries)
     (asked_turn E desk peer before between after engine accounts (Ok turn) (Ok a) knows s same
     (carried_on E desk peer before after engine between.share between.moments s.seen between.seen s.reply a turn s.finds carries))
 
@@ -169,7 +180,7 @@ over_by : (E : Type 0) (desk : PlainDesk) (peer : ℕ) (before between after : P
 over_by E desk peer before between after engine accounts turn (Ok a) knows s over =
     let carries : CarriesOut desk peer before after engine a between.share between.moments between.seen turn = inr (left_unwritten before between after engine accounts a turn s.others over) in
     let same : after.accounts ≡ accounts = ap (λ (x : PlainSettler). x.accounts) over.others ∙ ap (λ (x : PlainSettler). x.accounts) s.others in
-    told_turn {E = E} desk peer before after turn (carries_with_account desk peer before after engine a between.share between.moments between.seen turn carries)
+    told_turn {E = E} desk peer before after turn (carries_a_settlement desk peer before after engine a between.share between.moments between.seen turn carries)
     (asked_turn E desk peer before between after engine accounts (Ok turn) (Ok a) knows s same
     (carried_on E desk peer before after engine between.share between.moments s.seen between.seen s.reply a turn s.finds carries))
 over_by E desk peer before between after engine accounts turn (Err ask_fault.Memory) knows s over = absurd over

@@ -1,6 +1,6 @@
 -- What a turn of the settler comes to once the engine has the account.
-use Rattle.std.proofs.Common.{◌≡◌, ◌≢◌, ℕ, ℤ, List, Option, Some, None, refl, ap, subst, inl, inr}
-use Rattle.std.specs.Prelude.{Result, Ok, Err, IsErr, ok_or}
+use Rattle.std.proofs.Common.{◌≡◌, ◌≢◌, ℕ, ℤ, List, Option, Some, None, refl, ap, sym, subst, inl, inr}
+use Rattle.std.specs.Prelude.{Result, Ok, Err, IsErr, ok_or, ⊤}
 use Rattle.ilp_journal.specs.Journal.{Entries}
 use Rattle.ilp_book.specs.declared.calls.Asked.{Asked}
 use Rattle.ilp_book.specs.declared.fault.AskFault.{AskFault}
@@ -12,33 +12,43 @@ use Rattle.ilp_desk.specs.Portion.{Portion, Holding, holding}
 use Rattle.ilp_link_traits.specs.declared.links.EngineReply.{EngineReply}
 use Rattle.ilp_link_traits.specs.Links.{ToEngine}
 use Rattle.ilp_settler.specs.declared.turn.Turn.{Turn}
-use Rattle.ilp_settler.specs.declared.turn.Turn.TheVariants.{NoAccount, Idle, Unwritten, Kept, Closed}
+use Rattle.ilp_settler.specs.declared.turn.Turn.TheVariants.{NoAccount, Idle, Withheld, Unwritten, Kept, Closed}
 use Rattle.ilp_settler.specs.Settler.{PlainSettler, last_tried, verdict_by, turn_of_close, ClosesBy, IsIdle, CarriesOut, TakesUp, GoesOn, IsTurn, Turns}
 use Rattle.ilp_settler.specs.Halves.{Finds}
 
--- ---- turns that tell of an account
+-- ---- turns that tell of a settlement
 
--- an engine that was asked for a settlement has the account
-closes_with_account : (desk : PlainDesk) (peer : ℕ) (a : Asked) (said : EngineReply) (verdict : Option EngineVerdict) (moments moments' : Option (List ℤ)) (before after : Holding) (told : Turn)
-    → ClosesBy desk peer a said verdict moments moments' before after told → told ≢ NoAccount
-closes_with_account desk peer a said None moments moments' before after told c e = let is : told ≡ Kept a.number a.amount said = c.turn_is in cc
-closes_with_account desk peer a said (Some verdict) moments moments' before after told c e = of c.reply c.turn_is e
+-- a turn tells of a settlement, or why none was asked for
+abbrev pub IsOfSettlement : Turn → Type 0
+IsOfSettlement NoAccount = ⊥
+IsOfSettlement Withheld = ⊥
+IsOfSettlement (Idle fault) = ⊤
+IsOfSettlement (Unwritten n amount) = ⊤
+IsOfSettlement (Kept n amount said) = ⊤
+IsOfSettlement (Closed n amount said) = ⊤
+
+-- one in which the engine was asked for a settlement tells of that
+closes_a_settlement : (desk : PlainDesk) (peer : ℕ) (a : Asked) (said : EngineReply) (verdict : Option EngineVerdict) (moments moments' : Option (List ℤ)) (before after : Holding) (told : Turn)
+    → ClosesBy desk peer a said verdict moments moments' before after told → IsOfSettlement told
+closes_a_settlement desk peer a said None moments moments' before after told c = subst IsOfSettlement (sym c.turn_is) tt
+closes_a_settlement desk peer a said (Some verdict) moments moments' before after told c = subst IsOfSettlement (sym c.turn_is) (of c.reply)
   where
-    of : (r : Result ℕ NotOpen) → told ≡ turn_of_close a said r → told ≢ NoAccount
-    of (Ok entry) is e = cc
-    of (Err fault) is e = cc
+    of : (r : Result ℕ NotOpen) → IsOfSettlement (turn_of_close a said r)
+    of (Ok entry) = tt
+    of (Err fault) = tt
 
--- nor does a turn that carries a settlement out tell that there is no account
-pub carries_with_account : (desk : PlainDesk) (peer : ℕ) (before after : PlainSettler) (engine : Option (List ToEngine)) (a : Asked) (share : Portion) (moments : Option (List ℤ)) (seen : Entries) (told : Turn)
-    → CarriesOut desk peer before after engine a share moments seen told → told ≢ NoAccount
-carries_with_account desk peer before after engine a share moments seen told (inl s) e =
-    closes_with_account desk peer a s.said (verdict_by s.said) moments after.moments (holding share before.records) (holding after.share after.records) told s.closed e
-carries_with_account desk peer before after engine a share moments seen told (inr u) e = let is : told ≡ Unwritten a.number a.amount = u.turn_is in cc
+-- and so does a turn that carries one out
+pub carries_a_settlement : (desk : PlainDesk) (peer : ℕ) (before after : PlainSettler) (engine : Option (List ToEngine)) (a : Asked) (share : Portion) (moments : Option (List ℤ)) (seen : Entries) (told : Turn)
+    → CarriesOut desk peer before after engine a share moments seen told → IsOfSettlement told
+carries_a_settlement desk peer before after engine a share moments seen told (inl s) =
+    closes_a_settlement desk peer a s.said (verdict_by s.said) moments after.moments (holding share before.records) (holding after.share after.records) told s.closed
+carries_a_settlement desk peer before after engine a share moments seen told (inr u) = subst IsOfSettlement (sym u.turn_is) tt
 
--- a turn that told something else than that there is no account has had a book asked
+-- a turn that tells of a settlement, or why none was asked for, has had a book asked
 pub told_turn : {E : Type 0} (desk : PlainDesk) (peer : ℕ) (before after : PlainSettler) (told : Turn)
-    → told ≢ NoAccount → IsTurn {E = E} desk peer before after (Ok told) → Turns {E = E} desk peer before after (Ok told)
-told_turn desk peer before after NoAccount other turn = absurd (other refl)
+    → IsOfSettlement told → IsTurn {E = E} desk peer before after (Ok told) → Turns {E = E} desk peer before after (Ok told)
+told_turn desk peer before after NoAccount other turn = absurd other
+told_turn desk peer before after Withheld other turn = absurd other
 told_turn desk peer before after (Idle fault) other turn = turn
 told_turn desk peer before after (Unwritten n amount) other turn = turn
 told_turn desk peer before after (Kept n amount said) other turn = turn

@@ -1,6 +1,6 @@
 -- The two halves of a turn: what a settler does before the peer's engine is asked for a settlement, and what after. Between the two
 -- others may begin and finish.
-use Rattle.std.specs.Prelude.{◌≡◌, ℕ, ◌+◌, true, false, Option, Result, Ok, Err, ok_or, ◌⊎◌}
+use Rattle.std.specs.Prelude.{◌≡◌, ℕ, ◌+◌, true, false, Option, Some, None, Result, Ok, Err, ok_or, ◌⊎◌}
 use Rattle.ilp_journal.specs.Journal.{Entries}
 use Rattle.ilp_book.specs.declared.calls.Asked.{Asked}
 use Rattle.ilp_book.specs.declared.fault.AskFault.{AskFault}
@@ -12,7 +12,7 @@ use Rattle.ilp_keeping.specs.Keeping.{IsHanded}
 use Rattle.ilp_link_traits.specs.declared.links.EngineReply.{EngineReply}
 use Rattle.ilp_link_traits.specs.Links.{Tells, ToEngine, settled, settling}
 use Rattle.ilp_settler.specs.declared.turn.Turn.{Turn}
-use Rattle.ilp_settler.specs.declared.turn.Turn.TheVariants.{Idle, Unwritten}
+use Rattle.ilp_settler.specs.declared.turn.Turn.TheVariants.{Idle, Withheld, Unwritten}
 use Rattle.ilp_settler.specs.declared.asking.BegunTurn.{BegunTurn}
 use Rattle.ilp_settler.specs.declared.asking.BegunTurn.TheVariants.{NeedsAccount, Asks, Over}
 use Rattle.ilp_settler.specs.Asking.{PlainAsking, asking_in, settlement_of}
@@ -91,6 +91,32 @@ BeginsTurn desk peer before after (Ok NeedsAccount) = (knows_account before.acco
 BeginsTurn desk peer before after (Ok (Asks p)) = (knows_account before.accounts peer ≡ true) × StartsAsking desk peer before after p
 BeginsTurn desk peer before after (Ok (Over turn)) = (knows_account before.accounts peer ≡ true) × EndsUnasked desk peer before after turn
 BeginsTurn desk peer before after (Err e) = (knows_account before.accounts peer ≡ true) × LacksMemory desk peer before after
+
+-- ---- the first half, where nothing new is to be asked for
+
+-- A book is looked at for a settlement that is open. Nothing is booked, no moment is asked for, and no one else is told of it.
+pub record IsLooking (desk : PlainDesk) (peer : ℕ) (before after : PlainSettler) (found : Option Asked) : Type 0 where
+  pub chosen : IsChoosing desk peer (last_tried before.tried peer) before.seen after.seen found
+  pub others : after ≡ record before { seen = after.seen }
+
+-- a settlement that was found is given out as one that is new, and where none was the turn is over
+abbrev pub GivesOutFound : {A : Type 0} → PlainDesk → ℕ → PlainSettler → PlainSettler → BegunTurn A → Option Asked → Type 0
+GivesOutFound desk peer before after begun None = (begun ≡ Over Withheld) × (after ≡ before)
+GivesOutFound desk peer before after begun (Some a) = GivesOut desk peer before after a begun
+
+-- What is open is looked for, and what was found is given out.
+pub record StartsOpen {A : Type 0} (desk : PlainDesk) (peer : ℕ) (before after : PlainSettler) (begun : BegunTurn A) : Type 0 where
+  pub between : PlainSettler
+  pub found : Option Asked
+  pub looked : IsLooking desk peer before between found
+  pub given : GivesOutFound desk peer between after begun found
+
+-- what the first half of a turn is in which nothing new is asked for, by what it answers
+abbrev pub TakesUpOpen : {A E : Type 0} → PlainDesk → ℕ → PlainSettler → PlainSettler → Result (BegunTurn A) E → Type 0
+TakesUpOpen desk peer before after (Ok NeedsAccount) = (knows_account before.accounts peer ≡ false) × (after ≡ before)
+TakesUpOpen {A} desk peer before after (Ok (Asks p)) = (knows_account before.accounts peer ≡ true) × StartsOpen {A = A} desk peer before after (Asks p)
+TakesUpOpen {A} desk peer before after (Ok (Over turn)) = (knows_account before.accounts peer ≡ true) × StartsOpen {A = A} desk peer before after (Over turn)
+TakesUpOpen desk peer before after (Err e) = (knows_account before.accounts peer ≡ true) × (after ≡ before)
 
 -- how many settlements more are pending
 abbrev pub pending_more : {A E : Type 0} → Result (BegunTurn A) E → ℕ

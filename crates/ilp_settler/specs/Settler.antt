@@ -21,7 +21,7 @@ use Rattle.ilp_keeping.specs.Keeping.{ToKeeper, IsHanded}
 use Rattle.ilp_link_traits.specs.declared.links.EngineReply.{EngineReply}
 use Rattle.ilp_link_traits.specs.declared.links.EngineReply.TheVariants.{Accepted, Refused, Unknown}
 use Rattle.ilp_settler.specs.declared.turn.Turn.{Turn}
-use Rattle.ilp_settler.specs.declared.turn.Turn.TheVariants.{NoAccount, Idle, Unwritten, Kept, Closed}
+use Rattle.ilp_settler.specs.declared.turn.Turn.TheVariants.{NoAccount, Idle, Withheld, Unwritten, Kept, Closed}
 use Rattle.ilp_link_traits.specs.Links.{Tells, ToEngine, asked, asking, settled, settling}
 
 -- its share, the records of what it booked, what its links tell (the moments of its clock, and what engines were handed), and,
@@ -239,8 +239,10 @@ pub record IsTurn {E : Type 0} (desk : PlainDesk) (peer : ℕ) (before after : P
   pub asked : IsAsking desk peer before.moments moments before.seen seen before.share share reply
   pub goes_on : GoesOn desk peer before after engine share moments seen turn reply
 
--- what a turn for a peer is, by what it answers
+-- what a turn for a peer is, by what it answers: a book is asked for a settlement in each, so that none tells that nothing new was to be
+-- asked for
 abbrev pub Turns : {E : Type 0} → PlainDesk → ℕ → PlainSettler → PlainSettler → Result Turn E → Type 0
 Turns {E} desk peer before after (Ok NoAccount) = IsWithoutAccount peer before after
+Turns {E} desk peer before after (Ok Withheld) = ⊥
 Turns {E} desk peer before after (Err e) = IsWithoutRoom peer before after ⊎ IsTurn {E = E} desk peer before after (Err e)
 Turns {E} desk peer before after (Ok turn) = IsTurn {E = E} desk peer before after (Ok turn)

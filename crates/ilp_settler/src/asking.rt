@@ -89,6 +89,6 @@ pub enum BegunTurn<A: Allocator = Global> {
     NeedsAccount,
     /// The engine is to be asked for this settlement, whose entry is kept.
     Asks(Asking<A>),
-    /// The turn is over, as `Idle` or `Unwritten`. No engine is to be asked.
+    /// The turn is over, as `Idle`, `Withheld` or `Unwritten`. No engine is to be asked.
     Over(Turn),
 }

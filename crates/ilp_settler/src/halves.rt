@@ -3,7 +3,7 @@ ghost use Rattle.std.specs.Prelude.{◌≡◌, ◌+◌, ◌<◌, ◌≤◌, leng
 ghost use Rattle.ilp_book.specs.Configured.{IsKnown};
 ghost use Rattle.ilp_desk.specs.Portion.{holding};
 ghost use Rattle.ilp_settler.specs.Settler.{settler, longest_key, last_tried, IsAsking, IsChoosing, verdict_by, IsClosing, record_of_close};
-ghost use Rattle.ilp_settler.specs.Halves.{IsSeeking, GivesOut, BeginsTurn, pending_more, FinishesTurn};
+ghost use Rattle.ilp_settler.specs.Halves.{IsSeeking, GivesOut, BeginsTurn, TakesUpOpen, pending_more, FinishesTurn};
 
 use crate::asking::{Asking, BegunTurn};
 use crate::keys::{LONGEST_KEY, put_key};
@@ -55,6 +55,38 @@ impl<
             Ok(asked) => Ok(self.give_out(rt, desk, peer, asked, key)),
             Err(AskFault::Memory) => Err(AllocError),
             Err(fault) => Ok(BegunTurn::Over(Turn::Idle(fault))),
+        }
+    }
+
+    // What is open is found, kept and given out. No book is asked for a settlement.
+    pub(crate) fn take_up(
+        &mut self,
+        rt: &impl Wait,
+        desk: &Desk<J>,
+        peer: u32,
+    ) -> Result<BegunTurn<A>, AllocError>
+    where
+        A: Copy,
+        requires known { IsKnown J.desk.config peer }
+        ensures taken { TakesUpOpen J.desk peer
+            (settler self.old.share self.old.records.items (C.told self.old.clock)
+            (E.told self.old.engine) self.old.accounts self.old.tried self.old.receipt
+            (K.told self.old.keeper) self.old.pending)
+            (settler self.new.share self.new.records.items (C.told self.new.clock)
+            (E.told self.new.engine) self.new.accounts self.new.tried self.new.receipt
+            (K.told self.new.keeper) self.new.pending)
+            result }
+        ensures pending { self.new.pending ≡ self.old.pending + pending_more result }
+    {
+        if !self.knows_account(desk.config(), peer) {
+            return Ok(BegunTurn::NeedsAccount);
+        }
+        let Ok(key) = self.make_room() else {
+            return Err(AllocError);
+        };
+        match self.choose(rt, desk, peer) {
+            Some(open) => Ok(self.give_out(rt, desk, peer, open, key)),
+            None => Ok(BegunTurn::Over(Turn::Withheld)),
         }
     }
 

@@ -29,8 +29,11 @@
 //!   out as an `Asking`: its peer, number, amount and scale, and its key. What it gave out is pending
 //!   until `finish` tells a book what the engine said. Room for the record of each that is pending is
 //!   kept, so `finish` takes no memory and has no error.
-//! - Where no engine said yet that it has the account, `begin` does nothing. `note_account` is told
-//!   that it has.
+//! - `take_up` begins a turn in which nothing new is asked for: it gives out the open settlement that a
+//!   turn would take up, and books nothing (`TakesUpOpen`). Where none is open, the turn is `Withheld`,
+//!   which no other turn is.
+//! - Where no engine said yet that it has the account, `begin` and `take_up` do nothing. `note_account`
+//!   is told that it has.
 //! - Both halves, and the engine asked for just that settlement between them, make a turn
 //!   (`halves_make_a_turn`). A turn leaves as many pending as there were.
 //! - `Settler::new` and `into_end` are as the worker's; `Sweeper::new` can't fail. A settler ends only

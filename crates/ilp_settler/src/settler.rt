@@ -3,7 +3,7 @@ ghost use Rattle.std.specs.Prelude.{◌≡◌, ◌+◌, ◌<◌, true, [], IfOk,
 ghost use Rattle.ilp_book.specs.Configured.{IsKnown};
 ghost use Rattle.ilp_desk.specs.Portion.{holding};
 ghost use Rattle.ilp_settler.specs.Settler.{settler, no_accounts, none_tried, knows_account, with_account, Turns};
-ghost use Rattle.ilp_settler.specs.Halves.{BeginsTurn, pending_more, FinishesTurn};
+ghost use Rattle.ilp_settler.specs.Halves.{BeginsTurn, TakesUpOpen, pending_more, FinishesTurn};
 
 use crate::asking::{Asking, BegunTurn};
 use crate::settling::{MOST_PEERS, SettlerParts, reserve_beside};
@@ -171,6 +171,30 @@ impl<J: Naming, C: Clock + Drop, E: EngineLink + Drop, K: Keeper<J> + Drop, A: A
         ensures pending { self.new.pending ≡ self.old.pending + pending_more result }
     {
         self.parts.begin(rt, desk, peer)
+    }
+
+    /// Begins a turn as `begin` does, but no book is asked for a new settlement: the open one behind
+    /// the one that was tried last for this peer is taken up, else the first of all. So what was asked
+    /// for goes on while nothing new is to be. It is kept, given out and pending as there. Where none
+    /// is open, the turn is over as `Withheld`.
+    ///
+    /// Where no engine said yet that it has an account of the peer, `NeedsAccount` leaves all as it
+    /// was, as in `begin`. The error is want of memory, and leaves all as it was.
+    pub fn take_up(
+        &mut self,
+        rt: &impl Wait,
+        desk: &Desk<J>,
+        peer: u32,
+    ) -> Result<BegunTurn<A>, AllocError>
+    where
+        A: Copy,
+        requires known { IsKnown J.desk.config peer }
+        ensures taken { TakesUpOpen J.desk peer self.old self.new result }
+        ensures unbooked { (self.new.share ≡ self.old.share) × (self.new.records ≡ self.old.records)
+            × (self.new.moments ≡ self.old.moments) }
+        ensures pending { self.new.pending ≡ self.old.pending + pending_more result }
+    {
+        self.parts.take_up(rt, desk, peer)
     }
 
     /// The peer's engine said that it has an account of the peer: it is not to be asked for that

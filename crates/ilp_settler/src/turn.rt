@@ -10,6 +10,8 @@ pub enum Turn {
     NoAccount,
     /// No settlement is due, or the book can't have another; this is why. None is open.
     Idle(AskFault),
+    /// Nothing new was to be asked for, and no settlement to the peer is open.
+    Withheld,
     /// The settlement of this number is open, and no engine was asked for it, since nothing says that its
     /// entry is kept. Later turns try it again. The amount is in units of the peer's asset.
     Unwritten {

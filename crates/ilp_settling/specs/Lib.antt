@@ -1,1 +1,2 @@
 pub mod Pauses
+pub mod Waiting

@@ -22,16 +22,21 @@ pub(crate) struct PeerTurns {
     /// How long its last pause was after a refusal, in milliseconds; 0 where none was since a settlement was
     /// accepted.
     pub(crate) pause: u64,
+    /// Since when its balance is seen at its threshold or above; none where it was below at the last look, and
+    /// where there was none. Only the balance of a peer whose settlements wait is looked at.
+    pub(crate) reached: Option<Duration>,
 }
 
 impl PeerTurns {
-    /// The first turn begins at once.
+    /// The first turn begins at once. No look was had at the balance yet: with each period, and so with each
+    /// configuration, a settlement waits anew.
     pub(crate) fn new() -> PeerTurns {
         PeerTurns {
             course: Course::Rests {
                 until: Duration::ZERO,
             },
             pause: 0,
+            reached: None,
         }
     }
 }

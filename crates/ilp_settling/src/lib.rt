@@ -6,8 +6,9 @@
 //!
 //! # What is proved
 //!
-//! - Of a private function: how long a peer's turns rest (twice as long as the last time, up to five
-//!   minutes).
+//! - Of private functions: how long a peer's turns rest (twice as long as the last time, up to five
+//!   minutes); whether a peer's balance is at its threshold in a book, since when it is by all looks at it,
+//!   and whether a settlement that waits may be asked for by then (`specs/Waiting.antt`).
 //! - All else is proved safe, and the settler ends only where no settlement is pending. That each is finished
 //!   which it gives out, no clause says.
 #![tactic(auto)]
@@ -17,5 +18,6 @@ mod pauses;
 mod settling_loop;
 mod telling;
 mod turns;
+mod waiting;
 
 pub use settling_loop::{SettlerBell, SettlingLoop};

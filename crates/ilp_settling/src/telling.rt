@@ -25,6 +25,7 @@ pub(crate) fn tell_turn<J: Naming, R: Clock + Eprint>(
             None
         }
         Turn::Idle(_) => None,
+        Turn::Withheld => None,
         // The keeper tells that itself.
         Turn::Unwritten { .. } => None,
         Turn::Kept { number, .. } => {

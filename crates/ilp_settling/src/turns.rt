@@ -4,6 +4,7 @@ ghost use Rattle.ilp_book.specs.Configured.{IsKnown};
 
 use crate::course::{Course, PeerTurns};
 use crate::telling::tell_turn;
+use crate::waiting::{has_waited, is_at_threshold, reached_after};
 use ilp_accounts::Config;
 use ilp_desk::{End, Naming};
 use ilp_http::Buffer;
@@ -162,7 +163,7 @@ impl<J: Naming, C: Clock + Drop, K: Keeper<J> + Drop> Turns<J, C, K> {
     ) -> Course
         requires known { IsKnown J.desk.config peer }
     {
-        match self.settler.begin(shared.rt, shared.desk, peer) {
+        match self.begin_settling(shared, peer) {
             Ok(BegunTurn::NeedsAccount) => {
                 let now = monotonic(shared.rt);
                 match shared.outside().ask_for_account(peer, now) {
@@ -174,6 +175,56 @@ impl<J: Naming, C: Clock + Drop, K: Keeper<J> + Drop> Turns<J, C, K> {
             Ok(BegunTurn::Over(turn)) => self.end(shared, peer, turn),
             // Where memory is denied, a later turn tries again.
             Err(AllocError) => rest(shared, 0),
+        }
+    }
+
+    // Has the settler begin a turn. Where nothing new may be asked for, what is open goes on.
+    fn begin_settling<R: Wait + time::Clock>(
+        &mut self,
+        shared: &Shared<'_, J, R>,
+        peer: u32,
+    ) -> Result<BegunTurn, AllocError>
+        requires known { IsKnown J.desk.config peer }
+    {
+        let now = monotonic(shared.rt);
+        self.look_at_balance(shared, peer, now);
+        if !self.may_ask(shared, peer, now) {
+            return self.settler.take_up(shared.rt, shared.desk, peer);
+        }
+        let begun = self.settler.begin(shared.rt, shared.desk, peer);
+        // What was asked for has left the balance. Where that is below the threshold now, the next settlement
+        // waits anew. Where it is not, since none is of more than `settle_max`, the next doesn't wait.
+        self.look_at_balance(shared, peer, monotonic(shared.rt));
+        begun
+    }
+
+    // Whether a new settlement may be asked for by this time: the peer's payouts are not paused, and its
+    // balance has been at its threshold for long enough.
+    fn may_ask<R: Wait>(&self, shared: &Shared<'_, J, R>, peer: u32, now: Duration) -> bool
+        requires known { IsKnown J.desk.config peer }
+    {
+        let config = shared.desk.config();
+        if shared.payouts.is_paused(shared.rt, config.name(peer)) {
+            return false;
+        }
+        match self.peers.get(peer as usize) {
+            Some(turns) => has_waited(turns.reached, now, config.settle_after_ms(peer)),
+            None => false,
+        }
+    }
+
+    // Looks at the balance of a peer whose settlements wait, where its payouts are paused too. That is once a
+    // turn, so each `settle_ms`: where the balance falls below the threshold and rises again between two looks,
+    // that is not seen, and the wait goes on. The lock is held for the look alone.
+    fn look_at_balance<R: Wait>(&mut self, shared: &Shared<'_, J, R>, peer: u32, now: Duration)
+        requires known { IsKnown J.desk.config peer }
+    {
+        if shared.desk.config().settle_after_ms(peer) == 0 {
+            return;
+        }
+        let reaches = is_at_threshold(shared.desk.lock(shared.rt).book(), peer);
+        if let Some(turns) = self.peers.get_mut(peer as usize) {
+            turns.reached = reached_after(turns.reached, reaches, now);
         }
     }
 

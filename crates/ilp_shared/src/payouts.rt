@@ -1,5 +1,5 @@
 //! Whose payouts are paused.
-ghost use Rattle.std.specs.Prelude.{◌≡◌, ◌×◌, ◌++◌, ◌∷◌, [], ◌<◌, ◌≤◌, pos, List, String, map, codes, length, replicate, OnOk, OnErr, IfOk, string_bytes, if◌then◌else◌};
+ghost use Rattle.std.specs.Prelude.{◌≡◌, ◌++◌, ◌∷◌, [], ◌<◌, ◌≤◌, ℕ, pos, List, map, codes, length, replicate, OnOk, OnErr, IfOk, string_bytes, if◌then◌else◌};
 ghost use Rattle.ilp_report.specs.Report.{line};
 ghost use Rattle.ilp_shared.specs.Payouts.{is_among, without, peer_line, paused_lines};
 
@@ -52,7 +52,7 @@ impl Payouts {
     /// The lines that the report has of the peers whose payouts are paused, in the configuration's order.
     /// Where nobody's are this takes no lock and no memory.
     pub fn lines(&self, rt: &impl Wait, config: &Config) -> Result<Vec<u8>, AllocError>
-        ensures { IfOk result (λ lines. (named : List String)
+        ensures { IfOk result (λ lines. (named : List (List ℕ))
             × (lines.items ≡ paused_lines named config.now)) }
     {
         if self.has_any.load(Ordering::SeqCst) {
@@ -65,7 +65,7 @@ impl Payouts {
 // Adds a name, unless it is there.
 fn add(named: &mut Vec<String>, alloc: Global, name: &str) -> Result<(), AllocError>
     ensures ok { OnOk result (map string_bytes named.new.items
-        ≡ (if is_among named.old.items name.now then map string_bytes named.old.items
+        ≡ (if is_among (map string_bytes named.old.items) name.now then map string_bytes named.old.items
         else map string_bytes named.old.items ++ name.now ∷ [])) }
     ensures err { OnErr result (named.new.items ≡ named.old.items) }
 {
@@ -81,21 +81,21 @@ fn add(named: &mut Vec<String>, alloc: Global, name: &str) -> Result<(), AllocEr
 
 // Removes a name, if it is there.
 fn remove(named: &mut Vec<String>, name: &str)
-    ensures { named.new.items ≡ without name.now named.old.items }
+    ensures { map string_bytes named.new.items ≡ without name.now (map string_bytes named.old.items) }
 {
     named.retain(|other| other.as_str() != name);
 }
 
 // Whether a name is there.
 fn is_among(named: &[String], name: &str) -> bool
-    ensures { result ≡ is_among named.now name.now }
+    ensures { result ≡ is_among (map string_bytes named.now) name.now }
 {
     named.iter().any(|other| other.as_str() == name)
 }
 
 // The lines of the peers that are named.
 fn lines_of(named: &[String], config: &Config) -> Result<Vec<u8>, AllocError>
-    ensures { IfOk result (λ lines. lines.items ≡ paused_lines named.now config.now) }
+    ensures { IfOk result (λ lines. lines.items ≡ paused_lines (map string_bytes named.now) config.now) }
 {
     let mut lines = Vec::new(config.allocator());
     for peer in 0..config.peers() {
@@ -112,7 +112,7 @@ fn put_peer(
     peer: u32,
 ) -> Result<(), AllocError>
     requires { peer < length config.now.peers }
-    ensures { OnOk result (lines.new.items ≡ lines.old.items ++ peer_line named.now config.now peer) }
+    ensures { OnOk result (lines.new.items ≡ lines.old.items ++ peer_line (map string_bytes named.now) config.now peer) }
 {
     let name = config.name(peer);
     if is_among(named, name) {
@@ -122,14 +122,14 @@ fn put_peer(
 }
 
 // Puts the line of this name.
-#[tactic(auto, unfolding(ilp_report::specs::Report::line))]
 fn put_line(lines: &mut Vec<u8>, name: &str) -> Result<(), AllocError>
     ensures { OnOk result (lines.new.items ≡ lines.old.items ++ line (codes "paused") name.now (pos 1)) }
 {
     lines.extend_from_slice(b"paused    ")?;
     lines.extend_from_slice(name.as_bytes())?;
     put_spaces(lines, NAME_WIDTH.saturating_sub(name.len()))?;
-    lines.extend_from_slice(b"                             1\n")
+    lines.extend_from_slice(b"                             1\n")?;
+    Ok(())
 }
 
 // Puts so many spaces.

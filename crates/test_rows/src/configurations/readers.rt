@@ -83,6 +83,10 @@ fn print_settlement(rt: &impl Print, config: &Config, peer: u32) -> io::Result<(
     let name = config.name(peer);
     let engine = config.engine(peer).unwrap_or("none");
     println!(rt; "engine of {name} {engine}")?;
+    println!(rt;
+        "settle_after_ms of {name} {}",
+        config.settle_after_ms(peer)
+    )?;
     let Some(levels) = config.levels(peer) else {
         return println!(rt; "levels of {name} none");
     };

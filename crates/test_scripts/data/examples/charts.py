@@ -14,7 +14,8 @@ from markup import element, escaped
 
 NAMESPACE = "http://www.w3.org/2000/svg"
 WIDTH, HEIGHT = 960, 240
-TOP, BOTTOM, RIGHT = 34, 200, 944
+# Right of the drawing half a time has room.
+TOP, BOTTOM, RIGHT = 34, 200, 918
 # In pixels: the least room for labels at the left, a character of one, and the least distances of labels and of marks
 # of periods.
 LEAST_LEFT, CHARACTER, BETWEEN_LABELS, BETWEEN_MARKS = 64, 7, 110, 4
@@ -213,9 +214,10 @@ def marks_drawn(chart: Chart, plane: Plane) -> Iterator[str]:
         if x - drawn >= BETWEEN_MARKS:
             yield straight("mark", x, TOP, x, BOTTOM)
             drawn = x
-        if x - named >= BETWEEN_LABELS:
-            yield label(x, TOP - 6, name, "end" if x > RIGHT - BETWEEN_LABELS else "start")
-            named = x
+        left = min(x, RIGHT - CHARACTER * len(name))
+        if left - named >= BETWEEN_LABELS:
+            yield label(left, TOP - 6, name)
+            named = left
 
 
 def lines_drawn(chart: Chart, plane: Plane) -> Iterator[str]:

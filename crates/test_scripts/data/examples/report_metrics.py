@@ -37,11 +37,13 @@ MOST_ASSETS = 64
 OF_PEERS = ("balance", "open")
 OF_ASSETS = ("held", "fees", "bought", "sold", "settled")
 OF_ALL = ("entries", "fulfilled")
-# The last line of the report of a period above 0. The first period has none.
+# The line behind these, in the report of a period above 0. The first period has none.
 OF_LATER = "period"
+# The last lines, of peers to whom no new settlement is asked for. The report of an end has none.
+OF_PAUSED = "paused"
 MAY_BE_NEGATIVE = ("balance", "settled")
 
-MOST_LINES = len(OF_PEERS) * MOST_PEERS + len(OF_ASSETS) * MOST_ASSETS + len(OF_ALL) + 1
+MOST_LINES = (len(OF_PEERS) + 1) * MOST_PEERS + len(OF_ASSETS) * MOST_ASSETS + len(OF_ALL) + 1
 MOST_OCTETS = MOST_LINES * (WIDTH + 1)
 
 PEER = re.compile(r"[a-z0-9_-]{1,16}")
@@ -72,6 +74,10 @@ METRICS = {
     "entries": ("ilp_entries", "How many entries the journal has."),
     "fulfilled": ("ilp_fulfilled", "How many holds are fulfilled."),
     "period": ("ilp_period", "The number of the journal's period, from 0 on."),
+    "paused": (
+        "ilp_payouts_paused",
+        "1 where new settlements to the peer are paused, and 0 where they go on.",
+    ),
 }
 UNAUTHORIZED = {
     "unauthorized": ("ilp_unauthorized", "How many requests got 401, by the lines of standard error.")
@@ -219,7 +225,10 @@ def read_report(octets: bytes) -> Report:
             assets[name][label] = lines.take(label, name).number
     totals = {label: lines.take(label, "").number for label in OF_ALL}
     totals[OF_LATER] = take_period(lines)
+    paused = take_paused(lines, list(peers))
     lines.end()
+    for name, numbers in peers.items():
+        numbers[OF_PAUSED] = int(name in paused)
     check_books(peers, assets)
     return Report(peers, assets, totals)
 
@@ -232,6 +241,20 @@ def take_period(lines: Lines) -> int:
     if line.number == 0:
         raise NoReport(f"line {line.place}: the first period has no line")
     return line.number
+
+
+def take_paused(lines: Lines, names: list[str]) -> set[str]:
+    """Which of the peers are paused: each has a line with the number 1, in the order of the peers."""
+    paused: set[str] = set()
+    while lines.comes(OF_PAUSED):
+        line = lines.take(OF_PAUSED)
+        if line.name not in names:
+            raise NoReport(f"line {line.place}: {OF_PAUSED} has no name that may stand there")
+        if line.number != 1:
+            raise NoReport(f"line {line.place}: {OF_PAUSED} is not 1")
+        names = names[names.index(line.name) + 1 :]
+        paused.add(line.name)
+    return paused
 
 
 def check_books(peers: dict[str, dict[str, int]], assets: dict[str, dict[str, int]]) -> None:
@@ -255,6 +278,11 @@ def family(label: str, samples: list[tuple[str, int]]) -> Iterator[str]:
     yield f"# TYPE {metric} gauge"
     for labels, number in samples:
         yield f"{metric}{labels} {number}"
+
+
+def of_peers(report: Report, label: str) -> list[tuple[str, int]]:
+    """Each peer's labels, and its number."""
+    return [(f'{{peer="{name}"}}', numbers[label]) for name, numbers in report.peers.items()]
 
 
 def of_asset(name: str) -> str:
@@ -284,13 +312,13 @@ def metrics_of(report: Report, unauthorized: int | None = None) -> str:
     of Prometheus."""
     lines: list[str] = []
     for label in OF_PEERS:
-        of = [(f'{{peer="{name}"}}', numbers[label]) for name, numbers in report.peers.items()]
-        lines += family(label, of)
+        lines += family(label, of_peers(report, label))
     for label in OF_ASSETS:
         of = [(of_asset(name), numbers[label]) for name, numbers in report.assets.items()]
         lines += family(label, of)
     for label in (*OF_ALL, OF_LATER):
         lines += family(label, [("", report.totals[label])])
+    lines += family(OF_PAUSED, of_peers(report, OF_PAUSED))
     if unauthorized is not None:
         lines += family("unauthorized", [('{side="peers"}', unauthorized)])
     return "\n".join(lines) + "\n"
@@ -347,9 +375,9 @@ def run(source: Path | None, output: Path | None, log: Path | None = None) -> No
 # ---- the test
 
 
-def sample(period: object = None, **changed: object) -> bytes:
+def sample(period: object = None, paused: Iterable[str] = (), **changed: object) -> bytes:
     """The report after one hold of 100 by alice to bob that was fulfilled, or one with other numbers
-    under some labels, and with a line of the period where that is given."""
+    under some labels, with a line of the period where that is given, and of each peer that is paused."""
     rows = [
         ("balance", "alice", -100),
         ("balance", "bob", 100),
@@ -364,6 +392,7 @@ def sample(period: object = None, **changed: object) -> bytes:
         ("fulfilled", "", 1),
     ]
     rows += [] if period is None else [("period", "", period)]
+    rows += [("paused", name, 1) for name in paused]
     return "".join(
         f"{label:10}{name:20}{changed.get(label, number):>30}\n" for label, name, number in rows
     ).encode("ascii")
@@ -387,6 +416,19 @@ def refusal(octets: bytes) -> str:
     'line 12: it begins with no label of a report'
     >>> refusal(sample()[:-61] + sample(period=3)[-61:])
     'line 11: it is not fulfilled'
+    >>> [refusal(sample(paused=names)) for names in (["bob"], ["alice", "bob"])]
+    ['none', 'none']
+    >>> [refusal(sample(paused=names)) for names in (["bob", "alice"], ["bob", "bob"], ["carol"], [""])]
+    ['line 13: paused has no name that may stand there', \
+'line 13: paused has no name that may stand there', \
+'line 12: paused has no name that may stand there', \
+'line 12: paused has no name that may stand there']
+    >>> [refusal(sample(paused=["bob"])[:-2] + end) for end in (b"0\\n", b"2\\n")]
+    ['line 12: paused is not 1', 'line 12: paused is not 1']
+    >>> refusal(sample(period=3, paused=["bob"]))
+    'none'
+    >>> refusal(sample(paused=["bob"]) + sample(period=3)[-61:])
+    'line 13: nothing is to come after paused'
     >>> refusal(sample()[:-1])
     'it does not end with a whole line'
     >>> refusal(sample()[:-61])
@@ -427,7 +469,7 @@ def refusal(octets: bytes) -> str:
     >>> refusal(b"\\xff" + sample()[1:])
     'it has an octet that is no ASCII'
     >>> refusal(b" " * MOST_OCTETS + b"\\n")
-    'it has more than 50935 octets'
+    'it has more than 66551 octets'
     """
     try:
         read_report(octets)
@@ -449,6 +491,8 @@ SAMPLE_LINES = (
     "ilp_entries 2",
     "ilp_fulfilled 1",
     "ilp_period 0",
+    'ilp_payouts_paused{peer="alice"} 0',
+    'ilp_payouts_paused{peer="bob"} 0',
 )
 
 
@@ -461,8 +505,11 @@ def differs_in() -> list[str]:
     lines = metrics_of(read_report(sample())).splitlines()
     if tuple(line for line in lines if not line.startswith("#")) != SAMPLE_LINES:
         differs.append("the metrics of the sample")
-    if not metrics_of(read_report(sample(period=3))).endswith("\nilp_period 3\n"):
+    if "\nilp_period 3\n" not in metrics_of(read_report(sample(period=3))):
         differs.append("the period")
+    paused = metrics_of(read_report(sample(paused=["bob"])))
+    if not paused.endswith('{peer="alice"} 0\nilp_payouts_paused{peer="bob"} 1\n'):
+        differs.append("who is paused")
     if 'ilp_unauthorized{side="peers"} 13\n' not in metrics_of(read_report(sample()), 13):
         differs.append("requests that got 401")
     most = 2**88 - 1
