@@ -10,6 +10,9 @@ from cases.case import Differs, expect, expect_that
 # Which way a correction moves a balance.
 SIGNS = {"rises": 1, "falls": -1}
 
+# What a book keeps under a key: the quantity; of a correction its direction and, in hexadecimal, its reason too.
+KeptCredit = tuple[int, int] | tuple[int, int, str, str]
+
 FORM = re.compile(rb"ilp-journal (?:1|2 (?P<period>[1-9]\d*))\n")
 
 
@@ -70,11 +73,9 @@ class Book:
         self.balances: Counter[str] = Counter()
         self.sums: Counter[str] = Counter()
         self.holds: dict[int, Hold] = {}
-        # By preimage; by peer and key, the quantity of a credit, and all that a correction says; by number, peer and
-        # amount.
+        # By preimage; by peer and key; by number, peer and amount.
         self.fulfills: dict[str, Hold] = {}
-        self.credits: dict[tuple[str, str], tuple[int, int]] = {}
-        self.corrections: dict[tuple[str, str], list[str]] = {}
+        self.credits: dict[tuple[str, str], KeptCredit] = {}
         self.asks: dict[int, tuple[str, int]] = {}
         self.open_asks: set[int] = set()
         # The numbers of reports that were given, by how many entries there were.
@@ -157,13 +158,12 @@ class Book:
     def corrected(self, peer: str, key: str, amount: str, scale: str, units: str, way: str, reason: str) -> None:
         """A balance that was corrected."""
         self.expect_new(peer, key)
-        self.corrections[peer, key] = [amount, scale, units, way, reason]
+        self.credits[peer, key] = int(amount), int(scale), way, reason
         self.settle(peer, SIGNS[way] * int(units))
 
     def expect_new(self, peer: str, key: str) -> None:
-        """No entry has a key of a peer's. Credits and corrections share them."""
-        expect_that(f"the key {key} of {peer} is booked twice",
-                    (peer, key) not in self.credits and (peer, key) not in self.corrections)
+        """No credit and no correction of a peer's has a key yet."""
+        expect_that(f"the key {key} of {peer} is booked twice", (peer, key) not in self.credits)
 
     def asked(self, peer: str, amount: str) -> None:
         """What a peer is to be paid."""

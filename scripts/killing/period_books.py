@@ -5,7 +5,7 @@ from pathlib import Path
 
 from cases.case import Differs, expect
 from cases.program import RUN
-from killing.books import SIGNS, Book, Hold, entries_in, entries_kept, goes_on_from, period_in
+from killing.books import SIGNS, Book, Hold, KeptCredit, entries_in, entries_kept, goes_on_from, period_in
 
 
 class PeriodBook(Book):
@@ -181,18 +181,11 @@ class Periods:
         expect("how many preimages stand there", len(found), len(passed))
         return found
 
-    def credits(self) -> dict[tuple[str, str], tuple[int, int]]:
-        """What was credited in all periods, by peer and key."""
+    def credits(self) -> dict[tuple[str, str], KeptCredit]:
+        """What was credited and corrected in all periods, by peer and key."""
         credited = [one for book in self.books for one in book.credits.items()]
         found = dict(credited)
         expect("how many keys are credited", len(found), len(credited))
-        return found
-
-    def corrections(self) -> dict[tuple[str, str], list[str]]:
-        """What was corrected in all periods, by peer and key."""
-        corrected = [one for book in self.books for one in book.corrections.items()]
-        found = dict(corrected)
-        expect("how many keys are of corrections", len(found), len(corrected))
         return found
 
     def asked_for(self) -> dict[str, tuple[str, int]]:

@@ -113,8 +113,8 @@ BOB_THEN = rows(3, "bob", """,0,opening,,,,,0.00,,,,
 ,7,closing,,,,,-0.05,,,,
 """)
 
-# Corrections both ways, also of nothing, under a key and for reasons that a spreadsheet would take for formulas, of a run
-# and peers whose names it would. The key of one that was made in an earlier period, and that of a credit, are known.
+# Corrections both ways, also of nothing, under a key and for reasons that a spreadsheet would take for formulas, of a
+# run and peers whose names it would. Keys are known of an earlier period's correction, and of a credit.
 CORRECTED_CONFIGURATION = configuration(("-a", "-b"), 2, run="-hub")
 CORRECTED = f"""ilp-journal 2 1
 1795723300000 0 opened -a -100

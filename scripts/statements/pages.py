@@ -104,13 +104,13 @@ def try_small() -> None:
            [["alice", "USD/0", "5", "0", "5", "0", "0", "-1000", "none"]])
     expect("how many lines it has", len(lines_of(one)), 1)
     text = CORRECTED.replace(" -a", " alice").replace(" -b", " bob")
-    expect("balances that were corrected", [row[2] for row in rows_of(page_of(CONFIGURATION, journal=text), "Balances")],
-           ["-16.00", "0.13"])
+    corrected = page_of(CONFIGURATION, journal=text)
+    expect("corrected balances", [row[2] for row in rows_of(corrected, "Balances")], ["-16.00", "0.13"])
     for config, text, why in ((CONFIGURATION, FIRST[:-1], "it is not whole"), ("x", FIRST, "it is no configuration"),
                               ("run = 1", FIRST, "it is no configuration"), (CONFIGURATION, "", "its first line"),
                               (CONFIGURATION, FIRST.replace("released 2", "released 1"), "the entry 4 of the period 0"),
                               (CONFIGURATION, FIRST.replace("asked", "taken"), "the entry 7 of the period 0"),
-                              (CONFIGURATION, CORRECTED.replace("rises c3", "raises c3"), "the entry 4 of the period 1")):
+                              (CONFIGURATION, CORRECTED.replace("rises c", "raises c"), "the entry 4 of the period 1")):
         expect_refused(config, text, why)
 
 

@@ -81,7 +81,8 @@ class Statement:
 
 
 def text_of(octets: bytes) -> str:
-    """A name, a key or a reason in printable ASCII. What a spreadsheet would take for a formula begins with an escape."""
+    """A name, a key or a reason in printable ASCII. What a spreadsheet would take for a formula begins with an
+    escape."""
     return "".join(f"\\x{octet:02x}" if not 32 <= octet <= 126 or octet == 0x5C or place == 0 and octet in b"=+-@"
                    else chr(octet) for place, octet in enumerate(octets))
 

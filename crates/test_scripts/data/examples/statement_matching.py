@@ -26,8 +26,8 @@ DISPUTED = (OURS, THEIRS, AMOUNTS, ENDS)
 
 @dataclass
 class Item:
-    """A packet, a settlement or a correction in one statement: its rows, of which there are two where it begins and ends
-    there."""
+    """A packet, a settlement or a correction in one statement: its rows, of which there are two where it begins and
+    ends there."""
 
     is_ours: bool
     rows: list[Row]
