@@ -18,6 +18,7 @@ from cases.stand_ins import FULFILLS
 from connections import JSON, T04, quantity
 
 BACK = "charged back"
+REFUSED = "error correction of bob refused, and not booked: "
 MEANT = "see which one is meant, and for which reason"
 
 # The least of a balance, and what lies just below it.
@@ -105,8 +106,8 @@ def correction_told_again(laboratory: Laboratory) -> None:
     correct(program, -500, "c1")
     expect("the settlement again", credit(program, 700, key="paid"), created(quantity(700, 2)))
     close(program, alice=1, bob=200)
-    expect("the first line on a refusal", told_of(program, "error")[0], "error correction of bob refused, and not booked: "
-           f'-501 at scale 2 under the key "c1", which correction 1 has with -500 at scale 2: {MEANT}')
+    expect("the first line on a refusal", told_of(program, "error")[0], f"{REFUSED}-501 at scale 2 under the key "
+           f'"c1", which correction 1 has with -500 at scale 2: {MEANT}')
     said = program.told("error (settlement|correction) of bob .+")
     expect_that(f"{len(said)} lines tell of seven refusals at once", len(said) < 7)
     expect_that("lines tell of more than seven refusals", sum(line.left_out() + 1 for line in said) <= 7)
@@ -120,8 +121,7 @@ def correction_under_a_key_of_a_settlement(laboratory: Laboratory) -> None:
     expect("a correction", answered(program, asked("-7", "k")), response(409))
     close(program, bob=7)
     expect("the line on the correction", [line.said for line in program.told("error .+")],
-           ['error correction of bob refused, and not booked: -7 at scale 2 under the key "k", which credit 0 has with 7 '
-            f"at scale 2: {MEANT}"])
+           [f'{REFUSED}-7 at scale 2 under the key "k", which credit 0 has with 7 at scale 2: {MEANT}'])
     program = laboratory.serve(levels=False)
     correct(program, -7, "k")
     expect("a settlement", credit(program, 7, key="k"), response(409))
