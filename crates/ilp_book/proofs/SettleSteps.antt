@@ -1,9 +1,10 @@
 -- A credit, an ask or a closing that a step appends to a lawful journal is admitted by its rules.
-use Rattle.std.proofs.Common.{◌≡◌, ℕ, ℤ, pos, ◌+ℤ◌, ◌-ℤ◌, true, false, not, ◌&&◌, List, Option, Some, None, refl, sym, subst, arith}
+use Rattle.std.proofs.Common.{◌≡◌, ℕ, ◌<◌, ◌^◌, ℤ, pos, ◌+ℤ◌, ◌-ℤ◌, Bool, true, false, not, ◌&&◌, List, Option, Some, None, refl, sym, ap, ◌∙◌, subst, arith}
 use Rattle.std.specs.Prelude.{Result, Ok, Err, ◌≤ℤ◌, int_lt, nat_lt, ◌==◌, unwrap_or, option_map, option_and_then, IsSome, IsNone}
 use Rattle.std.specs.Str.{bytes_eq}
+use Rattle.std.proofs.lemmas.Bool.{le-ltb}
 use Rattle.std.proofs.lemmas.Int.{ints}
-use Rattle.ilp_order.specs.Refusals.{◌>>=◌, refuse_some, found_or}
+use Rattle.ilp_order.specs.Refusals.{◌>>=◌, refuse_if, refuse_some, found_or}
 use Rattle.ilp_assets.specs.Quote.{most}
 use Rattle.ilp_accounts.specs.Configuration.{Configuration, peer_at}
 use Rattle.ilp_accounts.specs.Valid.{IsValid}
@@ -27,7 +28,7 @@ use Rattle.ilp_journal.specs.Credits.{lowering, as_credit, credit_at, has_key, k
 use Rattle.ilp_rules.specs.Lawful.{IsLawful, IsFreshCredit, IsDueAsk}
 use Rattle.ilp_settlement.specs.declared.verdict.EngineVerdict.{EngineVerdict}
 use Rattle.ilp_settlement.specs.declared.verdict.EngineVerdict.TheVariants as engine
-use Rattle.ilp_book.specs.SettleStep.{Payment, closing_of_verdict, amount_of, credit_of, kept, credit_fresh, credit_checked, credit_booked, credit_step, still_open, ask_fitted, ask_checked, ask_booked, ask_step, close_booked, close_step}
+use Rattle.ilp_book.specs.SettleStep.{Payment, closing_of_verdict, amount_of, credit_of, kept, credit_fitted, credit_fresh, credit_checked, credit_booked, credit_step, still_open, ask_fitted, ask_checked, ask_booked, ask_step, close_booked, close_step}
 use Rattle.ilp_rules.specs.Lawful.{due_amount}
 use Rattle.ilp_rules.proofs.Known.{peer_valid}
 use Rattle.ilp_rules.proofs.LawfulGrowth.{Admits, lawful_push, limits_now}
@@ -99,6 +100,16 @@ none_kept j peer key e = of_test (kept_at j peer key) refl e
 pub fresh_credit : (C : Configuration) (j : Entries) (p : Payment) → IsKnown C p.peer → IsKey p.key → kept j p.peer p.key ≡ None → IsFreshCredit C j (credit_of C p)
 fresh_credit C j p known key none = record { known = known; named = key; rounded = refl; fresh = none_kept j p.peer p.key none }
 
+-- a payment of so much, whose key is not kept, is checked as its credit is
+pub fresh_checked : (book : PlainBook) (p : Payment) (n : ℕ) → n ≡ amount_of book.config p → n < 2 ^ 64 → kept book.entries p.peer p.key ≡ None
+    → credit_checked book p ≡ credit_fitted book (record { peer = p.peer; key = p.key; named = p.quantity.amount; scale = p.quantity.scale; credited = n; kind = p.kind })
+unfolding credit_checked
+fresh_checked book p n amount small none =
+    let fits : nat_lt most (amount_of book.config p) ≡ false = le-ltb most (amount_of book.config p) (omega (arith, amount, small)) in
+    ap (λ (b : Bool). refuse_if b (Err credit_fault.TooLarge) >>= (λ _. credit_fresh book p (kept book.entries p.peer p.key))) fits
+    ∙ ap (credit_fresh book p) none
+    ∙ ap (λ (m : ℕ). credit_fitted book (record { peer = p.peer; key = p.key; named = p.quantity.amount; scale = p.quantity.scale; credited = m; kind = p.kind })) (sym amount)
+
 -- a balance that would not fall below its least
 IsEnough : PlainBook → Credited → Type 0
 IsEnough book c = int_lt (balance book.entries c.peer -ℤ pos (lowering c.kind c.credited)) (peer_at book.config c.peer).least ≡ false
@@ -130,7 +141,7 @@ credit_facts book p c known key e =
         let a = refused_not (not (has_room book 1)) (Err credit_fault.Full) _ c e in
         let b = refused_not (int_lt (owed -ℤ pos (lowering made.kind made.credited)) least) (Err (credit_fault.BelowLeast owed least)) _ c a.1 in
         let same = ok_same _ c b.1 in
-        (subst (IsFreshCredit book.config book.entries) same (fresh_credit book.config book.entries p known key is), (not_true _ a.0, subst (IsEnough book) same b.0))
+        (subst (IsFreshCredit book.config book.entries) same (fresh_credit book.config book.entries p known key is), not_true _ a.0, subst (IsEnough book) same b.0)
 
 pub credit_lawful : (book : PlainBook) (caller : By) (p : Payment) (growth : Growth) → IsLawful book → IsKnown book.config p.peer → IsKey p.key
     → IsLawful (with_entry book (credit_step book caller p growth).entry)
