@@ -1,5 +1,5 @@
 -- A credit, an ask or a closing that a step appends to a lawful journal is admitted by its rules.
-use Rattle.std.proofs.Common.{◌≡◌, ℕ, ◌<◌, ◌^◌, ℤ, pos, ◌+ℤ◌, ◌-ℤ◌, Bool, true, false, not, ◌&&◌, List, Option, Some, None, refl, sym, ap, ◌∙◌, subst, arith}
+use Rattle.std.proofs.Common.{◌≡◌, ℕ, ◌<◌, ◌^◌, ℤ, pos, ◌+ℤ◌, ◌-ℤ◌, Bool, true, false, not, ◌&&◌, List, Option, Some, None, refl, sym, ap, ap₂, ◌∙◌, subst, arith}
 use Rattle.std.specs.Prelude.{Result, Ok, Err, ◌≤ℤ◌, int_lt, nat_lt, ◌==◌, unwrap_or, option_map, option_and_then, IsSome, IsNone}
 use Rattle.std.specs.Str.{bytes_eq}
 use Rattle.std.proofs.lemmas.Bool.{le-ltb}
@@ -111,8 +111,22 @@ fresh_checked book p n amount small none =
     ∙ ap (λ (m : ℕ). credit_fitted book (record { peer = p.peer; key = p.key; named = p.quantity.amount; scale = p.quantity.scale; credited = m; kind = p.kind })) (sym amount)
 
 -- a balance that would not fall below its least
-IsEnough : PlainBook → Credited → Type 0
+abbrev pub IsEnough : PlainBook → Credited → Type 0
 IsEnough book c = int_lt (balance book.entries c.peer -ℤ pos (lowering c.kind c.credited)) (peer_at book.config c.peer).least ≡ false
+
+-- so it is by what is computed of both
+pub enough_by : (book : PlainBook) (c : Credited) (owed least : ℤ) → owed ≡ balance book.entries c.peer → least ≡ (peer_at book.config c.peer).least
+    → int_lt (owed -ℤ pos (lowering c.kind c.credited)) least ≡ false → IsEnough book c
+enough_by book c owed least owes lies not_short =
+    ap₂ (λ (a b : ℤ). int_lt (a -ℤ pos (lowering c.kind c.credited)) b) (sym owes) (sym lies) ∙ not_short
+
+-- where there is room and balance for a credit, it is the one that is booked
+pub fitted : (book : PlainBook) (c : Credited) → has_room book 1 ≡ true → IsEnough book c → credit_fitted book c ≡ Ok c
+fitted book c room enough =
+    let owed = balance book.entries c.peer in
+    let least = (peer_at book.config c.peer).least in
+    ap (λ (b : Bool). refuse_if (not b) (Err credit_fault.Full) >>= (λ _. refuse_if (int_lt (owed -ℤ pos (lowering c.kind c.credited)) least) (Err (credit_fault.BelowLeast owed least)) >>= (λ _. Ok c))) room
+    ∙ ap (λ (b : Bool). refuse_if b (Err (credit_fault.BelowLeast owed least)) >>= (λ _. Ok c)) enough
 
 -- so it is at the moment of a call
 pub credit_admitted : (book : PlainBook) (caller : By) (c : Credited) → IsLawful book → IsFreshCredit book.config book.entries c → has_room book 1 ≡ true

@@ -1,5 +1,7 @@
-use Rattle.std.proofs.Common.{◌≡◌, ℕ, ◌<◌, ◌^◌, Option, Some, None, sym, ap, ◌∙◌, subst, refl}
-use Rattle.std.specs.Prelude.{Result, option_map}
+use Rattle.std.proofs.Common.{◌≡◌, ℕ, ◌<◌, ◌^◌, ℤ, Option, Some, None, sym, ap, ◌∙◌, subst, refl, rules, to_z, of_z}
+use Rattle.std.specs.Prelude.{Result, FitsSigned, option_map}
+use Rattle.std.specs.Int.{w64}
+use Rattle.std.proofs.lemmas.Int.{to_z-of_z}
 use Rattle.ilp_journal.specs.declared.entry.Credited.{Credited}
 use Rattle.ilp_journal.specs.declared.credit_kind.CreditKind.{CreditKind}
 use Rattle.ilp_settlement.specs.declared.quantity.Quantity.{Quantity}
@@ -9,7 +11,7 @@ use Rattle.ilp_rules.specs.Configured.{IsKnown}
 use Rattle.ilp_rules.specs.Lawful.{IsFreshCredit}
 use Rattle.ilp_book.specs.declared.calls.Kept.{Kept}
 use Rattle.ilp_book.specs.declared.fault.CreditFault.{CreditFault}
-use Rattle.ilp_book.specs.SettleStep.{payment, amount_of, credit_of, credit_kept, kept, credit_booked, credit_growth, credit_step}
+use Rattle.ilp_book.specs.SettleStep.{payment, amount_of, credit_of, credit_kept, kept, credit_booked, credit_growth, credit_checked, credit_step}
 use Rattle.ilp_book.proofs.SettleSteps.{fresh_credit, fresh_checked}
 use Rattle.ilp_book.proofs.book.Book.credit.Goals as goal
 
@@ -44,5 +46,8 @@ returns-in-None-clause-step g c =
     let small = subst (λ (m : ℕ). m < 2 ^ 64) (sym c.in_ok-amount.ensures.1) c.in_ok-amount.ensures.0 in
     let NotKept : PlainBook → Type 0 = λ b. kept b.entries p.peer p.key ≡ None in
     let none = subst NotKept c.self.view_is (not_kept p.quantity p.kind (kept c.self.inside.journal.entries p.peer p.key) (sym c.in-None.ensures.value)) in
-    let Step : Result Credited (Result Kept CreditFault) → Type 0 = λ made. Does book c.book_credit.new.self c.book_credit.result (credit_booked book (by c.args.actor c.args.now) (credit_growth c.book_credit.result) made) in
-    subst Step (sym (fresh_checked book p n amount small none)) c.book_credit.ensures.step
+    let Made : Result Credited (Result Kept CreditFault) → Type 0 = λ made. Does book c.book_credit.new.self c.book_credit.result (credit_booked book (by c.args.actor (to_z w64 (of_z w64 c.args.now))) (credit_growth c.book_credit.result) made) in
+    let made = subst Made (sym (fresh_checked book p n amount small none)) c.book_credit.ensures.step in
+    let At : ℤ → Type 0 = λ t. Does book c.book_credit.new.self c.book_credit.result (credit_booked book (by c.args.actor t) (credit_growth c.book_credit.result) (credit_checked book p)) in
+    let fits : FitsSigned w64 c.args.now = search rules in
+    subst At (to_z-of_z w64 c.args.now fits) made
