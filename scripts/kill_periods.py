@@ -36,8 +36,7 @@ from cases.messages import request, seconds_since
 from cases.program import Program, Setup
 from cases.running_periods import expect_follows, report_of
 from killing.books import goes_on_from
-from killing.load import (MOST_CREDITED, SCALE, Credit, Load, answers_by_chance, answers_by_data, asks_of, chosen,
-                          taken)
+from killing.load import Load, answers_by_chance, answers_by_data, asks_of, chosen, credit_by_chance, taken
 from killing.period_books import Periods, read_standing
 
 USAGE = "usage: kill_periods.py PATH/TO/connector [COUNT [SEED]]"
@@ -85,7 +84,7 @@ class FewKeys(Load):
             self.tell(generator.choice(self.known))
         else:
             self.keys += 1
-            self.tell(Credit(peer, generator.randbytes(8).hex(), generator.randint(1, MOST_CREDITED)))
+            self.tell(credit_by_chance(peer, generator))
 
 
 class Kills:
@@ -197,7 +196,7 @@ class Kills:
             expect(f"in the journals of {packet}", found,
                    (packet.sender, packet.receiver, packet.amount, packet.amount))
         for one in answered.credits:
-            expect(f"in the journals of {one}", credits.get((one.peer, one.key.encode().hex())), (one.amount, SCALE))
+            expect(f"in the journals of {one}", credits.get((one.peer, one.key.encode().hex())), one.kept)
         for ask in asks:
             expect(f"in the journals of {ask}", asked.get(ask.key), (ask.peer, ask.amount))
         self.compared.update(fulfills=len(answered.fulfills), credits=len(answered.credits), asks=len(asks))

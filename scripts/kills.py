@@ -4,12 +4,13 @@
     scripts/kills.py PATH/TO/connector [COUNT [SEED]]
 
 A connector keeps a journal, beside peers that fulfill, reject and say nothing, and engines that are asked for
-settlements and tell of some, while several threads send packets and settlements. At a random moment it is killed by
-SIGKILL: mostly under load, and at times as it starts or closes. Then another starts on the same journal. Each Fulfill
-that a sender got, each settlement that an engine was answered 201, and each that an engine was asked for has to stand
-in the journal that this one has saved, with its amount, and no settlement twice under one key; what journal and log had
-before has to be a beginning of it; and a report has to have the balances to which the entries come. All of that is
-reckoned here from the journal's text (docs/PROTOCOL.md). So it goes on COUNT times (200), on the one journal.
+settlements and tell of some, while several threads send packets, settlements and corrections. At a random moment it is
+killed by SIGKILL: mostly under load, and at times as it starts or closes. Then another starts on the same journal. Each
+Fulfill that a sender got, each settlement and correction that was answered 201, and each settlement that an engine was
+asked for has to stand in the journal that this one has saved, with its amount, and nothing twice under one key; what
+journal and log had before has to be a beginning of it; and a report has to have the balances to which the entries come.
+All of that is reckoned here from the journal's text (docs/PROTOCOL.md). So it goes on COUNT times (200), on the one
+journal.
 
 A SIGKILL leaves what the system has and the disk may not yet: whether the disk was asked in time is not seen here.
 
@@ -33,7 +34,7 @@ from cases.laboratory import Laboratory, post_close
 from cases.messages import seconds_since
 from cases.program import Program, Setup, numbers_in
 from killing.books import Book, entries_in, entries_kept
-from killing.load import (MOST_CREDITED, SCALE, Ask, Credit, Load, answers_by_chance, answers_by_data, asks_of, chosen,
+from killing.load import (MOST_CREDITED, Ask, Credit, Load, answers_by_chance, answers_by_data, asks_of, chosen,
                           taken)
 
 USAGE = "usage: kills.py PATH/TO/connector [COUNT [SEED]]"
@@ -131,8 +132,7 @@ class Kills:
             found = hold and (hold.sender, hold.receiver, hold.amount, hold.out)
             expect(f"in the journal of {packet}", found, (packet.sender, packet.receiver, packet.amount, packet.amount))
         for one in answered.credits:
-            expect(f"in the journal of {one}", self.book.credits.get((one.peer, one.key.encode().hex())),
-                   (one.amount, SCALE))
+            expect(f"in the journal of {one}", self.book.credits.get((one.peer, one.key.encode().hex())), one.kept)
         for ask in asks:
             expect(f"in the journal of {ask}", self.book.asks.get(ask.number), (ask.peer, ask.amount))
         self.compared.update(fulfills=len(answered.fulfills), credits=len(answered.credits), asks=len(asks))

@@ -29,7 +29,10 @@ MORE = r"( \(([1-9]\d*) more since the last line\))?"
 # The hold of a packet that a peer may have fulfilled all the same.
 HELD = r" \(hold \d+ of \d+, condition [0-9a-f]{8}\)"
 KEY = r'("[!#-~]{1,128}"|0x[0-9a-f]{2,256})'
+REASON = r'("[ !#-~]{1,128}"|0x[0-9a-f]{2,256})'
 QUANTITY = r"\d+ at scale \d+"
+# What stands under a key that another settlement or correction was told under. A fall has a minus.
+STANDING = rf"which (credit \d+ has with {QUANTITY}|correction \d+ has with -?{QUANTITY})"
 WHY = (r"(no IP:PORT in digits|not reached: .+|no answer in time|no response of HTTP: .+"
        r"|status \d{3})")
 BAD_200 = ("a 200 without a Fulfill or a Reject that can be read: it may have fulfilled the packet, at "
@@ -93,8 +96,11 @@ FORMS = [re.compile(form) for form in (
     rf"(info|warn) {PAUSED.format(name=NAME)}",
     rf"(info|warn) {GO_ON.format(name=NAME)}",
     rf"info credit \d+ of {NAME}: \d+, key {KEY}",
-    rf"error settlement of {NAME} refused, and not credited: {QUANTITY} under the key {KEY}, which credit \d+ has with "
-    rf"{QUANTITY}: see which one its engine means{MORE}",
+    rf"info correction \d+ of {NAME}: -?\d+, key {KEY}: {REASON}",
+    rf"error settlement of {NAME} refused, and not credited: {QUANTITY} under the key {KEY}, {STANDING}: see which one "
+    rf"its engine means{MORE}",
+    rf"error correction of {NAME} refused, and not booked: -?{QUANTITY} under the key {KEY}, {STANDING}: see which one "
+    rf"is meant, and for which reason{MORE}",
     rf"warn wrong tokens: (1 request|\d+ requests) got 401(, \d+ from {PLACE})?",
     rf"info rejects to {NAME}: .+",
     rf"warn work waits for its turn, for {SECONDS} now: of \d+ in flight "

@@ -50,8 +50,8 @@ class Books:
         for preimage, hold in book.passed:
             self.booked[hold.sender].sent.add(hold.amount, bytes.fromhex(preimage))
             self.booked[hold.receiver].received.add(hold.out, bytes.fromhex(preimage))
-        for (peer, key), (amount, scale) in book.credits.items():
-            expect("the scale of a credit", scale, SCALE)
+        for (peer, key), (amount, *told) in book.credits.items():
+            expect("the scale of a credit, and nothing of a correction", told, [SCALE])
             self.booked[peer].credited[bytes.fromhex(key).decode("ascii")] = amount
         for key, (peer, amount) in book.asked_for().items():
             self.booked[peer].asked[key] = amount

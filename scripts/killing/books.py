@@ -7,6 +7,12 @@ from dataclasses import dataclass
 
 from cases.case import Differs, expect, expect_that
 
+# Which way a correction moves a balance.
+SIGNS = {"rises": 1, "falls": -1}
+
+# What a book keeps under a key: the quantity; of a correction its direction and, in hexadecimal, its reason too.
+KeptCredit = tuple[int, int] | tuple[int, int, str, str]
+
 FORM = re.compile(rb"ilp-journal (?:1|2 (?P<period>[1-9]\d*))\n")
 
 
@@ -67,9 +73,9 @@ class Book:
         self.balances: Counter[str] = Counter()
         self.sums: Counter[str] = Counter()
         self.holds: dict[int, Hold] = {}
-        # By preimage; by peer and key, the quantity; by number, peer and amount.
+        # By preimage; by peer and key; by number, peer and amount.
         self.fulfills: dict[str, Hold] = {}
-        self.credits: dict[tuple[str, str], tuple[int, int]] = {}
+        self.credits: dict[tuple[str, str], KeptCredit] = {}
         self.asks: dict[int, tuple[str, int]] = {}
         self.open_asks: set[int] = set()
         # The numbers of reports that were given, by how many entries there were.
@@ -77,7 +83,7 @@ class Book:
         # What is done with an entry, by what it is.
         self.ways: dict[str, Callable[..., None]] = {
             "hold": self.hold, "fulfilled": self.fulfilled, "released": self.released, "credited": self.credited,
-            "asked": self.asked, "confirmed": self.confirmed, "undone": self.undone}
+            "corrected": self.corrected, "asked": self.asked, "confirmed": self.confirmed, "undone": self.undone}
 
     def reported(self, numbers: list[int]) -> None:
         """A report of the connector, which may have booked more than its journal has by now."""
@@ -145,9 +151,19 @@ class Book:
 
     def credited(self, peer: str, key: str, amount: str, scale: str, units: str) -> None:
         """What a peer paid."""
-        expect_that(f"the key {key} of {peer} is credited twice", (peer, key) not in self.credits)
+        self.expect_new(peer, key)
         self.credits[peer, key] = int(amount), int(scale)
         self.settle(peer, int(units))
+
+    def corrected(self, peer: str, key: str, amount: str, scale: str, units: str, way: str, reason: str) -> None:
+        """A balance that was corrected."""
+        self.expect_new(peer, key)
+        self.credits[peer, key] = int(amount), int(scale), way, reason
+        self.settle(peer, SIGNS[way] * int(units))
+
+    def expect_new(self, peer: str, key: str) -> None:
+        """No credit and no correction of a peer's has a key yet."""
+        expect_that(f"the key {key} of {peer} is booked twice", (peer, key) not in self.credits)
 
     def asked(self, peer: str, amount: str) -> None:
         """What a peer is to be paid."""

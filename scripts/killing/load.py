@@ -1,5 +1,5 @@
-"""Who sends packets and tells of settlements, all at once, and keeps what was answered; and how peers and engines
-answer."""
+"""Who sends packets, tells of settlements and corrects balances, all at once, and keeps what was answered; and how
+peers and engines answer."""
 import contextlib
 import json
 import random
@@ -17,6 +17,7 @@ from cases.messages import bearer, created, now, packet, post, request, response
 from cases.program import RUN, Setup
 from cases.stand_ins import ACCEPTS, Behaviour, Received, StandIn, status
 from connections import quantity
+from killing.books import KeptCredit
 from packets import reject
 from scenes import T00, fulfill
 
@@ -25,6 +26,11 @@ Way = TypeVar("Way")
 # How many send for each peer, and in units the most of a packet and of a settlement.
 SENDERS = {"alice": 4, "bob": 2}
 MOST_SENT, MOST_CREDITED = 50, 2000
+
+# How often of a hundred what is told is a settlement, and a correction by which a balance rises, or falls; and why.
+SETTLES, RISES, FALLS = "", "rises", "falls"
+TOLD = {SETTLES: 80, RISES: 10, FALLS: 10}
+REASON = "by chance"
 
 SCALE = 2
 EXPIRES = 30_000
@@ -119,11 +125,34 @@ class Fulfilled:
 
 @dataclass(frozen=True)
 class Credit:
-    """A settlement of which a peer's engine tells."""
+    """A settlement of which a peer's engine tells, or a correction of the peer's balance."""
 
     peer: str
     key: str
     amount: int
+    way: str = SETTLES
+
+    @property
+    def octets(self) -> bytes:
+        """The request by which it is told."""
+        what = "corrections" if self.way else "settlements"
+        body = {"amount": str(self.moved), "scale": SCALE} | ({"reason": REASON} if self.way else {})
+        return request(f"/accounts/{self.peer}/{what}", f"Idempotency-Key: {self.key}", body=json.dumps(body).encode())
+
+    @property
+    def moved(self) -> int:
+        """By how much the balance rises, or falls."""
+        return -self.amount if self.way == FALLS else self.amount
+
+    @property
+    def kept(self) -> KeptCredit:
+        """What a book keeps under its key."""
+        return (self.amount, SCALE, self.way, REASON.encode().hex()) if self.way else (self.amount, SCALE)
+
+
+def credit_by_chance(peer: str, generator: random.Random) -> Credit:
+    """A new one."""
+    return Credit(peer, generator.randbytes(8).hex(), generator.randint(1, MOST_CREDITED), chosen(generator, TOLD))
 
 
 @dataclass
@@ -195,7 +224,7 @@ class Load:
             self.refuse("a packet", answer)
 
     def credit(self, peer: str, generator: random.Random) -> None:
-        """Tells of a settlement: again of one that got no answer or is known, or of another."""
+        """Tells of a settlement or a correction: again of one that got no answer or is known, or of another."""
         # Another thread may have taken the last one.
         with contextlib.suppress(IndexError):
             self.tell(self.answered.unanswered.pop())
@@ -203,18 +232,18 @@ class Load:
         if self.known and generator.random() < 0.2:
             self.tell(generator.choice(self.known))
         else:
-            self.tell(Credit(peer, generator.randbytes(8).hex(), generator.randint(1, MOST_CREDITED)))
+            self.tell(credit_by_chance(peer, generator))
 
     def tell(self, one: Credit) -> bool:
-        """Tells of a settlement; whether it was answered."""
-        octets = request(f"/accounts/{one.peer}/settlements", f"Idempotency-Key: {one.key}",
-                         body=quantity(one.amount, SCALE))
-        answer = self.ask(self.setup.engines_port, octets)
-        if answer == created(quantity(one.amount, SCALE)):
+        """Tells of it; whether it was booked by now. A balance may be too low for a fall."""
+        answer = self.ask(self.setup.engines_port, one.octets)
+        if one.way == FALLS and answer.startswith(b"HTTP/1.1 403 "):
+            return False
+        if answer == created(quantity(one.moved, SCALE)):
             self.answered.credits.append(one)
             self.known = [*self.known[-9:], one]
             return True
         self.answered.unanswered.append(one)
         if answer.startswith(b"HTTP/1.1") and not answer.startswith(b"HTTP/1.1 201"):
-            self.refuse("a settlement", answer)
+            self.refuse(f"{one}", answer)
         return False

@@ -5,7 +5,7 @@ from pathlib import Path
 
 from cases.case import Differs, expect
 from cases.program import RUN
-from killing.books import Book, Hold, entries_in, entries_kept, goes_on_from, period_in
+from killing.books import SIGNS, Book, Hold, KeptCredit, entries_in, entries_kept, goes_on_from, period_in
 
 
 class PeriodBook(Book):
@@ -14,8 +14,8 @@ class PeriodBook(Book):
     def __init__(self, period: int) -> None:
         super().__init__()
         self.period = period
-        # Keys that were brought forward, as those that are credited; by number, the key of a settlement.
-        self.known: dict[tuple[str, str], tuple[int, int]] = {}
+        # Keys that were brought forward, each with what stands behind it; by number, the key of a settlement.
+        self.known: dict[tuple[str, str], list[str]] = {}
         self.keys: dict[int, str] = {}
         # The numbers of settlements that engines accepted and refused.
         self.confirmed_asks: list[int] = []
@@ -46,17 +46,28 @@ class PeriodBook(Book):
         """A balance that was brought forward."""
         self.settle(peer, int(balance))
 
-    def brought_key(self, peer: str, key: str, amount: str, scale: str, units: str) -> None:
-        """A key that was."""
-        expect(f"the key {key} of {peer} before", self.known.get((peer, key)), None)
-        self.known[peer, key] = int(amount), int(scale)
-        self.kept.append(f"known {peer} {key} {amount} {scale} {units}")
+    def brought_key(self, peer: str, key: str, amount: str, scale: str, units: str, *correction: str) -> None:
+        """A key that was, of a credit or of a correction, which has a direction and a reason more."""
+        self.expect_new(peer, key)
+        way, reason = correction or ("rises", "00")
+        expect(f"what a known key says {correction}", (way in SIGNS, bytes.fromhex(reason) != b""), (True, True))
+        self.known[peer, key] = [amount, scale, units, *correction]
+        self.kept.append(" ".join(("known", peer, key, amount, scale, units, *correction)))
 
     def credited(self, peer: str, key: str, amount: str, scale: str, units: str) -> None:
         """What a peer paid."""
-        expect(f"the key {key} of {peer} before", self.known.get((peer, key)), None)
         super().credited(peer, key, amount, scale, units)
         self.kept.append(f"known {peer} {key} {amount} {scale} {units}")
+
+    def corrected(self, peer: str, key: str, amount: str, scale: str, units: str, way: str, reason: str) -> None:
+        """A balance that was corrected."""
+        super().corrected(peer, key, amount, scale, units, way, reason)
+        self.kept.append(f"known {peer} {key} {amount} {scale} {units} {way} {reason}")
+
+    def expect_new(self, peer: str, key: str) -> None:
+        """No entry has a key of a peer's, and none was brought forward."""
+        super().expect_new(peer, key)
+        expect(f"the key {key} of {peer} before", self.known.get((peer, key)), None)
 
     def pending(self, peer: str, amount: str, key: str) -> None:
         """A settlement that was open."""
@@ -170,8 +181,8 @@ class Periods:
         expect("how many preimages stand there", len(found), len(passed))
         return found
 
-    def credits(self) -> dict[tuple[str, str], tuple[int, int]]:
-        """What was credited in all periods, by peer and key."""
+    def credits(self) -> dict[tuple[str, str], KeptCredit]:
+        """What was credited and corrected in all periods, by peer and key."""
         credited = [one for book in self.books for one in book.credits.items()]
         found = dict(credited)
         expect("how many keys are credited", len(found), len(credited))

@@ -47,6 +47,18 @@ class Credited:
     key: bytes
     quantity: Quantity
     units: int
+    # Of a correction its reason, and whether the balance falls by it.
+    reason: bytes | None = None
+    lowers: bool = False
+
+    @property
+    def moved(self) -> int:
+        """By how much the balance rises, or falls."""
+        return -self.units if self.lowers else self.units
+
+    def is_same(self, other: "Credited") -> bool:
+        """Whether one is the other, told again."""
+        return (self.quantity, self.reason, self.lowers) == (other.quantity, other.reason, other.lowers)
 
 
 @dataclass(frozen=True)
@@ -161,8 +173,8 @@ class Book:
                 return self.hold_at(number).amount
             case Fulfilled(hold=number) if self.hold_at(number).receiver == peer:
                 return self.hold_at(number).out
-            case Credited(peer=who, units=units) if who == peer:
-                return units
+            case Credited(peer=who) if who == peer:
+                return entry.moved
             case Asked(peer=who, amount=amount) if who == peer:
                 return -amount
             case Closed(ask=number, accepted=False):

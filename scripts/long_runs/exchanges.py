@@ -3,7 +3,7 @@ its book and has others be sent (docs/PROTOCOL.md)."""
 import re
 import threading
 from collections import Counter
-from dataclasses import dataclass, field
+from dataclasses import dataclass, field, replace
 
 from cases.messages import response
 from connections import JSON, TEXT
@@ -13,7 +13,7 @@ from long_runs.configurations import Configuration
 from long_runs.outside import (LATE, LONGEST_MESSAGE, SETTLE, SETTLE_CONDITION, ZEROS, EngineStandIn, Seen,
                                engine_answer, handed, reply_to, reply_to_message)
 from long_runs.packets import Faulty, Fulfill, Prepare, Reject, read_prepare
-from long_runs.quantities import BadQuantity, Quantity, credited, read_quantity, written
+from long_runs.quantities import BadQuantity, Quantity, credited, read_correction, read_quantity, written
 from long_runs.reports import report
 from long_runs.requests import Request, Status, read_request
 
@@ -27,6 +27,9 @@ REJECTS = {
     "BelowLeast": (b"T04", b"insufficient liquidity"), "Late": (b"R00", b"timed out"),
     "WrongPreimage": (b"F05", b"wrong condition"), "NoReply": (b"T01", b"peer unreachable"),
     "NotNothing": (b"F03", b"invalid amount"), "NoEngine": (b"F02", b"unreachable")}
+
+# By so many units a balance may fall of those who don't send alone, whose leasts are far away.
+MOST_LOWERED = 10**6
 
 # How far a moment must lie from an edge, in milliseconds, for both sides to be sure of it.
 SURE = 15_000
@@ -170,13 +173,13 @@ class Model:
             return [Outcome(known, is_report=True)]
         if request.target == b"/close":
             raise Unsure
-        found = re.fullmatch(rb"/accounts/([^/]*)/(settlements|messages)", request.target)
+        found = re.fullmatch(rb"/accounts/([^/]*)/(settlements|corrections|messages)", request.target)
         peer = self.configuration.peer_of(found[1].decode("latin-1")) if found else None
         if found is None or peer is None:
             return [Outcome(response(404))]
         if found[2] == b"messages":
             return [self.message_to(peer, request.body)]
-        return [self.settlement(peer, request, now, alone)]
+        return [self.payment(peer, request, now, alone, is_correction=found[2] == b"corrections")]
 
     def message_to(self, peer: int, body: bytes) -> Outcome:
         """What an engine is answered to a message for its peer's engine."""
@@ -189,34 +192,42 @@ class Model:
             return Outcome(response(502), effect)
         return Outcome(response(201, reply.data), effect)
 
-    def settlement(self, peer: int, request: Request, now: int, alone: bool) -> Outcome:
-        """What an engine is answered to a settlement that it tells."""
+    def payment(self, peer: int, request: Request, now: int, alone: bool, is_correction: bool) -> Outcome:
+        """What is answered to a settlement that an engine tells, or to a correction."""
         keys = request.values(b"idempotency-key")
         if len(keys) != 1 or not 1 <= len(keys[0]) <= 128:
             return Outcome(response(400))
         scale = self.configuration.asset_of(peer).scale
         try:
-            quantity = read_quantity(request.body)
+            told = read_correction(request.body) if is_correction else None
+            quantity = told.quantity if told is not None else read_quantity(request.body)
             units = credited(quantity, scale)
         except BadQuantity:
             return Outcome(response(400))
-        created = response(201, written(units, scale), JSON)
         entry = Credited(now, peer, keys[0], quantity, units)
+        if told is not None:
+            entry = replace(entry, reason=told.reason, lowers=told.lowers)
+        created = response(201, written(entry.moved, scale), JSON)
         if keys[0] in self.shared_keys:
-            if quantity != shared_quantity(keys[0]):
+            if is_correction or quantity != shared_quantity(keys[0]):
                 raise Unsure
             return Outcome(created, Effect(credit=entry))
-        return self.settlement_alone(entry, created, alone)
+        return self.payment_alone(entry, created, alone)
 
-    def settlement_alone(self, entry: Credited, created: bytes, alone: bool) -> Outcome:
+    def payment_alone(self, entry: Credited, created: bytes, alone: bool) -> Outcome:
         """The same of a key that nobody else tells meanwhile."""
         kept = self.book.kept(entry.peer, entry.key)
         if kept is not None:
             known = self.book.entries[kept]
             assert isinstance(known, Credited)
-            return Outcome(created if known.quantity == entry.quantity else response(409))
+            return Outcome(created if known.is_same(entry) else response(409))
         if alone and self.book.room() < 1:
             return Outcome(response(503))
+        if entry.lowers and not alone and entry.units > MOST_LOWERED:
+            raise Unsure
+        balance, least = self.book.balance(entry.peer), self.configuration.peers[entry.peer].least
+        if entry.lowers and alone and balance - entry.units < least:
+            return Outcome(response(403, short_of(balance, least, self.configuration.asset_of(entry.peer).scale), JSON))
         return Outcome(created, Effect(credit=entry))
 
     # ---- what was done
@@ -249,6 +260,11 @@ class Model:
                     if one.accepted is not None:
                         whole.add(Closed(0, number, one.accepted))
         return whole
+
+
+def short_of(balance: int, least: int, scale: int) -> bytes:
+    """What is said of a balance that a correction would take below its least."""
+    return f'{{"balance":"{balance}","least":"{least}","scale":{scale}}}'.encode()
 
 
 def shared_quantity(key: bytes) -> Quantity:

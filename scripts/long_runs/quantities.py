@@ -1,4 +1,4 @@
-"""Quantities of settlements by the rules (RFC 0038): what is read of any text, and what is credited of
+"""Quantities of settlements by the rules (RFC 0038), and corrections: what is read of any text, and what is credited of
 it at the scale of an account."""
 import json
 import re
@@ -8,6 +8,8 @@ from typing import NoReturn
 from long_runs.packets import MOST
 
 NOT_JSON, BAD_AMOUNT, BAD_SCALE, TOO_LARGE = 31, 32, 33, 34
+# Of a correction; it has no number that is printed.
+BAD_REASON = 0
 
 
 class BadQuantity(Exception):
@@ -75,6 +77,32 @@ def read_quantity(octets: bytes) -> Quantity:
         raise BadQuantity(NOT_JSON)
     amount = read_amount(value.get("amount"))
     return Quantity(amount, read_scale(value.get("scale")))
+
+
+@dataclass(frozen=True)
+class Correction:
+    quantity: Quantity
+    lowers: bool
+    reason: bytes
+
+
+def read_correction(octets: bytes) -> Correction:
+    """The correction that a text says, or its first fault."""
+    value = read_json(octets)
+    if not isinstance(value, dict):
+        raise BadQuantity(NOT_JSON)
+    amount, reason = value.get("amount"), value.get("reason")
+    if not isinstance(amount, str) or re.fullmatch("-?[0-9]{1,38}", amount) is None:
+        raise BadQuantity(BAD_AMOUNT)
+    scale = read_scale(value.get("scale"))
+    try:
+        told = reason.encode() if isinstance(reason, str) else b""
+    except UnicodeEncodeError:
+        # A lone surrogate.
+        raise BadQuantity(NOT_JSON) from None
+    if not 1 <= len(told) <= 128 or any(octet < 32 or octet == 127 for octet in told):
+        raise BadQuantity(BAD_REASON)
+    return Correction(Quantity(int(amount.lstrip("-")), scale), amount.startswith("-"), told)
 
 
 def credited(quantity: Quantity, scale: int) -> int:

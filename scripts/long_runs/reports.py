@@ -7,12 +7,12 @@ def line(label: str, name: str, number: int) -> str:
 
 
 def settled(book: Book, asset: int) -> int:
-    """What was credited in an asset, less what was asked for, and what came back of that."""
+    """What was credited and corrected in an asset, less what was asked for, and what came back of that."""
     peers = book.configuration.peers
     total = 0
     for entry in book.entries:
         if isinstance(entry, Credited) and peers[entry.peer].asset == asset:
-            total += entry.units
+            total += entry.moved
         asked, sign = entry, -1
         if isinstance(entry, Closed) and not entry.accepted:
             asked, sign = book.entries[entry.ask], 1

@@ -2,12 +2,15 @@
 from collections.abc import Callable
 from dataclasses import replace
 
+from cases.messages import response
+from connections import JSON
+
 from long_runs.books import Refused, quote
 from long_runs.configurations import Asset, Configuration, Peer
 from long_runs.exchanges import Model
 from long_runs.outside import Seen
 from long_runs.packets import (Faulty, Fulfill, expiry_digits, prefix, read_expiry, read_packet, read_string)
-from long_runs.quantities import BadQuantity, Quantity, credited, read_quantity, written
+from long_runs.quantities import BadQuantity, Quantity, credited, read_correction, read_quantity, written
 from long_runs.scripts import Script
 
 T = 1_735_689_600_000  # 2025-01-01T00:00:00Z
@@ -286,6 +289,39 @@ def check_answers() -> None:
         (BUILT_IN, message("a-token"), told("200 OK", f02))]
     for configuration, octets, answer in wanted:
         expect(repr(octets[:200]), answer_to(configuration, octets), answer)
+    for body, answer in (('{"amount":"-1009","scale":3,"reason":"x"}', (201, '{"amount":"-100","scale":2}')),
+                         ('{"amount":"7","scale":2,"reason":"x"}', (201, '{"amount":"7","scale":2}')),
+                         ('{"amount":"-0","scale":2,"reason":"x"}', (201, '{"amount":"0","scale":2}')),
+                         ('{"amount":"-101","scale":2,"reason":"x"}',
+                          (403, '{"balance":"0","least":"-100","scale":2}')),
+                         ('{"amount":"-101","scale":2}', (400, "")),
+                         ('{"amount":"-' + "9" * 38 + '","scale":2,"reason":"x"}', (400, ""))):
+        octets = correction(body)
+        expect(body, answer_to(BUILT_IN, octets, at_peers=False), response(answer[0], answer[1].encode(), JSON))
+
+
+def check_corrections() -> None:
+    for text, wanted in (("[]", 31), ("", 31), ('{"reason":""}', 32), ('{"amount":-5,"scale":2,"reason":"x"}', 32),
+                         ('{"amount":"--5","scale":2,"reason":"x"}', 32), ('{"amount":"-","scale":2,"reason":"x"}', 32),
+                         ('{"amount":"-5","scale":256,"reason":""}', 33), ('{"amount":"-5","scale":2}', 0),
+                         ('{"amount":"-5","scale":2,"reason":""}', 0), ('{"amount":"-5","scale":2,"reason":7}', 0),
+                         ('{"amount":"-5","scale":2,"reason":"' + "r" * 129 + '"}', 0),
+                         (r'{"amount":"-5","scale":2,"reason":"a\nb"}', 0),
+                         (r'{"amount":"-5","scale":2,"reason":"\u007f"}', 0),
+                         ('{"amount":"-05","scale":2,"reason":"' + "r" * 128 + '"}', (5, 2, True, 128)),
+                         (r'{"amount":"5","scale":2,"reason":"\u00e4\u0080"}', (5, 2, False, 4))):
+        try:
+            read = read_correction(text.encode())
+            got = read.quantity.amount, read.quantity.scale, read.lowers, len(read.reason)
+        except BadQuantity as bad:
+            got = bad.number
+        expect(text, got, wanted)
+
+
+def correction(body: str) -> bytes:
+    """A correction of bob's balance."""
+    return (f"POST /accounts/bob/corrections HTTP/1.1\r\nHost: h\r\nIdempotency-Key: k\r\n"
+            f"Content-Length: {len(body)}\r\n\r\n{body}").encode()
 
 
 def check_rows() -> None:
@@ -293,6 +329,7 @@ def check_rows() -> None:
     check_scripts()
     check_quotes()
     check_quantities()
+    check_corrections()
     check_packets()
     check_expiries()
     check_routes()

@@ -12,8 +12,8 @@ from long_runs.exchanges import Model, Outcome, Unsure, shared_quantity
 from long_runs.mistakes import cut, junk, mangled, other_packet, too_long_field, with_wrong_field
 from long_runs.outside import LATE, SETTLE, SETTLE_CONDITION
 from long_runs.packets import LAST_MOMENT, Fulfill, Prepare
-from long_runs.quantities import written
-from long_runs.texts import NOT_QUANTITIES, any_quantity, as_text
+from long_runs.quantities import Quantity, written
+from long_runs.texts import NOT_QUANTITIES, any_quantity, as_text, correction_text
 
 HOUR = 3_600_000
 # Far from all edges, even where a digit of it is another.
@@ -54,7 +54,7 @@ class Sender:
         """The next one that is determined."""
         ways: dict[Callable[[], tuple[bool, bytes]], float] = {
             self.packet: 50, self.wrong_packet: 9, self.message_from: 5, self.late: 0.2,
-            self.settlement: 10, self.message_to: 5, self.report: 1, self.wrong_request: 9,
+            self.settlement: 10, self.correction: 4, self.message_to: 5, self.report: 1, self.wrong_request: 9,
             self.mangled: 13, self.cut: 4, self.joined: 4, self.junk: 2}
         while True:
             way = self.chance.choices(list(ways), list(ways.values()))[0]
@@ -162,18 +162,40 @@ class Sender:
             quantity = shared_quantity(key)
             return self.at_engines(f"/accounts/{name}/settlements", written(quantity.amount, quantity.scale),
                                    f"Idempotency-Key: {key.decode('latin-1')}")
-        if not self.keys or chance.random() < 0.7:
-            made = f"{self.key}-{len(self.keys)}".encode()
-            self.keys.append(made + chance.choice([b"", b" x", b"\xff~", b"k" * (128 - len(made))]))
-        key = chance.choice(self.keys[-3:])
+        key = self.own_key()
         quantity = any_quantity(chance, scale) if chance.random() < 0.4 else shared_quantity(key)
         text = as_text(chance, quantity)
         if chance.random() < 0.1:
             text = chance.choice(NOT_QUANTITIES)
+        return self.at_engines(f"/accounts/{name}/settlements", text.encode(), *self.naming(key))
+
+    def own_key(self) -> bytes:
+        """A key that nobody else tells: a new one, or one of the last."""
+        chance = self.chance
+        if not self.keys or chance.random() < 0.7:
+            made = f"{self.key}-{len(self.keys)}".encode()
+            self.keys.append(made + chance.choice([b"", b" x", b"\xff~", b"k" * (128 - len(made))]))
+        return chance.choice(self.keys[-3:])
+
+    def naming(self, key: bytes) -> list[str]:
+        """The line of a key, mostly."""
         fields = [f"Idempotency-Key: {key.decode('latin-1')}"]
-        if chance.random() < 0.08:
-            fields = chance.choice([[], fields * 2, ["Idempotency-Key:"], ["Idempotency-Key: " + "k" * 129]])
-        return self.at_engines(f"/accounts/{name}/settlements", text.encode(), *fields)
+        if self.chance.random() < 0.08:
+            return self.chance.choice([[], fields * 2, ["Idempotency-Key:"], ["Idempotency-Key: " + "k" * 129]])
+        return fields
+
+    def correction(self) -> tuple[bool, bytes]:
+        """A correction of a balance under a key of its own or a known one, also that of a settlement."""
+        chance, peer = self.chance, self.chance.choice(self.peers)
+        one, key = self.model.configuration, self.own_key()
+        scale = one.asset_of(peer).scale
+        quantity = any_quantity(chance, scale) if chance.random() < 0.2 else shared_quantity(key)
+        if self.alone and chance.random() < 0.3:
+            # Down to the least, or about there.
+            room = self.model.book.balance(peer) - one.peers[peer].least
+            quantity = Quantity(max(room + chance.choice([-1, 0, 0, 1]), 0), scale)
+        text = correction_text(chance, quantity)
+        return self.at_engines(f"/accounts/{one.peers[peer].name}/corrections", text.encode(), *self.naming(key))
 
     def message_to(self) -> tuple[bool, bytes]:
         chance = self.chance
@@ -188,7 +210,7 @@ class Sender:
 
     def any_good(self) -> tuple[bool, bytes]:
         return self.chance.choice([self.packet, self.packet, self.packet, self.message_from, self.settlement,
-                                   self.settlement, self.message_to, self.report])()
+                                   self.settlement, self.correction, self.message_to, self.report])()
 
     def mangled(self) -> tuple[bool, bytes]:
         at_peers, octets = self.any_good()

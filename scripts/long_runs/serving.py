@@ -31,7 +31,7 @@ WIDE, NARROW = 1_000, 500
 # What must come up in a long run.
 LONG_RUN = 10_000
 KINDS = [
-    *(f"status {code}" for code in (200, 201, 400, 401, 404, 405, 409, 411, 413, 431, 502, 503)),
+    *(f"status {code}" for code in (200, 201, 400, 401, 403, 404, 405, 409, 411, 413, 431, 502, 503)),
     "status 200, Fulfill", "status 200, Reject of a peer",
     *(f"status 200, Reject {code}" for code in (
         "F02", "F03", "F05", "F08", "R00", "R01", "R02", "T01", "T03", "T04")),

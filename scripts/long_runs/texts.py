@@ -83,6 +83,35 @@ NOT_QUANTITIES = [
     '{"scale":256,"amount":"x"}', '{"amount":"1","SCALE":2}']
 
 
+REASONS = ['"charged back"', '"charged back"', '"x"', '"' + "r" * 128 + '"', r'"\u00e4 \"=\u0080"', '" "', '"-1"']
+
+# What is no reason, and members in which something else is wrong.
+NOT_REASONS = ['""', "null", "5", '["x"]', '"' + "r" * 129 + '"', '"' + r"\u00e4" * 65 + '"', r'"a\tb"', r'"\u007f"',
+               r'"\ud800"']
+NOT_CORRECTIONS = [
+    '{"amount":5,"scale":2,"reason":"x"}', '{"amount":-5,"scale":2,"reason":"x"}',
+    '{"amount":"--5","scale":2,"reason":"x"}', '{"amount":"-","scale":2,"reason":"x"}',
+    '{"amount":"+5","scale":2,"reason":"x"}', '{"amount":"- 5","scale":2,"reason":"x"}',
+    '{"amount":"-' + "1" * 39 + '","scale":2,"reason":"x"}', '{"amount":"5","scale":256,"reason":"x"}',
+    '{"scale":2,"reason":"x"}', '{"amount":"5","scale":2,"Reason":"x"}', '{"amount":"5","scale":2}', "[]", ""]
+
+
+def correction_text(chance: random.Random, quantity: Quantity) -> str:
+    """The text of a correction both ways, or of none."""
+    if chance.random() < 0.1:
+        return chance.choice(NOT_CORRECTIONS)
+    sign = chance.choice(["-", "-", ""])
+    reason = chance.choice(NOT_REASONS if chance.random() < 0.1 else REASONS)
+    members = [f'"amount":"{sign}{quantity.amount}"', f'"scale":{quantity.scale}', f'"reason":{reason}']
+    if chance.random() < 0.1:
+        further = chance.choice(['"reason":"y"', '"reason":7', '"amount":"-1"', '"memo":[]'])
+        members.insert(chance.randint(0, 3), further)
+    if chance.random() < 0.2:
+        chance.shuffle(members)
+    gap = chance.choice(BLANKS)
+    return f"{{{gap}{f'{gap},{gap}'.join(members)}{gap}}}"
+
+
 def drawn_json(chance: random.Random, one: Configuration, peer: int, book: Book, key: str) -> str:
     """The text of a quantity, or of none."""
     if chance.random() < 0.12:

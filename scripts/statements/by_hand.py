@@ -113,6 +113,33 @@ BOB_THEN = rows(3, "bob", """,0,opening,,,,,0.00,,,,
 ,7,closing,,,,,-0.05,,,,
 """)
 
+# Corrections both ways, also of nothing, under a key and for reasons that a spreadsheet would take for formulas, of a
+# run and peers whose names it would. Keys are known of an earlier period's correction, and of a credit.
+CORRECTED_CONFIGURATION = configuration(("-a", "-b"), 2, run="-hub")
+CORRECTED = f"""ilp-journal 2 1
+1795723300000 0 opened -a -100
+1795723300000 0 known -a 6b31 5 0 500 falls 6261636b
+1795723300000 0 known -b 6b31 5 0 500
+1795723300001 1 corrected -a 2d63 15009 3 1500 falls 3d63686172676564206261636b2c2022
+1795723300002 1 corrected -b 6332 20 2 20 rises c3a4
+1795723300003 1 corrected -a 6333 9 3 0 rises 2b
+1795723300004 1 hold -b -a 7 0 7 1795723330000 {MET}
+end 7
+"""
+
+OF_CORRECTED = HEADER.replace("\n", "\r\n") + '''\\x2dhub,1,\\x2da,USD/2,,0,opening,,,,,0.00,,,,
+\\x2dhub,1,\\x2da,USD/2,2026-11-26T20:01:40.000Z,0,opened,,-1.00,,1.00,-1.00,,,,
+\\x2dhub,1,\\x2da,USD/2,2026-11-26T20:01:40.001Z,3,corrected,,-15.00,,15.00,-16.00,,"\\x3dcharged back, """,,\\x2dc
+\\x2dhub,1,\\x2da,USD/2,2026-11-26T20:01:40.003Z,5,corrected,,0.00,,,-16.00,,\\x2b,,c3
+\\x2dhub,1,\\x2da,USD/2,,7,closing,,,,,-16.00,,,,
+'''.replace("\n", "\r\n")
+
+OF_RAISED = HEADER.replace("\n", "\r\n") + f"""\\x2dhub,1,\\x2db,USD/2,,0,opening,,,,,0.00,,,,
+\\x2dhub,1,\\x2db,USD/2,2026-11-26T20:01:40.002Z,4,corrected,,0.20,0.20,,0.20,,\\xc3\\xa4,,c2
+\\x2dhub,1,\\x2db,USD/2,2026-11-26T20:01:40.004Z,6,sent,\\x2da,0.07,,0.07,0.13,,,{MET},
+\\x2dhub,1,\\x2db,USD/2,,7,closing,,,,,0.13,,,,
+""".replace("\n", "\r\n")
+
 OLD_LOG = LOG.replace("ilp-log 1 12 ", "ilp-log 1 12 0")
 
 # Keys, and what is written for them.
@@ -137,6 +164,8 @@ def try_rows() -> None:
            BOB)
     expect("alice in the next period", statement(CONFIGURATION, SECOND, None, "alice"), ALICE_THEN)
     expect("bob in the next period", statement(CONFIGURATION, SECOND, None, "bob"), BOB_THEN)
+    for peer, listed in (("-a", OF_CORRECTED), ("-b", OF_RAISED)):
+        expect(f"corrections of {peer}", statement(CORRECTED_CONFIGURATION, CORRECTED, None, peer), listed)
     for key, written in KEYS.items():
         expect(f"the key {key!r}", text_of(key), written)
 
@@ -169,9 +198,10 @@ def try_texts() -> None:
     expect("no text", statement(configuration(("alice",), 0, "hub"), None, None, "alice"), nothing)
     expect("a log of an older text", statement(CONFIGURATION, FIRST, OLD_LOG, "bob", 1795723201001).count("\n"), 3)
     for peer, journal in (("carol", FIRST), ("bob", FIRST.replace("end 12", "end 13")),
-                          ("bob", FIRST.replace(ZERO, OTHER))):
+                          ("bob", FIRST.replace(ZERO, OTHER)), ("-a", CORRECTED.replace("falls 3d", "fails 3d")),
+                          ("-a", CORRECTED.replace("-a 6333", "-a 6b31")), ("-a", CORRECTED.replace(" 2b\n", "\n"))):
         try:
-            statement(CONFIGURATION, journal, None, peer)
+            statement(CORRECTED_CONFIGURATION if peer == "-a" else CONFIGURATION, journal, None, peer)
         except Differs:
             continue
         raise Differs(f"a statement of {peer} was made that there can't be")

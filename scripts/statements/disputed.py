@@ -37,6 +37,9 @@ BOB = f"""ilp-journal 1
 end 6
 """
 
+# The hub takes the forged credit back.
+TAKEN_BACK = HUB.replace("end 6", f"1795723290000 0 corrected bob 6331 20 0 2000 falls {b'forged'.hex()}\nend 7")
+
 # What would have been; and the hub's book while the first packet is held.
 HONEST = HUB.replace("1795723200700 0 credited bob 666f72676564 2000 2 2000\n", "").replace(
     "0 released 2 Late\nend 6", f"0 fulfilled 2 {ONES}\nend 5")
@@ -100,6 +103,11 @@ def try_dispute() -> None:
     lost = [LOST_TOLD[1].replace("theirs", "ours"), LOST_TOLD[0].replace("ours", "theirs"), LOST_TOLD[2]]
     expect("what bob is told", (status, told.splitlines()[2:4]),
            (DIFFERED, [f"only theirs: {forged}", f"other ends: {'; '.join(lost)}"]))
+    status, told, _ = reconciled(TAKEN_BACK, BOB)
+    expect("what is told once the forged credit is taken back",
+           (status, told.splitlines()[2:4], told.splitlines()[-1]),
+           (DIFFERED, [f"only ours: {FORGED_TOLD}", "only ours: ours 2026-11-26T20:01:30.000Z entry 6 corrected -20.00 "
+                       "(forged); key c1; sum -20.00"], "the books differ: 5.00 and -7.00 come to -2.00"))
     for bob, says in ((BOB, "agree: 7.00 and -7.00 come to 0.00"),
                       ("ilp-journal 1\nend 0\n", "differ: 7.00 and 0.00 come to 7.00")):
         told = reconciled(HONEST, bob)[1]

@@ -60,6 +60,11 @@ MATCHES = (
     ("credited 5 x", "confirmed 5 k, asked 5 l, confirmed 5 l", {"alike": [0], "quiet": [0]}, True),
     ("credited 5 k", "asked 4 k, confirmed 4 k, asked 5 l", {"other amounts": [1], "open": [-5]}, False),
     ("asked 5 k", "credited 5 x, credited 5 y", {"alike": [0], "only theirs": [5]}, False),
+    # A correction is one book's own, whatever the other has, also under its key.
+    ("credited 5 x, corrected -5 c", "", {"only ours": [-5, 5]}, False),
+    ("corrected 5 c", "corrected -5 c", {"only ours": [5], "only theirs": [-5]}, False),
+    ("corrected 5 k", "asked 5 k, confirmed 5 k", {"only ours": [5], "only theirs": [-5]}, False),
+    ("credited 5 x, corrected 0 c", "asked 5 x", {"alike": [0], "only ours": [0]}, False),
 )
 
 

@@ -98,6 +98,11 @@ class Books:
         if credited is not None:
             self.begin(receiver, "credited", f"{NAMES[receiver][0]} {key or 'KEY'} {credited} {self.scale} {credited}")
 
+    def correction(self, book: str, amount: int, way: str) -> None:
+        """A correction of a book's own, which rises or falls."""
+        key, reason = (text.encode().hex() for text in (f"own{self.threads}", "charged back"))
+        self.begin(book, "corrected", f"{NAMES[book][0]} {key} {amount} {self.scale} {amount} {way} {reason}")
+
     # ---- texts
 
     def texts(self) -> dict[str, str]:
@@ -165,8 +170,16 @@ def settlements_by_chance(books: Books, payer: str, receiver: str, faults: bool)
     books.expect(group, units)
 
 
+def corrections_by_chance(books: Books, book: str, _other: str, faults: bool) -> None:
+    """A correction of one book, where there are faults to be taken back."""
+    if faults:
+        amount, way = books.amount(), books.chance.choice(("rises", "falls"))
+        books.correction(book, amount, way)
+        books.expect(f"only {book}", amount if way == "rises" else -amount)
+
+
 def books_by_chance(seed: int, faults: bool, shared_conditions: bool = False) -> Books:
-    """Books of some packets and settlements both ways, with some faults or none."""
+    """Books of some packets and settlements both ways, with some faults and corrections or none."""
     chance = random.Random(seed)
     books = Books(chance, chance.choice((0, 2, 9)), shared_conditions)
     for place in range(chance.randrange(0, 40)):
@@ -174,5 +187,6 @@ def books_by_chance(seed: int, faults: bool, shared_conditions: bool = False) ->
             books.moment = books.cut = books.moment + 1000
         books.next_thread()
         sides = chance.sample(sorted(NAMES), 2)
-        chance.choice((packets_by_chance, settlements_by_chance))(books, *sides, faults)
+        way = chance.choices((packets_by_chance, settlements_by_chance, corrections_by_chance), (4, 4, 1))[0]
+        way(books, *sides, faults)
     return books

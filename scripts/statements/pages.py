@@ -16,7 +16,7 @@ import markup
 import report_page
 from cases.case import expect, expect_that
 from charts import Columns
-from statements.by_hand import CONFIGURATION, ENDED_LOG, FIRST, MET, SECOND, ZERO
+from statements.by_hand import CONFIGURATION, CORRECTED, ENDED_LOG, FIRST, MET, SECOND, ZERO
 from statements.mirrored import configuration
 
 HTML, SVG = "{http://www.w3.org/1999/xhtml}", "{http://www.w3.org/2000/svg}"
@@ -103,10 +103,14 @@ def try_small() -> None:
     expect("the balance of one entry", rows_of(one, "Balances"),
            [["alice", "USD/0", "5", "0", "5", "0", "0", "-1000", "none"]])
     expect("how many lines it has", len(lines_of(one)), 1)
+    text = CORRECTED.replace(" -a", " alice").replace(" -b", " bob")
+    corrected = page_of(CONFIGURATION, journal=text)
+    expect("corrected balances", [row[2] for row in rows_of(corrected, "Balances")], ["-16.00", "0.13"])
     for config, text, why in ((CONFIGURATION, FIRST[:-1], "it is not whole"), ("x", FIRST, "it is no configuration"),
                               ("run = 1", FIRST, "it is no configuration"), (CONFIGURATION, "", "its first line"),
                               (CONFIGURATION, FIRST.replace("released 2", "released 1"), "the entry 4 of the period 0"),
-                              (CONFIGURATION, FIRST.replace("asked", "taken"), "the entry 7 of the period 0")):
+                              (CONFIGURATION, FIRST.replace("asked", "taken"), "the entry 7 of the period 0"),
+                              (CONFIGURATION, CORRECTED.replace("rises c", "raises c"), "the entry 4 of the period 1")):
         expect_refused(config, text, why)
 
 

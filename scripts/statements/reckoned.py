@@ -11,7 +11,7 @@ from typing import TextIO
 
 from amounts_and_times import EPOCH, MILLISECOND, decimal_of, time_of
 from cases.case import Differs
-from killing.books import entries_kept, period_in
+from killing.books import SIGNS, entries_kept, period_in
 from killing.period_books import PeriodBook, read_standing
 from statement_rows import HEADER
 
@@ -80,10 +80,11 @@ class Statement:
     closing: Edge
 
 
-def text_of(key: bytes) -> str:
-    """A key in printable ASCII. What a spreadsheet would take for a formula begins with an escape."""
+def text_of(octets: bytes) -> str:
+    """A name, a key or a reason in printable ASCII. What a spreadsheet would take for a formula begins with an
+    escape."""
     return "".join(f"\\x{octet:02x}" if not 32 <= octet <= 126 or octet == 0x5C or place == 0 and octet in b"=+-@"
-                   else chr(octet) for place, octet in enumerate(key))
+                   else chr(octet) for place, octet in enumerate(octets))
 
 
 class Account(PeriodBook):
@@ -130,9 +131,18 @@ class Account(PeriodBook):
             return Said("sent", int(fields[2]), fields[1], condition=fields[6])
         if what == "credited":
             return Said(what, int(fields[4]), key=text_of(bytes.fromhex(fields[1])))
+        if what == "corrected":
+            return self.of_correction(*fields)
         if what == "asked":
             return Said(what, int(fields[1]), key=text_of(self.next_key().encode()))
         return Said(what, int(fields[1])) if what == "opened" else None
+
+    def of_correction(self, _peer: str, key: str, _amount: str, _scale: str, units: str, *last: str) -> Said:
+        """What a correction of the peer's balance is to it. Last stand its direction and its reason."""
+        if len(last) != 2 or last[0] not in SIGNS:
+            raise Differs(f"the entry {self.count} is no correction: {last}")
+        reason, named = (text_of(bytes.fromhex(one)) for one in (last[1], key))
+        return Said("corrected", SIGNS[last[0]] * int(units), cause=reason, key=named)
 
     def of_end(self, what: str, number: str, *last: str) -> Said | None:
         """What the end of a hold is to the peer, where it is at one side of it. Behind its number stand the preimage,
@@ -175,7 +185,8 @@ def fields_of(row: Row, scale: int) -> Iterable[str]:
     """The fields of a row. What does not move the balance has neither an in nor an out."""
     said, moved = row.said, row.balance - row.before
     rises, falls = (decimal_of(abs(moved), scale) if is_so else "" for is_so in (moved > 0, moved < 0))
-    return (time_of(row.moment), str(row.entry), said.what, said.other, decimal_of(said.amount, scale), rises, falls,
+    return (time_of(row.moment), str(row.entry), said.what, text_of(said.other.encode()),
+            decimal_of(said.amount, scale), rises, falls,
             decimal_of(row.balance, scale), said.ends, said.cause, said.condition, said.key)
 
 
@@ -193,7 +204,8 @@ def write_statement(configuration: Configuration, account: Account, moments: lis
     writer.writerow(HEADER)
     rows = (fields_of_edge("opening", statement.opening, scale), *(fields_of(row, scale) for row in statement.rows),
             fields_of_edge("closing", statement.closing, scale))
-    writer.writerows((configuration.run, str(account.period), account.peer, asset, *row) for row in rows)
+    run, peer = (text_of(name.encode()) for name in (configuration.run, account.peer))
+    writer.writerows((run, str(account.period), peer, asset, *row) for row in rows)
 
 
 # ---- the program

@@ -28,7 +28,7 @@ MOST = 2**64 - 1
 
 STATUSES = {
     200: ("OK", "Ok"), 201: ("Created", "Created"), 400: ("Bad Request", "BadRequest"),
-    401: ("Unauthorized", "Unauthorized"), 404: ("Not Found", "NotFound"),
+    401: ("Unauthorized", "Unauthorized"), 403: ("Forbidden", "Forbidden"), 404: ("Not Found", "NotFound"),
     405: ("Method Not Allowed", "MethodNotAllowed"), 409: ("Conflict", "Conflict"),
     411: ("Length Required", "LengthRequired"), 413: ("Content Too Large", "ContentTooLarge"),
     431: ("Request Header Fields Too Large", "FieldsTooLarge"),

@@ -288,7 +288,7 @@ def responses():
 
 STATUSES = (
     ("200 OK", ""), ("201 Created", ""), ("400 Bad Request", ""),
-    ("401 Unauthorized", "WWW-Authenticate: Bearer\r\n"), ("404 Not Found", ""),
+    ("401 Unauthorized", "WWW-Authenticate: Bearer\r\n"), ("403 Forbidden", ""), ("404 Not Found", ""),
     ("405 Method Not Allowed", "Allow: POST\r\n"), ("409 Conflict", ""), ("411 Length Required", ""),
     ("413 Content Too Large", ""), ("431 Request Header Fields Too Large", ""), ("502 Bad Gateway", ""),
     ("503 Service Unavailable", ""))

@@ -22,7 +22,8 @@ use Rattle.ilp_journal.specs.declared.entry.Ask.{Ask}
 use Rattle.ilp_journal.specs.declared.entry.Credited.{Credited}
 use Rattle.ilp_journal.specs.Journal.{Entries, open_hold_at, open_ask_at, open_asks, next_open_ask}
 use Rattle.ilp_journal.specs.Balance.{balance}
-use Rattle.ilp_journal.specs.Credits.{credit_at, kept_at}
+use Rattle.ilp_journal.specs.Credits.{lowering, same_kind, credit_at, kept_at}
+use Rattle.ilp_journal.specs.declared.credit_kind.CreditKind.{CreditKind}
 use Rattle.ilp_rules.specs.Book.{PlainBook, By, Growth, granted, denied, Made, replied_as, appended, entry_by, moment_at, has_room}
 use Rattle.ilp_rules.specs.Configured.{IsKnown, peer_assets, asset_of}
 use Rattle.ilp_rules.specs.Open.{earliest, IsEarliest}
@@ -242,23 +243,37 @@ module _ (C : Configuration) (valid : IsValid C) (first later : ℕ) (number : �
         of (Some k) None one two = absurd cc
         of (Some k) (Some n) one two = at k n (credit_at after k) (credit_at before n) (some_same (number k) n one) two
 
-    kept_told : (q : Quantity) (k : ℕ) (c : Credited) → reply_with number (of_credit (credit_kept q (k, c))) ≡ of_credit (credit_kept q (number k, c))
-    kept_told q k c = of ((c.named == q.amount) && (c.scale == q.scale))
+    kept_told : (q : Quantity) (kind : CreditKind) (k : ℕ) (c : Credited) → reply_with number (of_credit (credit_kept q kind (k, c))) ≡ of_credit (credit_kept q kind (number k, c))
+    kept_told q kind k c = of ((c.named == q.amount) && (c.scale == q.scale) && same_kind c.kind kind)
       where
         of : (b : Bool) → reply_with number (of_credit (cond b (Ok (record { number = k; amount = c.credited; fresh = false })) (Err (credit_fault.KeyTaken k))))
             ≡ of_credit (cond b (Ok (record { number = number k; amount = c.credited; fresh = false })) (Err (credit_fault.KeyTaken (number k))))
         of true = refl
         of false = refl
 
-    abbrev fitted_credit : Bool → Credited → Result Credited (Result Kept CreditFault)
-    fitted_credit room c = refuse_if (not room) (Err credit_fault.Full) >>= λ _. Ok c
+    abbrev fitted_credit : Bool → Bool → ℤ → ℤ → Credited → Result Credited (Result Kept CreditFault)
+    fitted_credit room short owed least c = refuse_if (not room) (Err credit_fault.Full) >>= λ _. refuse_if short (Err (credit_fault.BelowLeast owed least)) >>= λ _. Ok c
 
-    credits_booked : (growth : Growth) (c : Credited) (r s : Bool) → is_full (of_credit (credit_booked new caller growth (fitted_credit r c)).reply) ≡ false → is_full (of_credit (credit_booked old caller growth (fitted_credit s c)).reply) ≡ false
-        → Twins (replied_as of_credit (credit_booked new caller growth (fitted_credit r c))) (replied_as of_credit (credit_booked old caller growth (fitted_credit s c)))
-    credits_booked growth c false s full also = absurd cc
-    credits_booked growth c true false full also = absurd cc
-    credits_booked denied c true true full also = record { replies = refl; stay = alike }
-    credits_booked granted c true true full also = record { replies = ap (λ k. of_credit (Ok (record { number = k; amount = c.credited; fresh = true }))) same_end; stay = with_both (what.Credited c) (what.Credited c) refl (record { ends = tt; closes = tt }) }
+    credits_booked : (growth : Growth) (c : Credited) (owed least : ℤ) (r s short : Bool)
+        → is_full (of_credit (credit_booked new caller growth (fitted_credit r short owed least c)).reply) ≡ false → is_full (of_credit (credit_booked old caller growth (fitted_credit s short owed least c)).reply) ≡ false
+        → Twins (replied_as of_credit (credit_booked new caller growth (fitted_credit r short owed least c))) (replied_as of_credit (credit_booked old caller growth (fitted_credit s short owed least c)))
+    credits_booked growth c owed least false s short full also = absurd cc
+    credits_booked growth c owed least true false short full also = absurd cc
+    credits_booked growth c owed least true true true full also = record { replies = refl; stay = alike }
+    credits_booked denied c owed least true true false full also = record { replies = refl; stay = alike }
+    credits_booked granted c owed least true true false full also = record { replies = ap (λ k. of_credit (Ok (record { number = k; amount = c.credited; fresh = true }))) same_end; stay = with_both (what.Credited c) (what.Credited c) refl (record { ends = tt; closes = tt }) }
+
+    -- where both owe the peer the same
+    credits_fitted : (growth : Growth) (c : Credited) (least owed owed' : ℤ) (r s : Bool) → owed ≡ owed'
+        → is_full (of_credit (credit_booked new caller growth (fitted_credit r (int_lt (owed -ℤ pos (lowering c.kind c.credited)) least) owed least c)).reply) ≡ false
+        → is_full (of_credit (credit_booked old caller growth (fitted_credit s (int_lt (owed' -ℤ pos (lowering c.kind c.credited)) least) owed' least c)).reply) ≡ false
+        → Twins (replied_as of_credit (credit_booked new caller growth (fitted_credit r (int_lt (owed -ℤ pos (lowering c.kind c.credited)) least) owed least c)))
+        (replied_as of_credit (credit_booked old caller growth (fitted_credit s (int_lt (owed' -ℤ pos (lowering c.kind c.credited)) least) owed' least c)))
+    credits_fitted growth c least owed owed' r s same full also =
+        let Fits : ℤ → Type 0 = λ z. is_full (of_credit (credit_booked old caller growth (fitted_credit s (int_lt (z -ℤ pos (lowering c.kind c.credited)) least) z least c)).reply) ≡ false
+        → Twins (replied_as of_credit (credit_booked new caller growth (fitted_credit r (int_lt (owed -ℤ pos (lowering c.kind c.credited)) least) owed least c)))
+        (replied_as of_credit (credit_booked old caller growth (fitted_credit s (int_lt (z -ℤ pos (lowering c.kind c.credited)) least) z least c))) in
+        subst Fits same (credits_booked growth c owed least r s (int_lt (owed -ℤ pos (lowering c.kind c.credited)) least) full) also
 
     pub credits_alike : (p : Payment) (growth : Growth) → IsKnown C p.peer → is_full (of_credit (credit_step new caller p growth).reply) ≡ false → is_full (of_credit (credit_step old caller p growth).reply) ≡ false
         → Twins (replied_as of_credit (credit_step new caller p growth)) (replied_as of_credit (credit_step old caller p growth))
@@ -271,11 +286,11 @@ module _ (C : Configuration) (valid : IsValid C) (first later : ℕ) (number : �
             → Twins (replied_as of_credit (credit_booked new caller growth (refuse_if b (Err credit_fault.TooLarge) >>= λ _. credit_fresh new p o)))
             (replied_as of_credit (credit_booked old caller growth (refuse_if b (Err credit_fault.TooLarge) >>= λ _. credit_fresh old p q)))
         of true o q same full also = record { replies = refl; stay = alike }
-        of false None None same full also = credits_booked growth (credit_of C p) (has_room new 1) (has_room old 1) full also
+        of false None None same full also = credits_fitted growth (credit_of C p) (peer_at C p.peer).least (balance after p.peer) (balance before p.peer) (has_room new 1) (has_room old 1) (alike.balances p.peer known) full also
         of false None (Some y) same full also = absurd cc
         of false (Some x) None same full also = absurd cc
         of false (Some x) (Some y) same full also = record {
-          replies = kept_told p.quantity x.0 x.1 ∙ ap (λ (z : ℕ × Credited). of_credit (credit_kept p.quantity z)) (some_same (credit_before x) y same);
+          replies = kept_told p.quantity p.kind x.0 x.1 ∙ ap (λ (z : ℕ × Credited). of_credit (credit_kept p.quantity p.kind z)) (some_same (credit_before x) y same);
           stay = alike;
         }
 

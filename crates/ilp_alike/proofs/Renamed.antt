@@ -16,7 +16,7 @@ use Rattle.ilp_journal.specs.declared.entry.Ask.{Ask}
 use Rattle.ilp_journal.specs.declared.entry.Credited.{Credited}
 use Rattle.ilp_journal.specs.Journal.{Entries, last_moment, as_hold, as_ask, answered, closed, is_number, hold_at, ask_at, answer_of, closing_of, is_unanswered, is_unclosed, open_hold_at, open_ask_at, of_ask, paid_to, open_asks, AnswersOnce, ClosesOnce}
 use Rattle.ilp_journal.specs.Balance.{above, below, rise, fall, balance}
-use Rattle.ilp_journal.specs.Credits.{as_credit, has_key, kept_credit}
+use Rattle.ilp_journal.specs.Credits.{as_credit, has_key, kept_credit, raising, lowering}
 use Rattle.ilp_journal.specs.Made.{filter_map_from}
 use Rattle.ilp_journal.specs.BroughtForward.{credited_to, earlier_key, earlier_key_at, settlement_key, settlement_to, open_settlements}
 use Rattle.ilp_journal.proofs.Made.{made-none, sum_by-map, first_some, first_some-map, first_some-none, first_some-after, first_from_is}
@@ -240,7 +240,7 @@ module _ (to : ℕ → ℕ) where
     rise-moved j (what.Hold h) = refl
     rise-moved j (what.Fulfilled hold preimage) = of_hold_there (λ (h : Hold). cond (h.to == q) h.out 0) (λ (h : Hold). cond (h.to == p) h.out 0) (λ h. ap (λ b. cond b h.out 0) (same h.to)) j hold
     rise-moved j (what.Released hold cause) = of_hold_there (λ (h : Hold). cond (h.from == q) h.amount 0) (λ (h : Hold). cond (h.from == p) h.amount 0) (λ h. ap (λ b. cond b h.amount 0) (same h.from)) j hold
-    rise-moved j (what.Credited c) = ap (λ t. cond t c.credited 0) (same c.peer)
+    rise-moved j (what.Credited c) = ap (λ t. cond t (raising c.kind c.credited) 0) (same c.peer)
     rise-moved j (what.Asked a) = refl
     rise-moved j (what.Confirmed ask) = refl
     rise-moved j (what.Undone ask) = of_ask_there (λ (a : Ask). cond (a.peer == q) a.amount 0) (λ (a : Ask). cond (a.peer == p) a.amount 0) (λ a. ap (λ b. cond b a.amount 0) (same a.peer)) j ask
@@ -252,7 +252,7 @@ module _ (to : ℕ → ℕ) where
     fall-moved (what.Hold h) = ap (λ t. cond t h.amount 0) (same h.from)
     fall-moved (what.Fulfilled hold preimage) = refl
     fall-moved (what.Released hold cause) = refl
-    fall-moved (what.Credited c) = refl
+    fall-moved (what.Credited c) = ap (λ t. cond t (lowering c.kind c.credited) 0) (same c.peer)
     fall-moved (what.Asked a) = ap (λ t. cond t a.amount 0) (same a.peer)
     fall-moved (what.Confirmed ask) = refl
     fall-moved (what.Undone ask) = refl
@@ -337,7 +337,7 @@ module _ (to : ℕ → ℕ) where
     no_rise j (what.Hold h) = refl
     no_rise j (what.Fulfilled hold preimage) = no_hold (λ (h : Hold). cond (h.to == q) h.out 0) (λ h. ap (λ b. cond b h.out 0) (never h.to)) j hold
     no_rise j (what.Released hold cause) = no_hold (λ (h : Hold). cond (h.from == q) h.amount 0) (λ h. ap (λ b. cond b h.amount 0) (never h.from)) j hold
-    no_rise j (what.Credited c) = ap (λ t. cond t c.credited 0) (never c.peer)
+    no_rise j (what.Credited c) = ap (λ t. cond t (raising c.kind c.credited) 0) (never c.peer)
     no_rise j (what.Asked a) = refl
     no_rise j (what.Confirmed ask) = refl
     no_rise j (what.Undone ask) = no_ask (λ (a : Ask). cond (a.peer == q) a.amount 0) (λ a. ap (λ b. cond b a.amount 0) (never a.peer)) j ask
@@ -349,7 +349,7 @@ module _ (to : ℕ → ℕ) where
     no_fall (what.Hold h) = ap (λ t. cond t h.amount 0) (never h.from)
     no_fall (what.Fulfilled hold preimage) = refl
     no_fall (what.Released hold cause) = refl
-    no_fall (what.Credited c) = refl
+    no_fall (what.Credited c) = ap (λ t. cond t (lowering c.kind c.credited) 0) (never c.peer)
     no_fall (what.Asked a) = ap (λ t. cond t a.amount 0) (never a.peer)
     no_fall (what.Confirmed ask) = refl
     no_fall (what.Undone ask) = refl

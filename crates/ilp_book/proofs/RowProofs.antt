@@ -8,7 +8,7 @@ use Rattle.ilp_journal.specs.Journal.{open_holds, open_asks}
 use Rattle.ilp_book.specs.HoldStep.{hold_terms, hold_fitted, hold_checked, hold_step}
 use Rattle.ilp_book.specs.AnswerStep.{judged_reply, answer_step, expire_step}
 use Rattle.ilp_book.specs.SettleStep.{credit_checked, credit_step, ask_checked, ask_step, close_step}
-use Rattle.ilp_book.specs.Rows.{PaidRow, LateRow, ReleasedRow, ExpiredRow, LeastRow, TermsRow, TotalRow, FullRow, OlderRow, CreditedRow, SettledRow, PartsRow, CarriedRow}
+use Rattle.ilp_book.specs.Rows.{PaidRow, LateRow, ReleasedRow, ExpiredRow, LeastRow, TermsRow, TotalRow, FullRow, OlderRow, CreditedRow, CorrectedRow, SettledRow, PartsRow, CarriedRow}
 
 pub paid_row : (c : List ℕ) → meets c (replicate 32 0) ≡ true → PaidRow c
 unfolding quote balance total_in total_out open_holds hold_terms hold_fitted hold_checked hold_step judged_reply answer_step
@@ -62,8 +62,12 @@ unfolding quote balance total_in total_out hold_terms hold_fitted hold_checked h
 older_row c = refl
 
 pub credited_row : CreditedRow
-unfolding credit_checked credit_step
+unfolding balance credit_checked credit_step
 credited_row = refl
+
+pub corrected_row : CorrectedRow
+unfolding balance credit_checked credit_step
+corrected_row = refl
 
 pub settled_row : SettledRow
 unfolding balance open_asks credit_checked credit_step ask_checked ask_step close_step

@@ -1,8 +1,10 @@
 -- A credit, an ask or a closing that a step appends to a lawful journal is admitted by its rules.
-use Rattle.std.proofs.Common.{◌≡◌, ℕ, ℤ, true, false, not, ◌&&◌, List, Option, Some, None, refl, sym, subst, arith}
-use Rattle.std.specs.Prelude.{Result, Ok, Err, nat_lt, ◌==◌, unwrap_or, option_map, option_and_then, IsSome, IsNone}
+use Rattle.std.proofs.Common.{◌≡◌, ℕ, ◌<◌, ◌^◌, ℤ, pos, ◌+ℤ◌, ◌-ℤ◌, Bool, true, false, not, ◌&&◌, List, Option, Some, None, refl, sym, ap, ap₂, ◌∙◌, subst, arith}
+use Rattle.std.specs.Prelude.{Result, Ok, Err, ◌≤ℤ◌, int_lt, nat_lt, ◌==◌, unwrap_or, option_map, option_and_then, IsSome, IsNone}
 use Rattle.std.specs.Str.{bytes_eq}
-use Rattle.ilp_order.specs.Refusals.{◌>>=◌, refuse_some, found_or}
+use Rattle.std.proofs.lemmas.Bool.{le-ltb}
+use Rattle.std.proofs.lemmas.Int.{ints}
+use Rattle.ilp_order.specs.Refusals.{◌>>=◌, refuse_if, refuse_some, found_or}
 use Rattle.ilp_assets.specs.Quote.{most}
 use Rattle.ilp_accounts.specs.Configuration.{Configuration, peer_at}
 use Rattle.ilp_accounts.specs.Valid.{IsValid}
@@ -22,11 +24,11 @@ use Rattle.ilp_book.specs.declared.fault.AskFault.{AskFault}
 use Rattle.ilp_book.specs.declared.fault.AskFault.TheVariants as ask_fault
 use Rattle.ilp_rules.specs.Configured.{IsKnown}
 use Rattle.ilp_rules.specs.Book.{PlainBook, By, Does, Growth, granted, denied, entry_by, has_room, moment_at, pushed, with_entry}
-use Rattle.ilp_journal.specs.Credits.{as_credit, credit_at, has_key, kept_at}
+use Rattle.ilp_journal.specs.Credits.{lowering, as_credit, credit_at, has_key, kept_at}
 use Rattle.ilp_rules.specs.Lawful.{IsLawful, IsFreshCredit, IsDueAsk}
 use Rattle.ilp_settlement.specs.declared.verdict.EngineVerdict.{EngineVerdict}
 use Rattle.ilp_settlement.specs.declared.verdict.EngineVerdict.TheVariants as engine
-use Rattle.ilp_book.specs.SettleStep.{Payment, closing_of_verdict, amount_of, credit_of, kept, credit_fresh, credit_checked, credit_booked, credit_step, still_open, ask_fitted, ask_checked, ask_booked, ask_step, close_booked, close_step}
+use Rattle.ilp_book.specs.SettleStep.{Payment, closing_of_verdict, amount_of, credit_of, kept, credit_fitted, credit_fresh, credit_checked, credit_booked, credit_step, still_open, ask_fitted, ask_checked, ask_booked, ask_step, close_booked, close_step}
 use Rattle.ilp_rules.specs.Lawful.{due_amount}
 use Rattle.ilp_rules.proofs.Known.{peer_valid}
 use Rattle.ilp_rules.proofs.LawfulGrowth.{Admits, lawful_push, limits_now}
@@ -98,30 +100,68 @@ none_kept j peer key e = of_test (kept_at j peer key) refl e
 pub fresh_credit : (C : Configuration) (j : Entries) (p : Payment) → IsKnown C p.peer → IsKey p.key → kept j p.peer p.key ≡ None → IsFreshCredit C j (credit_of C p)
 fresh_credit C j p known key none = record { known = known; named = key; rounded = refl; fresh = none_kept j p.peer p.key none }
 
+-- a payment of so much, whose key is not kept, is checked as its credit is
+pub fresh_checked : (book : PlainBook) (p : Payment) (n : ℕ) → n ≡ amount_of book.config p → n < 2 ^ 64 → kept book.entries p.peer p.key ≡ None
+    → credit_checked book p ≡ credit_fitted book (record { peer = p.peer; key = p.key; named = p.quantity.amount; scale = p.quantity.scale; credited = n; kind = p.kind })
+unfolding credit_checked
+fresh_checked book p n amount small none =
+    let fits : nat_lt most (amount_of book.config p) ≡ false = le-ltb most (amount_of book.config p) (omega (arith, amount, small)) in
+    ap (λ (b : Bool). refuse_if b (Err credit_fault.TooLarge) >>= (λ _. credit_fresh book p (kept book.entries p.peer p.key))) fits
+    ∙ ap (credit_fresh book p) none
+    ∙ ap (λ (m : ℕ). credit_fitted book (record { peer = p.peer; key = p.key; named = p.quantity.amount; scale = p.quantity.scale; credited = m; kind = p.kind })) (sym amount)
+
+-- a balance that would not fall below its least
+abbrev pub IsEnough : PlainBook → Credited → Type 0
+IsEnough book c = int_lt (balance book.entries c.peer -ℤ pos (lowering c.kind c.credited)) (peer_at book.config c.peer).least ≡ false
+
+-- so it is by what is computed of both
+pub enough_by : (book : PlainBook) (c : Credited) (owed least : ℤ) → owed ≡ balance book.entries c.peer → least ≡ (peer_at book.config c.peer).least
+    → int_lt (owed -ℤ pos (lowering c.kind c.credited)) least ≡ false → IsEnough book c
+enough_by book c owed least owes lies not_short =
+    ap₂ (λ (a b : ℤ). int_lt (a -ℤ pos (lowering c.kind c.credited)) b) (sym owes) (sym lies) ∙ not_short
+
+-- where there is room and balance for a credit, it is the one that is booked
+pub fitted : (book : PlainBook) (c : Credited) → has_room book 1 ≡ true → IsEnough book c → credit_fitted book c ≡ Ok c
+fitted book c room enough =
+    let owed = balance book.entries c.peer in
+    let least = (peer_at book.config c.peer).least in
+    ap (λ (b : Bool). refuse_if (not b) (Err credit_fault.Full) >>= (λ _. refuse_if (int_lt (owed -ℤ pos (lowering c.kind c.credited)) least) (Err (credit_fault.BelowLeast owed least)) >>= (λ _. Ok c))) room
+    ∙ ap (λ (b : Bool). refuse_if b (Err (credit_fault.BelowLeast owed least)) >>= (λ _. Ok c)) enough
+
 -- so it is at the moment of a call
 pub credit_admitted : (book : PlainBook) (caller : By) (c : Credited) → IsLawful book → IsFreshCredit book.config book.entries c → has_room book 1 ≡ true
+    → int_lt (balance book.entries c.peer -ℤ pos (lowering c.kind c.credited)) (peer_at book.config c.peer).least ≡ false
     → Admits book (entry_by book caller (what.Credited c))
-credit_admitted book caller c lawful = credit_admits book (moment_at book.entries caller.now) caller.actor c lawful (in_time book caller (what.Credited c) lawful)
+credit_admitted book caller c lawful fresh room enough =
+    credit_admits book (moment_at book.entries caller.now) caller.actor c lawful (in_time book caller (what.Credited c) lawful) fresh room (lower _ _ _ enough)
+  where
+    lower : (owed least : ℤ) (n : ℕ) → int_lt (owed -ℤ pos n) least ≡ false → (least +ℤ pos n) ≤ℤ owed
+    lower owed least n enough = omega (arith, ints)
 
--- what is booked of a payment is a fresh credit that has room
+-- what is booked of a payment is a fresh credit that has room, and for which there is balance enough
 credit_facts : (book : PlainBook) (p : Payment) (c : Credited) → IsKnown book.config p.peer → IsKey p.key → credit_checked book p ≡ Ok c
-    → IsFreshCredit book.config book.entries c × (has_room book 1 ≡ true)
+    → IsFreshCredit book.config book.entries c × (has_room book 1 ≡ true) × IsEnough book c
 unfolding credit_checked
 credit_facts book p c known key e =
     let a = refused_not (nat_lt most (amount_of book.config p)) (Err credit_fault.TooLarge) (credit_fresh book p (kept book.entries p.peer p.key)) c e in
     of (kept book.entries p.peer p.key) refl a.1
   where
-    of : (o : Option (ℕ × Credited)) → kept book.entries p.peer p.key ≡ o → credit_fresh book p o ≡ Ok c → IsFreshCredit book.config book.entries c × (has_room book 1 ≡ true)
+    of : (o : Option (ℕ × Credited)) → kept book.entries p.peer p.key ≡ o → credit_fresh book p o ≡ Ok c → IsFreshCredit book.config book.entries c × (has_room book 1 ≡ true) × IsEnough book c
     of (Some x) is e = absurd cc
     of None is e =
+        let made = credit_of book.config p in
+        let owed = balance book.entries made.peer in
+        let least = (peer_at book.config made.peer).least in
         let a = refused_not (not (has_room book 1)) (Err credit_fault.Full) _ c e in
-        (subst (IsFreshCredit book.config book.entries) (ok_same _ c a.1) (fresh_credit book.config book.entries p known key is), not_true _ a.0)
+        let b = refused_not (int_lt (owed -ℤ pos (lowering made.kind made.credited)) least) (Err (credit_fault.BelowLeast owed least)) _ c a.1 in
+        let same = ok_same _ c b.1 in
+        (subst (IsFreshCredit book.config book.entries) same (fresh_credit book.config book.entries p known key is), not_true _ a.0, subst (IsEnough book) same b.0)
 
 pub credit_lawful : (book : PlainBook) (caller : By) (p : Payment) (growth : Growth) → IsLawful book → IsKnown book.config p.peer → IsKey p.key
     → IsLawful (with_entry book (credit_step book caller p growth).entry)
 unfolding credit_step
 credit_lawful book caller p growth lawful known key =
-    of (credit_checked book p) growth (λ c e. let facts = credit_facts book p c known key e in credit_admitted book caller c lawful facts.0 facts.1)
+    of (credit_checked book p) growth (λ c e. let facts = credit_facts book p c known key e in credit_admitted book caller c lawful facts.0 facts.1 facts.2)
   where
     of : (r : Result Credited (Result Kept CreditFault)) (g : Growth) → ((c : Credited) → r ≡ Ok c → Admits book (entry_by book caller (what.Credited c)))
         → IsLawful (with_entry book (credit_booked book caller g r).entry)

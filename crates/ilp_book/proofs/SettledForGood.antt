@@ -87,11 +87,11 @@ kept_stays j more peer key x e = of (kept_at j peer key) refl e
 -- so each settlement under its key is answered by it
 pub kept_for_good : (book : PlainBook) (peer : ℕ) (key : List ℕ) (x : ℕ × Credited) → kept book.entries peer key ≡ Some x → IsKeptBy book peer key x
 unfolding credit_step credit_checked
-kept_for_good book peer key x is more caller quantity growth small =
-    let p = payment peer key quantity in
+kept_for_good book peer key x is more caller quantity kind growth small =
+    let p = payment peer key quantity kind in
     let later = extended book more in
     let Answers : Bool → Option (ℕ × Credited) → Type 0 = λ large o.
-    credit_booked later caller growth (refuse_if large (Err credit_fault.TooLarge) >>= λ _. credit_fresh later p o) ≡ says (credit_kept quantity x) in
+    credit_booked later caller growth (refuse_if large (Err credit_fault.TooLarge) >>= λ _. credit_fresh later p o) ≡ says (credit_kept quantity kind x) in
     let fits : nat_lt most (amount_of book.config p) ≡ false = le-ltb most (amount_of book.config p) small in
     subst (λ b. Answers b (kept later.entries peer key)) (sym fits) (subst (Answers false) (sym (kept_stays book.entries more peer key x is)) refl)
 

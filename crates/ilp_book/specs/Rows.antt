@@ -15,6 +15,7 @@ use Rattle.ilp_book.specs.declared.fault.HoldFault.TheVariants as hold_fault
 use Rattle.ilp_book.specs.declared.calls.PeerReply.{PeerReply}
 use Rattle.ilp_book.specs.declared.calls.PeerReply.TheVariants as peer_reply
 use Rattle.ilp_book.specs.declared.calls.Outcome.TheVariants as outcome
+use Rattle.ilp_journal.specs.declared.credit_kind.CreditKind.TheVariants.{Settled, Lowered}
 use Rattle.ilp_book.specs.declared.fault.CreditFault.TheVariants as credit_fault
 use Rattle.ilp_book.specs.declared.fault.AskFault.TheVariants as ask_fault
 use Rattle.ilp_terms.specs.Condition.{meets}
@@ -72,7 +73,11 @@ cents n = record { amount = n; scale = 2 }
 
 -- a peer settles so much under the key k
 abbrev pub settles : ℕ → Quantity → Call
-settles peer quantity = credit (record { peer = peer; key = codes "k"; quantity = quantity })
+settles peer quantity = credit (record { peer = peer; key = codes "k"; quantity = quantity; kind = Settled })
+
+-- a peer's balance is corrected downwards by so many cents under a key
+abbrev pub charges_back : ℕ → List ℕ → ℕ → Call
+charges_back peer key n = credit (record { peer = peer; key = key; quantity = cents n; kind = Lowered (codes "charged back") })
 
 -- a call so many milliseconds after the new year
 abbrev pub at_ : ℕ → Call → Step
@@ -177,6 +182,16 @@ CreditedRow =
     let large = settles 0 (record { amount = 1999999999; scale = 9 }) in
     answers_of (between alice bob) (at_ 0 large ∷ at_ 0 large ∷ at_ 0 (settles 0 (cents 5)) ∷ [])
     ≡ of_credit (Ok (record { number = 0; amount = 199; fresh = true })) ∷ of_credit (Ok (record { number = 0; amount = 199; fresh = false })) ∷ of_credit (Err (credit_fault.KeyTaken 0)) ∷ []
+
+-- a correction takes back what was credited, once under its key, but never below the least, which is -100 cents for alice; the key of
+-- a settlement is taken for a correction too
+abbrev pub CorrectedRow : Type 0
+CorrectedRow =
+    answers_of (between alice bob) (at_ 0 (settles 0 (cents 50)) ∷ at_ 0 (charges_back 0 (codes "c") 150) ∷ at_ 0 (charges_back 0 (codes "c") 150)
+    ∷ at_ 0 (charges_back 0 (codes "c") 149) ∷ at_ 0 (charges_back 0 (codes "k") 50) ∷ at_ 0 (charges_back 0 (codes "d") 1) ∷ [])
+    ≡ of_credit (Ok (record { number = 0; amount = 50; fresh = true })) ∷ of_credit (Ok (record { number = 1; amount = 150; fresh = true }))
+    ∷ of_credit (Ok (record { number = 1; amount = 150; fresh = false })) ∷ of_credit (Err (credit_fault.KeyTaken 1)) ∷ of_credit (Err (credit_fault.KeyTaken 0))
+    ∷ of_credit (Err (credit_fault.BelowLeast (negsuc 99) (negsuc 99))) ∷ []
 
 -- what bob is owed above 200 cents is asked for, from 1000 cents on
 abbrev pub SettledRow : Type 0

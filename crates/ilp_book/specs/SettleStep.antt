@@ -1,5 +1,5 @@
 -- Settlements from peers, which are credited, and to peers, which are asked for and closed. Refusals stand in their order.
-use Rattle.std.specs.Prelude.{◌≡◌, ℕ, ◌≤◌, true, false, not, ◌&&◌, ◌==◌, List, length, nat_lt, Option, Some, None, Result, Ok, Err, option_and_then, option_map, if◌then◌else◌}
+use Rattle.std.specs.Prelude.{◌≡◌, ℕ, ◌≤◌, pos, ◌-ℤ◌, int_lt, true, false, not, ◌&&◌, ◌==◌, List, length, nat_lt, Option, Some, None, Result, Ok, Err, option_and_then, option_map, if◌then◌else◌}
 use Rattle.std.specs.Option.{option_or}
 use Rattle.ilp_order.specs.Refusals.{◌>>=◌, refuse_if, refuse_some, found_or}
 use Rattle.ilp_assets.specs.Quote.{most}
@@ -12,6 +12,7 @@ use Rattle.ilp_journal.specs.declared.entry.What.{What}
 use Rattle.ilp_journal.specs.declared.entry.What.TheVariants as what
 use Rattle.ilp_journal.specs.declared.entry.Ask.{Ask}
 use Rattle.ilp_journal.specs.declared.entry.Credited.{Credited}
+use Rattle.ilp_journal.specs.declared.credit_kind.CreditKind.{CreditKind}
 use Rattle.ilp_journal.specs.Journal.{Entries, closing_of, open_ask_at, open_asks, next_open_ask}
 use Rattle.ilp_journal.specs.Balance.{balance}
 use Rattle.ilp_book.specs.declared.calls.Kept.{Kept}
@@ -23,47 +24,51 @@ use Rattle.ilp_book.specs.declared.fault.AskFault.TheVariants as ask_fault
 use Rattle.ilp_book.specs.declared.fault.NotOpen.{NotOpen}
 use Rattle.ilp_rules.specs.Configured.{scale_at}
 use Rattle.ilp_rules.specs.Book.{PlainBook, By, Growth, granted, denied, Made, says, books, extended, has_room}
-use Rattle.ilp_journal.specs.Credits.{credit_at, kept_at}
+use Rattle.ilp_journal.specs.Credits.{lowering, same_kind, credit_at, kept_at}
 use Rattle.ilp_rules.specs.Lawful.{most_open_asks, due_amount}
 
 -- ---- credits
 
--- the credit of a settlement from a peer that is kept under a key, with its number
+-- the credit, or the correction, of a peer that is kept under a key, with its number
 abbrev pub kept : Entries → ℕ → List ℕ → Option (ℕ × Credited)
 kept j peer key = option_and_then (λ n. option_map (λ (c : Credited). (n, c)) (credit_at j n)) (kept_at j peer key)
 
--- what is answered where a credit is kept
-abbrev pub credit_kept : Quantity → ℕ × Credited → Result Kept CreditFault
-credit_kept q (n, c) =
-    if (c.named == q.amount) && (c.scale == q.scale) then Ok (record { number = n; amount = c.credited; fresh = false })
+-- what is answered where one is kept: the same again, or that it is another
+abbrev pub credit_kept : Quantity → CreditKind → ℕ × Credited → Result Kept CreditFault
+credit_kept q kind (n, c) =
+    if (c.named == q.amount) && (c.scale == q.scale) && same_kind c.kind kind then Ok (record { number = n; amount = c.credited; fresh = false })
     else Err (credit_fault.KeyTaken n)
 
--- a settlement from a peer, under its key
+-- a settlement from a peer, or a correction of its balance, under its key
 pub record Payment : Type 0 where
   pub peer : ℕ
   pub key : List ℕ
   pub quantity : Quantity
+  pub kind : CreditKind
 
-abbrev pub payment : ℕ → List ℕ → Quantity → Payment
-payment peer key quantity = record { peer = peer; key = key; quantity = quantity }
+abbrev pub payment : ℕ → List ℕ → Quantity → CreditKind → Payment
+payment peer key quantity kind = record { peer = peer; key = key; quantity = quantity; kind = kind }
 
--- what a payment adds to the balance of the peer from which it came
+-- what a payment moves the balance of its peer by
 abbrev pub amount_of : Configuration → Payment → ℕ
 amount_of C p = credited_at p.quantity (scale_at C p.peer)
 
 -- the credit of a payment
 abbrev pub credit_of : Configuration → Payment → Credited
-credit_of C p = record { peer = p.peer; key = p.key; named = p.quantity.amount; scale = p.quantity.scale; credited = amount_of C p }
+credit_of C p = record { peer = p.peer; key = p.key; named = p.quantity.amount; scale = p.quantity.scale; credited = amount_of C p; kind = p.kind }
 
--- a new credit, if the book has room for it
+-- a new credit, if the book has room for it, and a correction leaves the balance at its least or above
 abbrev pub credit_fitted : PlainBook → Credited → Result Credited (Result Kept CreditFault)
 credit_fitted book c = do
+  let owed = balance book.entries c.peer
+  let least = (peer_at book.config c.peer).least
   _ ← refuse_if (not (has_room book 1)) (Err credit_fault.Full)
+  _ ← refuse_if (int_lt (owed -ℤ pos (lowering c.kind c.credited)) least) (Err (credit_fault.BelowLeast owed least))
   Ok c
 
 -- the new credit, if none is kept
 abbrev pub credit_fresh : PlainBook → Payment → Option (ℕ × Credited) → Result Credited (Result Kept CreditFault)
-credit_fresh book p (Some c) = Err (credit_kept p.quantity c)
+credit_fresh book p (Some c) = Err (credit_kept p.quantity p.kind c)
 credit_fresh book p None = credit_fitted book (credit_of book.config p)
 
 -- the new credit, or the reply where none is made
@@ -84,7 +89,7 @@ credit_booked book caller denied (Ok c) = says (Err credit_fault.Memory)
 credit_booked book caller granted (Ok c) =
     books book caller (Ok (record { number = length book.entries; amount = c.credited; fresh = true })) (what.Credited c)
 
--- a settlement from a peer, under a key that the journal keeps
+-- a settlement from a peer, or a correction of its balance, under a key that the journal keeps
 unfoldable pub credit_step : PlainBook → By → Payment → Growth → Made (Result Kept CreditFault)
 credit_step book caller p growth = credit_booked book caller growth (credit_checked book p)
 
@@ -157,9 +162,9 @@ abbrev pub IsClosedBy : PlainBook → ℕ → ℕ → Type 0
 IsClosedBy book n k = (more : Entries) (caller : By) (verdict : EngineVerdict)
     → close_step (extended book more) caller n verdict ≡ says (Err (record { closer = Some k }))
 
--- A peer's key is kept for good by a credit with its number: whatever is appended, each settlement of the peer under it that
--- isn't too large is answered by that credit and appends nothing.
+-- A peer's key is kept for good by a credit or a correction with its number: whatever is appended, each one of the peer under it
+-- that isn't too large is answered by that one and appends nothing.
 abbrev pub IsKeptBy : PlainBook → ℕ → List ℕ → ℕ × Credited → Type 0
-IsKeptBy book peer key numbered = (more : Entries) (caller : By) (quantity : Quantity) (growth : Growth)
+IsKeptBy book peer key numbered = (more : Entries) (caller : By) (quantity : Quantity) (kind : CreditKind) (growth : Growth)
     → credited_at quantity (scale_at book.config peer) ≤ most
-    → credit_step (extended book more) caller (payment peer key quantity) growth ≡ says (credit_kept quantity numbered)
+    → credit_step (extended book more) caller (payment peer key quantity kind) growth ≡ says (credit_kept quantity kind numbered)

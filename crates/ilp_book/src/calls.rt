@@ -38,12 +38,12 @@ pub enum Outcome {
     Released { entry: u32, cause: Cause },
 }
 
-/// A settlement from a peer is credited, once for each key.
+/// A settlement from a peer is credited, or its balance is corrected, once for each key.
 #[derive(Clone, Copy, Debug, PartialEq, Eq)]
 pub struct Kept {
-    /// The number of the credit.
+    /// The number of its entry.
     pub number: u32,
-    /// What it added to the balance, in units of the peer's asset.
+    /// What it moved the balance by, in units of the peer's asset.
     pub amount: u64,
     /// Whether this call made it; else an earlier one did, with the same key and quantity.
     pub fresh: bool,
@@ -62,7 +62,7 @@ pub struct Asked {
 /// and `bought` and less `sold`, are `settled`.
 #[derive(Clone, Copy, Debug, PartialEq, Eq)]
 pub struct Sums {
-    /// The credits of its peers, less the settlements to them that were not undone.
+    /// The credits and corrections of its peers, less the settlements to them that were not undone.
     pub settled: i128,
     /// The amounts of the open holds whose senders pay in it.
     pub held: i128,

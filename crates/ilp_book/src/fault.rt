@@ -98,18 +98,22 @@ pub struct HoldOpen {
     pub number: u32,
 }
 
-/// Why a settlement from a peer was refused, in the order in which these are looked for.
+/// Why a settlement from a peer, or a correction of its balance, was refused, in the order in which these
+/// are looked for.
 #[derive(Clone, Copy, Debug, PartialEq, Eq, Error)]
 pub enum CreditFault {
     /// It is more than 18446744073709551615 units of the peer's asset.
     #[error("the settlement is too large")]
     TooLarge,
-    /// The peer used the key for another quantity, at this entry.
+    /// The key of the peer was used for another quantity, or another kind, at this entry.
     #[error("the key names another settlement, at the entry {kept}")]
     KeyTaken { kept: u32 },
     /// The journal has no room for it.
     #[error("the journal is full")]
     Full,
+    /// The peer's balance, which is this, would fall below its least, which is that.
+    #[error("the balance {balance} would fall below its least {least}")]
+    BelowLeast { balance: i128, least: i64 },
     /// Memory was denied.
     #[error("memory is short")]
     Memory,

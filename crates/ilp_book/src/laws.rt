@@ -22,7 +22,7 @@ ghost use Rattle.ilp_rules.specs.Lawful.{IsLawful};
 ghost use Rattle.ilp_book.specs.AnswerStep.{answer_step, expire_step, IsOverBy};
 ghost use Rattle.ilp_book.specs.SettleStep.{kept, close_step, IsClosedBy, IsKeptBy};
 ghost use Rattle.ilp_book.specs.Run.{Step, AreAllowed, book_after};
-ghost use Rattle.ilp_book.specs.Rows.{PaidRow, LateRow, ReleasedRow, ExpiredRow, LeastRow, TermsRow, TotalRow, FullRow, OlderRow, CreditedRow, SettledRow, PartsRow, CarriedRow};
+ghost use Rattle.ilp_book.specs.Rows.{PaidRow, LateRow, ReleasedRow, ExpiredRow, LeastRow, TermsRow, TotalRow, FullRow, OlderRow, CreditedRow, CorrectedRow, SettledRow, PartsRow, CarriedRow};
 
 pub use ilp_rules::laws::{
     bases_can_rise, carried_books, lawful_books, recovered_begins, saved_texts_are_carried,
@@ -97,6 +97,7 @@ pub fn rows()
     ensures full { (c : List ℕ) → FullRow c }
     ensures older { (c : List ℕ) → OlderRow c }
     ensures credited { CreditedRow }
+    ensures corrected { CorrectedRow }
     ensures settled { SettledRow }
     ensures parts { PartsRow }
     ensures carried { (c : List ℕ) → CarriedRow c }

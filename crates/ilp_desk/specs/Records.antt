@@ -8,6 +8,7 @@ use Rattle.ilp_journal.specs.declared.entry.What.TheVariants as what
 use Rattle.ilp_journal.specs.declared.entry.Cause.{Cause}
 use Rattle.ilp_journal.specs.declared.entry.Cause.TheVariants as cause
 use Rattle.ilp_journal.specs.Journal.{Entries, hold_at, ask_at}
+use Rattle.ilp_journal.specs.Credits.{lowers}
 use Rattle.ilp_settlement.specs.declared.verdict.EngineVerdict.{EngineVerdict}
 use Rattle.ilp_settlement.specs.declared.verdict.EngineVerdict.TheVariants.{Accepted, Refused}
 use Rattle.ilp_desk.specs.declared.record.Record.{Record}
@@ -39,7 +40,7 @@ abbrev pub recorded_of : Entries → What → Option Recorded
 recorded_of j (what.Hold h) = None
 recorded_of j (what.Fulfilled n preimage) = option_map (answered_hold n Fulfilled) (hold_at j n)
 recorded_of j (what.Released n c) = released j n c
-recorded_of j (what.Credited c) = Some (recorded.Credited c.peer c.credited)
+recorded_of j (what.Credited c) = Some (recorded.Credited c.peer c.credited (lowers c.kind))
 recorded_of j (what.Asked a) = None
 recorded_of j (what.Confirmed n) = option_map (closed n Accepted) (ask_at j n)
 recorded_of j (what.Undone n) = option_map (closed n Refused) (ask_at j n)

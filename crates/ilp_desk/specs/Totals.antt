@@ -36,7 +36,7 @@ if_fulfilled (Released cause) n = 0
 -- f of the hold that a record tells of, if it was fulfilled; else 0
 abbrev pub of_packet : (AnsweredHold → ℕ) → Recorded → ℕ
 of_packet f (recorded.Answered h) = if_fulfilled h.ended (f h)
-of_packet f (recorded.Credited peer amount) = 0
+of_packet f (recorded.Credited peer amount lowers) = 0
 of_packet f (recorded.Closed ask peer amount verdict) = 0
 
 -- the sum of f over the fulfilled holds of these records

@@ -20,7 +20,7 @@ use ilp_book::{
     AskFault, Asked, Book, CreditFault, EngineVerdict, Held, HoldFault, Kept, NotOpen, Outcome,
     PeerReply,
 };
-use ilp_journal::Key;
+use ilp_journal::{CreditKind, Key};
 use ilp_packet::Prepare;
 use ilp_report::Snapshot;
 use ilp_settlement::Quantity;
@@ -174,7 +174,7 @@ impl<J: Naming> Desk<J> {
     }
 
     /// `LockedBook::credit`, with the lock taken for this session alone: `now` is in milliseconds
-    /// since 1970, and a refusal by `CreditFault`, or a key that is kept with an equal quantity,
+    /// since 1970, and a refusal by `CreditFault`, or a key that is kept with an equal quantity and kind,
     /// books nothing and leaves the share as it was.
     pub fn credit(
         &self,
@@ -183,14 +183,15 @@ impl<J: Naming> Desk<J> {
         peer: u32,
         key: Key,
         quantity: &Quantity,
+        kind: CreditKind,
         now: i64,
     ) -> Result<Kept, CreditFault>
         requires known { IsKnown J.desk.config peer }
         ensures { IsReplyAt J.desk (λ book. credit_step book (by share.old.actor now)
-            (payment peer key quantity.now) (credit_growth result))
+            (payment peer key quantity.now kind) (credit_growth result))
             share.old share.new result }
     {
-        self.lock(rt).credit(share, peer, key, quantity, now)
+        self.lock(rt).credit(share, peer, key, quantity, kind, now)
     }
 
     /// `LockedBook::ask`, with the lock taken for this session alone: `now` is in milliseconds

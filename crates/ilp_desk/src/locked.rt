@@ -24,7 +24,7 @@ use ilp_book::{
     AskFault, Asked, Book, CreditFault, EngineVerdict, Held, HoldFault, Kept, NotOpen, Outcome,
     PeerReply,
 };
-use ilp_journal::Key;
+use ilp_journal::{CreditKind, Key};
 use ilp_packet::Prepare;
 use ilp_report::Snapshot;
 use ilp_settlement::Quantity;
@@ -164,23 +164,26 @@ impl<J: Naming> LockedBook<J> {
 
     /// `Book::credit` by the share's actor, where `now` is in milliseconds since 1970. The refusals
     /// are those of `CreditFault`, in its order; each leaves the book and the share as they were,
-    /// and so does a key that is kept with an equal quantity.
+    /// and so does a key that is kept with an equal quantity and kind.
     pub fn credit(
         &mut self,
         share: &mut Share<J>,
         peer: u32,
         key: Key,
         quantity: &Quantity,
+        kind: CreditKind,
         now: i64,
     ) -> Result<Kept, CreditFault>
         requires known { IsKnown J.desk.config peer }
         ensures step { Does self.old self.new result (credit_step self.old (by share.old.actor now)
-            (payment peer key quantity.now) (credit_growth result)) }
+            (payment peer key quantity.now kind) (credit_growth result)) }
         ensures session { IsSession J.desk self.old self.new share.old share.new }
         ensures err { OnErr result (self.new ≡ self.old) }
     {
         let before = self.book.len();
-        let result = self.book.credit(share.actor(), peer, key, quantity, now);
+        let result = self
+            .book
+            .credit(share.actor(), peer, key, quantity, kind, now);
         share.count(&mut self.total, self.book.len() - before);
         self.entries.grow::<Booked>(&self.book);
         result

@@ -18,10 +18,12 @@ pub struct Record {
 pub enum Recorded {
     /// A hold ended, for another cause than its deadline.
     Answered(AnsweredHold),
-    /// A settlement from a peer: what its balance rose by, in units of its asset.
+    /// A settlement from a peer, or a correction: what its balance moved by, in units of its asset, and whether
+    /// it fell.
     Credited {
         peer: u32,
         amount: u64,
+        lowers: bool,
     },
     /// A settlement to a peer, in units of its asset, and what its engine said of it.
     Closed {

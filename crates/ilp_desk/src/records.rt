@@ -37,6 +37,7 @@ fn record_of(book: &Book, number: u32) -> Option<Record>
         What::Credited(credit) => Recorded::Credited {
             peer: credit.peer,
             amount: credit.credited,
+            lowers: credit.kind.lowers(),
         },
         What::Confirmed { ask } => closed(book, *ask, EngineVerdict::Accepted)?,
         What::Undone { ask } => closed(book, *ask, EngineVerdict::Refused)?,

@@ -15,7 +15,7 @@ use crate::share::Share;
 use ilp_book::{
     AskFault, Asked, CreditFault, EngineVerdict, Held, HoldFault, Kept, NotOpen, Outcome, PeerReply,
 };
-use ilp_journal::Key;
+use ilp_journal::{CreditKind, Key};
 use ilp_packet::Prepare;
 use ilp_settlement::Quantity;
 use std::sync::Wait;
@@ -93,16 +93,17 @@ impl<J: Naming> Desk<J> {
         peer: u32,
         key: Key,
         quantity: &Quantity,
+        kind: CreditKind,
         now: i64,
     ) -> Result<Kept, CreditFault>
         requires known { IsKnown J.desk.config peer }
         ensures { IsShownAt J.desk (λ book. credit_step book (by share.old.actor now)
-            (payment peer key quantity.now) (credit_growth result))
+            (payment peer key quantity.now kind) (credit_growth result))
             receipt.old receipt.new share.old share.new result }
     {
         let mut book = self.lock(rt);
         book.show(receipt);
-        let reply = book.credit(share, peer, key, quantity, now);
+        let reply = book.credit(share, peer, key, quantity, kind, now);
         book.show(receipt);
         reply
     }

@@ -7,7 +7,7 @@ use Rattle.ilp_http.specs.declared.outgoing.OwnField.TheVariants.{Absent, Bearer
 use Rattle.ilp_http.specs.declared.refusal.Refusal.{Refusal}
 use Rattle.ilp_http.specs.declared.refusal.Refusal.TheVariants as Refused
 use Rattle.ilp_http.specs.declared.status.Status.{Status}
-use Rattle.ilp_http.specs.declared.status.Status.TheVariants.{Ok, Created, BadRequest, Unauthorized, NotFound, MethodNotAllowed, Conflict, LengthRequired, ContentTooLarge, FieldsTooLarge, BadGateway, Unavailable}
+use Rattle.ilp_http.specs.declared.status.Status.TheVariants.{Ok, Created, BadRequest, Unauthorized, NotFound, MethodNotAllowed, Conflict, Forbidden, LengthRequired, ContentTooLarge, FieldsTooLarge, BadGateway, Unavailable}
 use Rattle.ilp_http.specs.declared.status.Kind.{Kind}
 use Rattle.ilp_http.specs.declared.status.Kind.TheVariants.{OctetStream, Json, Text}
 
@@ -25,6 +25,7 @@ status_text BadRequest = codes "400 Bad Request"
 status_text Unauthorized = codes "401 Unauthorized"
 status_text NotFound = codes "404 Not Found"
 status_text MethodNotAllowed = codes "405 Method Not Allowed"
+status_text Forbidden = codes "403 Forbidden"
 status_text Conflict = codes "409 Conflict"
 status_text LengthRequired = codes "411 Length Required"
 status_text ContentTooLarge = codes "413 Content Too Large"

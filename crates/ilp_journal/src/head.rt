@@ -29,8 +29,8 @@ pub fn opened(moment: i64, peer: u32, balance: i64) -> Option<Entry>
     Some(head_entry(moment, What::Opened { peer, balance }))
 }
 
-/// A credit of the period that ends, of the peer at this place. `AllocError` tells that memory for its
-/// key is short.
+/// A credit or a correction of the period that ends, of the peer at this place. `AllocError` tells that memory for its
+/// key or its reason is short.
 pub fn known(
     alloc: Global,
     moment: i64,
@@ -45,6 +45,7 @@ pub fn known(
         named: credited.named,
         scale: credited.scale,
         credited: credited.credited,
+        kind: credited.kind.copied(alloc)?,
     };
     Ok(head_entry(moment, What::Known(same)))
 }

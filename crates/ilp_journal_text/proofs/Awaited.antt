@@ -9,11 +9,13 @@ use Rattle.ilp_accounts.specs.Valid.{IsValid}
 use Rattle.ilp_journal.specs.declared.entry.Entry.{Entry}
 use Rattle.ilp_journal.specs.declared.entry.What.{What}
 use Rattle.ilp_journal.specs.declared.entry.What.TheVariants as what
+use Rattle.ilp_journal.specs.declared.credit_kind.CreditKind.{CreditKind}
+use Rattle.ilp_journal.specs.declared.credit_kind.CreditKind.TheVariants.{Settled, Raised, Lowered}
 use Rattle.ilp_journal.specs.declared.entry.Cause.{Cause}
 use Rattle.ilp_journal.specs.declared.entry.Cause.TheVariants.{Late, WrongPreimage, NoReply, Peer, Restart}
 use Rattle.ilp_journal_text.specs.declared.fields.LineFault.{LineFault}
 use Rattle.ilp_journal_text.specs.declared.fields.LineFault.TheVariants.{Bad}
-use Rattle.ilp_journal_text.specs.Text.{cause_fields, what_fields, entry_line}
+use Rattle.ilp_journal_text.specs.Text.{cause_fields, kind_fields, what_fields, entry_line}
 use Rattle.ilp_journal_text.specs.Reading.{CanStand, IsTyped, IsLine, HasNoNul}
 use Rattle.ilp_journal_text.specs.Fields.{is_space, is_line_end, entry_fields, Gives}
 use Rattle.ilp_journal_text.proofs.Ink.{moment_ink, further_ink, typed_of}
@@ -30,17 +32,22 @@ cause_few NoReply = omega arith
 cause_few (Peer code) = omega arith
 cause_few Restart = omega arith
 
+kind_few : (kind : CreditKind) → length (kind_fields kind) ≤ 2
+kind_few Settled = omega arith
+kind_few (Raised reason) = omega arith
+kind_few (Lowered reason) = omega arith
+
 module _ (C : Configuration) where
   what_few : (w : What) → length (what_fields C w) ≤ 8
   what_few (what.Hold h) = omega arith
   what_few (what.Fulfilled hold preimage) = omega arith
   what_few (what.Released hold cause) = omega (arith, cause_few cause)
-  what_few (what.Credited c) = omega arith
+  what_few (what.Credited c) = omega (arith, kind_few c.kind)
   what_few (what.Asked a) = omega arith
   what_few (what.Confirmed ask) = omega arith
   what_few (what.Undone ask) = omega arith
   what_few (what.Opened peer balance) = omega arith
-  what_few (what.Known c) = omega arith
+  what_few (what.Known c) = omega (arith, kind_few c.kind)
   what_few (what.Pending peer amount key) = omega arith
 
   -- no line has more than ten fields

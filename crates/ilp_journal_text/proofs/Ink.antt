@@ -19,10 +19,13 @@ use Rattle.ilp_accounts.specs.Valid.{IsValid, HasForm, IsPeer as IsGivenPeer}
 use Rattle.ilp_journal.specs.declared.entry.Entry.{Entry}
 use Rattle.ilp_journal.specs.declared.entry.What.{What}
 use Rattle.ilp_journal.specs.declared.entry.What.TheVariants as what
+use Rattle.ilp_journal.specs.declared.entry.Credited.{Credited}
+use Rattle.ilp_journal.specs.declared.credit_kind.CreditKind.{CreditKind}
+use Rattle.ilp_journal.specs.declared.credit_kind.CreditKind.TheVariants.{Settled, Raised, Lowered}
 use Rattle.ilp_journal.specs.declared.entry.Cause.{Cause}
 use Rattle.ilp_journal.specs.declared.entry.Cause.TheVariants.{Late, WrongPreimage, NoReply, Peer, Restart}
-use Rattle.ilp_journal_text.specs.Text.{name_at, cause_fields, what_fields}
-use Rattle.ilp_journal_text.specs.Reading.{IsMoment, CauseStands, WhatStands, CanStand, WhatIsTyped, IsTyped}
+use Rattle.ilp_journal_text.specs.Text.{name_at, cause_fields, kind_fields, credit_word, credited_fields, what_fields}
+use Rattle.ilp_journal_text.specs.Reading.{IsMoment, CauseStands, KindStands, WhatStands, CanStand, CreditIsTyped, WhatIsTyped, IsTyped}
 
 -- neither a space nor a line end
 abbrev pub IsInk : ℕ → Type 0
@@ -98,6 +101,24 @@ module _ (C : Configuration) (valid : IsValid C) where
   amount_ink : (n : ℕ) → n < 2 ^ 64 → All IsInk (decimal n)
   amount_ink n fits = decimal_ink n (omega (arith, fits))
 
+  credit_word_ink : (kind : CreditKind) → All IsInk (credit_word kind)
+  credit_word_ink Settled = word_ink (codes "credited") refl
+  credit_word_ink (Raised reason) = word_ink (codes "corrected") refl
+  credit_word_ink (Lowered reason) = word_ink (codes "corrected") refl
+
+  kind_ink : (kind : CreditKind) → KindStands kind → AreInk (kind_fields kind)
+  kind_ink Settled typed = are_ink [] tt
+  kind_ink (Raised reason) typed = are_ink (kind_fields (Raised reason)) (word_ink (codes "rises") refl, (hex_ink reason typed.1, tt))
+  kind_ink (Lowered reason) typed = are_ink (kind_fields (Lowered reason)) (word_ink (codes "falls") refl, (hex_ink reason typed.1, tt))
+
+  credit_ink : (c : Credited) → CreditIsTyped c → AreInk (credited_fields C c)
+  credit_ink c typed =
+      All-cons (All IsInk) (name_at C c.peer) (encode_lower c.key ∷ decimal c.named ∷ decimal c.scale ∷ decimal c.credited ∷ kind_fields c.kind) (peer_ink c.peer)
+      (All-cons (All IsInk) (encode_lower c.key) (decimal c.named ∷ decimal c.scale ∷ decimal c.credited ∷ kind_fields c.kind) (hex_ink c.key typed.key.1)
+      (All-cons (All IsInk) (decimal c.named) (decimal c.scale ∷ decimal c.credited ∷ kind_fields c.kind) (decimal_ink c.named (omega (arith, typed.named)))
+      (All-cons (All IsInk) (decimal c.scale) (decimal c.credited ∷ kind_fields c.kind) (decimal_ink c.scale (omega (arith, typed.scale)))
+      (All-cons (All IsInk) (decimal c.credited) (kind_fields c.kind) (amount_ink c.credited typed.credited) (kind_ink c.kind typed.kind)))))
+
   pub what_ink : (w : What) → WhatIsTyped w → AreInk (what_fields C w)
   what_ink (what.Hold h) typed =
       are_ink (what_fields C (what.Hold h)) (
@@ -121,40 +142,14 @@ module _ (C : Configuration) (valid : IsValid C) where
   what_ink (what.Released hold cause) typed =
       All-cons (All IsInk) (codes "released") (decimal hold ∷ cause_fields cause) (word_ink (codes "released") refl)
       (All-cons (All IsInk) (decimal hold) (cause_fields cause) (number_ink hold typed.0) (cause_ink cause typed.1))
-  what_ink (what.Credited c) typed =
-      are_ink (what_fields C (what.Credited c)) (
-        word_ink (codes "credited") refl,
-        (
-          peer_ink c.peer,
-          (
-            hex_ink c.key typed.key.1,
-            (
-              decimal_ink c.named (omega (arith, typed.named)),
-              (decimal_ink c.scale (omega (arith, typed.scale)), (amount_ink c.credited typed.credited, tt)),
-            ),
-          ),
-        ),
-      )
+  what_ink (what.Credited c) typed = All-cons (All IsInk) (credit_word c.kind) (credited_fields C c) (credit_word_ink c.kind) (credit_ink c typed)
   what_ink (what.Asked a) typed =
       are_ink (what_fields C (what.Asked a)) (word_ink (codes "asked") refl, (peer_ink a.peer, (amount_ink a.amount typed, tt)))
   what_ink (what.Confirmed ask) typed = are_ink (what_fields C (what.Confirmed ask)) (word_ink (codes "confirmed") refl, (number_ink ask typed, tt))
   what_ink (what.Undone ask) typed = are_ink (what_fields C (what.Undone ask)) (word_ink (codes "undone") refl, (number_ink ask typed, tt))
   what_ink (what.Opened peer balance) typed =
       are_ink (what_fields C (what.Opened peer balance)) (word_ink (codes "opened") refl, (peer_ink peer, (moment_ink balance typed, tt)))
-  what_ink (what.Known c) typed =
-      are_ink (what_fields C (what.Known c)) (
-        word_ink (codes "known") refl,
-        (
-          peer_ink c.peer,
-          (
-            hex_ink c.key typed.key.1,
-            (
-              decimal_ink c.named (omega (arith, typed.named)),
-              (decimal_ink c.scale (omega (arith, typed.scale)), (amount_ink c.credited typed.credited, tt)),
-            ),
-          ),
-        ),
-      )
+  what_ink (what.Known c) typed = All-cons (All IsInk) (codes "known") (credited_fields C c) (word_ink (codes "known") refl) (credit_ink c typed)
   what_ink (what.Pending peer amount key) typed =
       are_ink (what_fields C (what.Pending peer amount key)) (word_ink (codes "pending") refl, (peer_ink peer, (amount_ink amount typed.0, (hex_ink key typed.1.1, tt))))
 
@@ -174,10 +169,10 @@ typed_of C e stands = record { moment = moment_fits e.moment stands.moment; acto
     of (what.Hold h) stands = record { amount = stands.amount; fee = stands.fee; out = stands.out; deadline = moment_fits h.deadline stands.deadline; condition = stands.condition }
     of (what.Fulfilled hold preimage) stands = stands
     of (what.Released hold cause) stands = stands
-    of (what.Credited c) stands = record { key = stands.key; named = stands.named; scale = stands.scale; credited = stands.credited }
+    of (what.Credited c) stands = record { key = stands.key; named = stands.named; scale = stands.scale; credited = stands.credited; kind = stands.kind }
     of (what.Asked a) stands = stands.1
     of (what.Confirmed ask) stands = stands
     of (what.Undone ask) stands = stands
     of (what.Opened peer balance) stands = stands.1
-    of (what.Known c) stands = record { key = stands.key; named = stands.named; scale = stands.scale; credited = stands.credited }
+    of (what.Known c) stands = record { key = stands.key; named = stands.named; scale = stands.scale; credited = stands.credited; kind = stands.kind }
     of (what.Pending peer amount key) stands = (stands.1, stands.2)

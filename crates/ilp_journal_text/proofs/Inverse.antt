@@ -1,7 +1,8 @@
 -- The fields of an entry give the entry back.
-use Rattle.std.proofs.Common.{◌≡◌, ◌≢◌, ℕ, suc, ◌^◌, ◌<◌, ℤ, pos, negsuc, ◌-ℤ◌, Bool, true, false, cond, ◌==◌, subst, List, [], ◌∷◌, Option, Some, None, unwrap_or, drop, slice_index_or, sym, ap, ◌∙◌, refl, arith, w64, FitsSigned}
+use Rattle.std.proofs.Common.{◌≡◌, ◌≢◌, ℕ, suc, ◌^◌, ◌<◌, ℤ, pos, negsuc, ◌-ℤ◌, Bool, true, false, cond, ◌==◌, subst, List, [], ◌∷◌, Option, Some, None, unwrap_or, drop, slice_index_or, codes, sym, ap, ◌∙◌, refl, arith, w64, FitsSigned}
 use Rattle.std.specs.Fmt.{decimal, signed_decimal}
 use Rattle.std.specs.Result.{result_unwrap_or}
+use Rattle.std.specs.Str.{bytes_eq}
 use Rattle.std.specs.Str.Parse.{AllDigits, digits_value}
 use Rattle.std.proofs.lemmas.Bool.{eqb-true}
 use Rattle.std.proofs.lemmas.Str.Parse.{digit_from_value}
@@ -14,12 +15,15 @@ use Rattle.ilp_accounts.specs.Valid.{IsValid}
 use Rattle.ilp_journal.specs.declared.entry.Entry.{Entry}
 use Rattle.ilp_journal.specs.declared.entry.What.{What}
 use Rattle.ilp_journal.specs.declared.entry.What.TheVariants as what
+use Rattle.ilp_journal.specs.declared.entry.Credited.{Credited}
+use Rattle.ilp_journal.specs.declared.credit_kind.CreditKind.{CreditKind}
+use Rattle.ilp_journal.specs.declared.credit_kind.CreditKind.TheVariants.{Settled, Raised, Lowered}
 use Rattle.ilp_journal.specs.declared.entry.Cause.{Cause}
 use Rattle.ilp_journal.specs.declared.entry.Cause.TheVariants.{Late, WrongPreimage, NoReply, Peer, Restart}
 use Rattle.ilp_journal_text.specs.declared.parsing.Kind.{Kind}
 use Rattle.ilp_journal_text.specs.declared.parsing.Kind.TheVariants as kind
-use Rattle.ilp_journal_text.specs.Text.{name_at, cause_fields, what_fields}
-use Rattle.ilp_journal_text.specs.Reading.{IsPeer, IsMoment, CauseStands, WhatStands, CanStand}
+use Rattle.ilp_journal_text.specs.Text.{name_at, cause_fields, kind_fields, credit_word, credited_fields, what_fields}
+use Rattle.ilp_journal_text.specs.Reading.{IsPeer, IsMoment, CauseStands, KindStands, CreditStands, WhatStands, CanStand}
 use Rattle.ilp_journal_text.specs.Fields.{kind_of, named_cause, entry_fields}
 use Rattle.ilp_journal_text.proofs.Peers.{peer_back}
 use Rattle.ilp_journal_text.proofs.Same.{made_hold, same_hold, made_credited, same_credited, made_ask, same_ask, made_entry, same_entry}
@@ -80,6 +84,10 @@ module _ (C : Configuration) where
   cause_of : List (List ℕ) → Cause
   cause_of fields = unwrap_or (named_cause (field_at fields 0)) (Peer (octets_of (field_at fields 1)))
 
+  credit_kind_of : List (List ℕ) → CreditKind
+  credit_kind_of [] = Settled
+  credit_kind_of (word ∷ fields) = cond (bytes_eq word (codes "rises")) (Raised (octets_of (field_at fields 0))) (Lowered (octets_of (field_at fields 0)))
+
   -- what the fields behind the word tell
   told : Option Kind → List (List ℕ) → What
   told (Some kind.Hold) f =
@@ -87,13 +95,13 @@ module _ (C : Configuration) where
   told (Some kind.Fulfilled) f = what.Fulfilled (digits_value 10 (field_at f 0)) (octets_of (field_at f 1))
   told (Some kind.Released) f = what.Released (digits_value 10 (field_at f 0)) (cause_of (drop 1 f))
   told (Some kind.Credited) f =
-      what.Credited (made_credited (peer_of (field_at f 0)) (octets_of (field_at f 1)) (digits_value 10 (field_at f 2)) (digits_value 10 (field_at f 3)) (digits_value 10 (field_at f 4)))
+      what.Credited (made_credited (peer_of (field_at f 0)) (octets_of (field_at f 1)) (digits_value 10 (field_at f 2)) (digits_value 10 (field_at f 3)) (digits_value 10 (field_at f 4)) (credit_kind_of (drop 5 f)))
   told (Some kind.Asked) f = what.Asked (made_ask (peer_of (field_at f 0)) (digits_value 10 (field_at f 1)))
   told (Some kind.Confirmed) f = what.Confirmed (digits_value 10 (field_at f 0))
   told (Some kind.Undone) f = what.Undone (digits_value 10 (field_at f 0))
   told (Some kind.Opened) f = what.Opened (peer_of (field_at f 0)) (balance_of (field_at f 1))
   told (Some kind.Known) f =
-      what.Known (made_credited (peer_of (field_at f 0)) (octets_of (field_at f 1)) (digits_value 10 (field_at f 2)) (digits_value 10 (field_at f 3)) (digits_value 10 (field_at f 4)))
+      what.Known (made_credited (peer_of (field_at f 0)) (octets_of (field_at f 1)) (digits_value 10 (field_at f 2)) (digits_value 10 (field_at f 3)) (digits_value 10 (field_at f 4)) (credit_kind_of (drop 5 f)))
   told (Some kind.Pending) f = what.Pending (peer_of (field_at f 0)) (digits_value 10 (field_at f 1)) (octets_of (field_at f 2))
   told None f = what.Undone 0
 
@@ -111,6 +119,12 @@ module _ (C : Configuration) where
   cause_back (Peer code) stands = ap Peer (octets_back code stands.1)
   cause_back Restart stands = refl
 
+  kind_back : (k : CreditKind) → KindStands k → credit_kind_of (kind_fields k) ≡ k
+  unfolding credit_kind_of field_at
+  kind_back Settled stands = refl
+  kind_back (Raised reason) stands = ap Raised (octets_back reason stands.1)
+  kind_back (Lowered reason) stands = ap Lowered (octets_back reason stands.1)
+
   small_back : (n : ℕ) → n < 2 ^ 32 → digits_value 10 (decimal n) ≡ n
   small_back n fits = number_back n (omega (arith, fits))
 
@@ -122,6 +136,18 @@ module _ (C : Configuration) where
     unfolding peer_of
     place_back peer known = ap (λ (place : Option ℕ). unwrap_or place 0) (sym (peer_back C valid peer known))
 
+    -- a credit and a correction have one kind of line
+    word_back : (k : CreditKind) → kind_of (credit_word k) ≡ Some kind.Credited
+    word_back Settled = refl
+    word_back (Raised reason) = refl
+    word_back (Lowered reason) = refl
+
+    credit_back : (c : Credited) → CreditStands C c
+        → made_credited (peer_of (name_at C c.peer)) (octets_of (encode_lower c.key)) (digits_value 10 (decimal c.named)) (digits_value 10 (decimal c.scale)) (digits_value 10 (decimal c.credited)) (credit_kind_of (kind_fields c.kind)) ≡ c
+    credit_back c stands =
+        same_credited c _ _ _ _ _ _ (place_back c.peer stands.peer) (octets_back c.key stands.key.1) (number_back c.named (omega (arith, stands.named))) (number_back c.scale (omega (arith, stands.scale)))
+        (amount_back c.credited stands.credited) (kind_back c.kind stands.kind)
+
     what_back : (w : What) → WhatStands C w → what_of (what_fields C w) ≡ w
     unfolding what_of told field_at
     what_back (what.Hold h) stands =
@@ -131,17 +157,13 @@ module _ (C : Configuration) where
         ap (λ n. what.Fulfilled n (octets_of (encode_lower preimage))) (small_back hold stands.0) ∙ ap (what.Fulfilled hold) (octets_back preimage stands.1.1)
     what_back (what.Released hold cause) stands =
         ap (λ n. what.Released n (cause_of (cause_fields cause))) (small_back hold stands.0) ∙ ap (what.Released hold) (cause_back cause stands.1)
-    what_back (what.Credited c) stands =
-        ap what.Credited (same_credited c _ _ _ _ _ (place_back c.peer stands.peer) (octets_back c.key stands.key.1) (number_back c.named (omega (arith, stands.named))) (number_back c.scale (omega (arith, stands.scale)))
-        (amount_back c.credited stands.credited))
+    what_back (what.Credited c) stands = ap (λ k. told k (credited_fields C c)) (word_back c.kind) ∙ ap what.Credited (credit_back c stands)
     what_back (what.Asked a) stands = ap what.Asked (same_ask a _ _ (place_back a.peer stands.0) (amount_back a.amount stands.1))
     what_back (what.Confirmed ask) stands = ap what.Confirmed (small_back ask stands)
     what_back (what.Undone ask) stands = ap what.Undone (small_back ask stands)
     what_back (what.Opened peer balance) stands =
         ap (λ p. what.Opened p (balance_of (signed_decimal balance))) (place_back peer stands.0) ∙ ap (what.Opened peer) (balance_back balance stands.1)
-    what_back (what.Known c) stands =
-        ap what.Known (same_credited c _ _ _ _ _ (place_back c.peer stands.peer) (octets_back c.key stands.key.1) (number_back c.named (omega (arith, stands.named))) (number_back c.scale (omega (arith, stands.scale)))
-        (amount_back c.credited stands.credited))
+    what_back (what.Known c) stands = ap what.Known (credit_back c stands)
     what_back (what.Pending peer amount key) stands =
         ap (λ p. what.Pending p (digits_value 10 (decimal amount)) (octets_of (encode_lower key))) (place_back peer stands.0)
         ∙ ap (λ n. what.Pending peer n (octets_of (encode_lower key))) (amount_back amount stands.1)

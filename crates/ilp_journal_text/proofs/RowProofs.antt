@@ -2,11 +2,15 @@
 use Rattle.std.proofs.Common.{refl}
 use Rattle.std.specs.Fmt.{digits}
 use Rattle.hex.proofs.OnLiterals.{hex_on_literals}
-use Rattle.ilp_journal_text.specs.Rows.{PaidRow, ReleasedRow, EmptyRow, LaterRow, LinesRow}
+use Rattle.ilp_journal_text.specs.Rows.{PaidRow, CorrectedRow, ReleasedRow, EmptyRow, LaterRow, LinesRow}
 
 pub paid_row : PaidRow
 unfolding digits hex_on_literals
 paid_row = refl
+
+pub corrected_row : CorrectedRow
+unfolding digits hex_on_literals
+corrected_row = refl
 
 pub released_row : ReleasedRow
 unfolding digits hex_on_literals

@@ -4,6 +4,7 @@ use Rattle.ilp_journal.specs.declared.entry.Entry.{Entry}
 use Rattle.ilp_journal.specs.declared.entry.What.{What}
 use Rattle.ilp_journal.specs.declared.entry.Hold.{Hold}
 use Rattle.ilp_journal.specs.declared.entry.Credited.{Credited}
+use Rattle.ilp_journal.specs.declared.credit_kind.CreditKind.{CreditKind}
 use Rattle.ilp_journal.specs.declared.entry.Ask.{Ask}
 
 abbrev pub made_hold : ℕ → ℕ → ℕ → ℕ → ℕ → ℤ → List ℕ → Hold
@@ -14,12 +15,12 @@ pub same_hold : (h : Hold) (from to amount fee out : ℕ) (deadline : ℤ) (cond
     → made_hold from to amount fee out deadline condition ≡ h
 same_hold h from to amount fee out deadline condition p q r s t u v = rw (p, q, r, s, t, u, v)
 
-abbrev pub made_credited : ℕ → List ℕ → ℕ → ℕ → ℕ → Credited
-made_credited peer key named scale credited = record { peer = peer; key = key; named = named; scale = scale; credited = credited }
+abbrev pub made_credited : ℕ → List ℕ → ℕ → ℕ → ℕ → CreditKind → Credited
+made_credited peer key named scale credited kind = record { peer = peer; key = key; named = named; scale = scale; credited = credited; kind = kind }
 
-pub same_credited : (c : Credited) (peer : ℕ) (key : List ℕ) (named scale credited : ℕ) → peer ≡ c.peer → key ≡ c.key → named ≡ c.named → scale ≡ c.scale → credited ≡ c.credited
-    → made_credited peer key named scale credited ≡ c
-same_credited c peer key named scale credited p q r s t = rw (p, q, r, s, t)
+pub same_credited : (c : Credited) (peer : ℕ) (key : List ℕ) (named scale credited : ℕ) (kind : CreditKind) → peer ≡ c.peer → key ≡ c.key → named ≡ c.named → scale ≡ c.scale → credited ≡ c.credited → kind ≡ c.kind
+    → made_credited peer key named scale credited kind ≡ c
+same_credited c peer key named scale credited kind p q r s t u = rw (p, q, r, s, t, u)
 
 abbrev pub made_ask : ℕ → ℕ → Ask
 made_ask peer amount = record { peer = peer; amount = amount }

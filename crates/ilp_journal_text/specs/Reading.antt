@@ -9,6 +9,8 @@ use Rattle.ilp_journal.specs.declared.entry.What.{What}
 use Rattle.ilp_journal.specs.declared.entry.What.TheVariants as what
 use Rattle.ilp_journal.specs.declared.entry.Hold.{Hold}
 use Rattle.ilp_journal.specs.declared.entry.Credited.{Credited}
+use Rattle.ilp_journal.specs.declared.credit_kind.CreditKind.{CreditKind}
+use Rattle.ilp_journal.specs.declared.credit_kind.CreditKind.TheVariants.{Settled, Raised, Lowered}
 use Rattle.ilp_journal.specs.declared.entry.Cause.{Cause}
 use Rattle.ilp_journal.specs.declared.entry.Cause.TheVariants.{Peer}
 use Rattle.ilp_journal.specs.Journal.{Entries}
@@ -46,12 +48,19 @@ abbrev pub CauseStands : Cause → Type 0
 CauseStands (Peer code) = AreOctets 3 code
 CauseStands _ = ⊤
 
+-- a reason has as many octets as a key may have
+abbrev pub KindStands : CreditKind → Type 0
+KindStands Settled = ⊤
+KindStands (Raised reason) = IsKey reason × IsBytes reason
+KindStands (Lowered reason) = IsKey reason × IsBytes reason
+
 pub record CreditStands (C : Configuration) (c : Credited) : Type 0 where
   pub peer : IsPeer C c.peer
   pub key : IsKey c.key × IsBytes c.key
   pub named : c.named < 2 ^ 128
   pub scale : c.scale < 2 ^ 8
   pub credited : c.credited < 2 ^ 64
+  pub kind : KindStands c.kind
 
 abbrev pub WhatStands : Configuration → What → Type 0
 WhatStands C (what.Hold h) = HoldStands C h
@@ -90,6 +99,7 @@ pub record CreditIsTyped (c : Credited) : Type 0 where
   pub named : c.named < 2 ^ 128
   pub scale : c.scale < 2 ^ 8
   pub credited : c.credited < 2 ^ 64
+  pub kind : KindStands c.kind
 
 abbrev pub WhatIsTyped : What → Type 0
 WhatIsTyped (what.Hold h) = HoldIsTyped h

@@ -5,6 +5,7 @@ use Rattle.ilp_accounts.specs.declared.settings.LogSync.TheVariants.{Group}
 use Rattle.ilp_journal.specs.declared.entry.Entry.{Entry}
 use Rattle.ilp_journal.specs.declared.entry.What.{What}
 use Rattle.ilp_journal.specs.declared.entry.What.TheVariants as what
+use Rattle.ilp_journal.specs.declared.credit_kind.CreditKind.TheVariants.{Settled, Raised, Lowered}
 use Rattle.ilp_journal.specs.declared.entry.Cause.TheVariants.{Late, WrongPreimage, NoReply, Peer, Restart}
 use Rattle.ilp_journal_text.specs.Text.{entry_lines, journal_text}
 
@@ -46,7 +47,7 @@ abbrev pub PaidRow : Type 0
 PaidRow = journal_text config 0 (
     booked 0 hold
     ∷ booked 500 (what.Fulfilled 0 (replicate 32 171))
-    ∷ booked 500 (what.Credited (record { peer = 0; key = codes "k~"; named = 1999999999; scale = 9; credited = 199 }))
+    ∷ booked 500 (what.Credited (record { peer = 0; key = codes "k~"; named = 1999999999; scale = 9; credited = 199; kind = Settled }))
     ∷ booked 600 (what.Asked (record { peer = 1; amount = 800 }))
     ∷ booked 700 (what.Undone 3)
     ∷ []) ≡
@@ -57,6 +58,19 @@ PaidRow = journal_text config 0 (
     ++ codes "600 0 asked bob 800\n"
     ++ codes "700 0 undone 3\n"
     ++ codes "end 5\n"
+
+-- a correction in each direction, and one of an earlier period
+abbrev pub CorrectedRow : Type 0
+CorrectedRow = journal_text config 1 (
+    booked 500 (what.Known (record { peer = 0; key = codes "k~"; named = 5; scale = 0; credited = 500; kind = Lowered (codes "back") }))
+    ∷ booked 500 (what.Credited (record { peer = 0; key = codes "c1"; named = 1500; scale = 2; credited = 1500; kind = Lowered (codes "charged back") }))
+    ∷ booked 600 (what.Credited (record { peer = 1; key = codes "c2"; named = 20; scale = 2; credited = 20; kind = Raised (codes "late") }))
+    ∷ []) ≡
+    codes "ilp-journal 2 1\n"
+    ++ codes "500 0 known alice 6b7e 5 0 500 falls 6261636b\n"
+    ++ codes "500 0 corrected alice 6331 1500 2 1500 falls 63686172676564206261636b\n"
+    ++ codes "600 0 corrected bob 6332 20 2 20 rises 6c617465\n"
+    ++ codes "end 3\n"
 
 -- each cause of a release
 abbrev pub ReleasedRow : Type 0
@@ -86,7 +100,7 @@ abbrev pub LaterRow : Type 0
 LaterRow = journal_text config 2 (
     booked 700 (what.Opened 0 (negsuc 99))
     ∷ booked 700 (what.Opened 1 (pos 216))
-    ∷ booked 700 (what.Known (record { peer = 0; key = codes "k~"; named = 1999999999; scale = 9; credited = 199 }))
+    ∷ booked 700 (what.Known (record { peer = 0; key = codes "k~"; named = 1999999999; scale = 9; credited = 199; kind = Settled }))
     ∷ booked 700 (what.Pending 1 800 (codes "r1-3"))
     ∷ booked 900 (what.Confirmed 3)
     ∷ []) ≡

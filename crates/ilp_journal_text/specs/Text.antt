@@ -9,6 +9,8 @@ use Rattle.ilp_journal.specs.declared.entry.What.{What}
 use Rattle.ilp_journal.specs.declared.entry.What.TheVariants as what
 use Rattle.ilp_journal.specs.declared.entry.Hold.{Hold}
 use Rattle.ilp_journal.specs.declared.entry.Credited.{Credited}
+use Rattle.ilp_journal.specs.declared.credit_kind.CreditKind.{CreditKind}
+use Rattle.ilp_journal.specs.declared.credit_kind.CreditKind.TheVariants.{Settled, Raised, Lowered}
 use Rattle.ilp_journal.specs.declared.entry.Cause.{Cause}
 use Rattle.ilp_journal.specs.declared.entry.Cause.TheVariants.{Late, WrongPreimage, NoReply, Peer, Restart}
 use Rattle.ilp_journal.specs.Journal.{Entries}
@@ -33,20 +35,32 @@ cause_fields NoReply = codes "NoReply" ∷ []
 cause_fields (Peer code) = codes "Peer" ∷ encode_lower code ∷ []
 cause_fields Restart = codes "Restart" ∷ []
 
--- the fields of a hold and of a credit
+-- the fields of a hold
 abbrev pub hold_fields : Configuration → Hold → List (List ℕ)
 hold_fields C h =
     name_at C h.from ∷ name_at C h.to ∷ decimal h.amount ∷ decimal h.fee ∷ decimal h.out ∷ signed_decimal h.deadline ∷ encode_lower h.condition ∷ []
 
+-- the word of a credit, and that of a correction
+abbrev pub credit_word : CreditKind → List ℕ
+credit_word Settled = codes "credited"
+credit_word (Raised reason) = codes "corrected"
+credit_word (Lowered reason) = codes "corrected"
+
+-- a correction has its direction behind its other fields, and its reason, which is hexadecimal
+abbrev pub kind_fields : CreditKind → List (List ℕ)
+kind_fields Settled = []
+kind_fields (Raised reason) = codes "rises" ∷ encode_lower reason ∷ []
+kind_fields (Lowered reason) = codes "falls" ∷ encode_lower reason ∷ []
+
 abbrev pub credited_fields : Configuration → Credited → List (List ℕ)
-credited_fields C c = name_at C c.peer ∷ encode_lower c.key ∷ decimal c.named ∷ decimal c.scale ∷ decimal c.credited ∷ []
+credited_fields C c = name_at C c.peer ∷ encode_lower c.key ∷ decimal c.named ∷ decimal c.scale ∷ decimal c.credited ∷ kind_fields c.kind
 
 -- what happened: its word, then its fields in the order in which the entry lists them
 abbrev pub what_fields : Configuration → What → List (List ℕ)
 what_fields C (what.Hold h) = codes "hold" ∷ hold_fields C h
 what_fields C (what.Fulfilled hold preimage) = codes "fulfilled" ∷ decimal hold ∷ encode_lower preimage ∷ []
 what_fields C (what.Released hold cause) = codes "released" ∷ decimal hold ∷ cause_fields cause
-what_fields C (what.Credited c) = codes "credited" ∷ credited_fields C c
+what_fields C (what.Credited c) = credit_word c.kind ∷ credited_fields C c
 what_fields C (what.Asked a) = codes "asked" ∷ name_at C a.peer ∷ decimal a.amount ∷ []
 what_fields C (what.Confirmed ask) = codes "confirmed" ∷ decimal ask ∷ []
 what_fields C (what.Undone ask) = codes "undone" ∷ decimal ask ∷ []

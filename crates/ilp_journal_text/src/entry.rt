@@ -1,15 +1,15 @@
 //! The line of an entry.
-ghost use Rattle.std.specs.Prelude.{◌≡◌, ◌+◌, ◌<◌, ◌≤◌, ◌^◌, ◌++◌, length, FitsSigned};
+ghost use Rattle.std.specs.Prelude.{◌≡◌, ◌+◌, ◌<◌, ◌≤◌, ◌^◌, ◌++◌, ◌∷◌, [], length, FitsSigned};
 ghost use Rattle.std.specs.Int.{w64};
 ghost use Rattle.std.specs.List.{flat_map};
-ghost use Rattle.hex.specs.Hex.{IsBytes};
+ghost use Rattle.hex.specs.Hex.{IsBytes, encode_lower};
 ghost use Rattle.ilp_journal.specs.Keys.{IsKey};
-ghost use Rattle.ilp_journal_text.specs.Reading.{CauseStands, CreditIsTyped, HasNoNul, HoldIsTyped, IsLine, IsTyped, WhatIsTyped};
-ghost use Rattle.ilp_journal_text.specs.Text.{after_space, name_at, cause_fields, credited_fields, what_fields, entry_line};
+ghost use Rattle.ilp_journal_text.specs.Reading.{CauseStands, KindStands, CreditIsTyped, HasNoNul, HoldIsTyped, IsLine, IsTyped, WhatIsTyped};
+ghost use Rattle.ilp_journal_text.specs.Text.{after_space, name_at, cause_fields, kind_fields, credit_word, credited_fields, what_fields, entry_line};
 
 use crate::line::Line;
 use ilp_accounts::Config;
-use ilp_journal::{Cause, Credited, Entry, Hold, Key, What};
+use ilp_journal::{Cause, CreditKind, Credited, Entry, Hold, Key, Reason, What};
 
 // The most octets that stand before what an entry's line tells.
 const LONGEST_FRONT: usize = 81;
@@ -41,7 +41,7 @@ pub fn entry_line(config: &Config, entry: &Entry) -> Line
 fn put_what(line: &mut Line, config: &Config, what: &What)
     requires front { length line.old ≤ LONGEST_FRONT }
     ensures octets { line.new ≡ line.old ++ flat_map after_space (what_fields config.now what.now) }
-    ensures short { length line.new ≤ 511 }
+    ensures short { length line.new ≤ 767 }
     ensures typed { WhatIsTyped what.now }
 {
     match what {
@@ -57,7 +57,7 @@ fn put_what(line: &mut Line, config: &Config, what: &What)
             put_cause(line, *cause);
         }
         What::Credited(credited) => {
-            line.word("credited");
+            line.word(credit_word(&credited.kind));
             put_credit(line, config, credited);
         }
         What::Asked(ask) => {
@@ -100,12 +100,23 @@ fn put_hold(line: &mut Line, config: &Config, hold: &Hold)
     line.hexadecimal(&hold.condition);
 }
 
-// Adds what a credit tells.
+// The word of a credit, and that of a correction.
+fn credit_word(kind: &CreditKind) -> &'static str
+    ensures word { result.now ≡ credit_word kind.now }
+    ensures short { length result.now + 1 ≤ LONGEST_WORD }
+{
+    match kind {
+        CreditKind::Settled => "credited",
+        CreditKind::Raised(_) | CreditKind::Lowered(_) => "corrected",
+    }
+}
+
+// Adds what a credit or a correction tells.
 fn put_credit(line: &mut Line, config: &Config, credited: &Credited)
     requires front { length line.old ≤ LONGEST_FRONT + LONGEST_WORD }
     ensures octets { line.new ≡ line.old
         ++ flat_map after_space (credited_fields config.now credited.now) }
-    ensures short { length line.new ≤ 511 }
+    ensures short { length line.new ≤ 767 }
     ensures typed { CreditIsTyped credited.now }
 {
     line.word(name_of(config, credited.peer));
@@ -113,6 +124,34 @@ fn put_credit(line: &mut Line, config: &Config, credited: &Credited)
     line.wide_number(credited.named);
     line.number(u64::from(credited.scale));
     line.number(credited.credited);
+    put_kind(line, &credited.kind);
+}
+
+// Adds which way a correction goes, and why.
+fn put_kind(line: &mut Line, kind: &CreditKind)
+    requires front { length line.old ≤ 490 }
+    ensures octets { line.new ≡ line.old ++ flat_map after_space (kind_fields kind.now) }
+    ensures short { length line.new ≤ 767 }
+    ensures typed { KindStands kind.now }
+{
+    match kind {
+        CreditKind::Settled => {}
+        CreditKind::Raised(reason) => put_correction(line, "rises", reason),
+        CreditKind::Lowered(reason) => put_correction(line, "falls", reason),
+    }
+}
+
+// Adds the word of a direction, and a reason.
+fn put_correction(line: &mut Line, way: &str, reason: &Reason)
+    requires front { length line.old ≤ 490 }
+    requires way { length way.now ≤ LONGEST_WORD }
+    ensures octets { line.new ≡ line.old
+        ++ flat_map after_space (way.now ∷ encode_lower reason.now ∷ []) }
+    ensures short { length line.new ≤ 767 }
+    ensures typed { IsKey reason.now × IsBytes reason.now }
+{
+    line.word(way);
+    line.hexadecimal(reason.as_slice());
 }
 
 // Adds a balance that is brought forward.

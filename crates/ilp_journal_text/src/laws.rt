@@ -6,11 +6,12 @@ ghost use Rattle.ilp_accounts.specs.Valid.{IsValid};
 ghost use Rattle.ilp_journal.specs.Journal.{Entries};
 ghost use Rattle.ilp_journal_text.specs.Text.{entry_lines};
 ghost use Rattle.ilp_journal_text.specs.Reading.{IsTextOf, IsTyped, IsFirstBadLine, IsLine, joined, AreLinesOf, IsFirstBadEntryLine};
-ghost use Rattle.ilp_journal_text.specs.Rows.{PaidRow, ReleasedRow, EmptyRow, LaterRow, LinesRow};
+ghost use Rattle.ilp_journal_text.specs.Rows.{PaidRow, CorrectedRow, ReleasedRow, EmptyRow, LaterRow, LinesRow};
 
 /// Worked texts.
 pub fn rows()
     ensures paid { PaidRow }
+    ensures corrected { CorrectedRow }
     ensures released { ReleasedRow }
     ensures empty { EmptyRow }
     ensures later { LaterRow }

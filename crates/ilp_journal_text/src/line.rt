@@ -8,8 +8,9 @@ use arrayvec::ArrayVec;
 use itoa::Buffer;
 use std::marker::Model;
 
-// No line is longer: a credit's key has 256 digits, and all else in a line fewer than 200 octets.
-pub(crate) const LONGEST: usize = 512;
+// No line is longer: key and reason of a correction have 256 digits each, and all else in a line fewer
+// than 210 octets.
+pub(crate) const LONGEST: usize = 768;
 
 // The most octets of a number with the space before it.
 const LONGEST_NUMBER: usize = 41;

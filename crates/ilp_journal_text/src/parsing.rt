@@ -9,11 +9,13 @@ ghost use Rattle.ilp_accounts.specs.Configuration.{Configuration};
 ghost use Rattle.ilp_journal.specs.declared.entry.What.{What as PlainWhat};
 ghost use Rattle.ilp_journal.specs.declared.entry.Hold.{Hold as PlainHold};
 ghost use Rattle.ilp_journal.specs.declared.entry.Credited.{Credited as PlainCredited};
+ghost use Rattle.ilp_journal.specs.declared.credit_kind.CreditKind.{CreditKind as PlainKind};
+ghost use Rattle.ilp_journal.specs.declared.credit_kind.CreditKind.TheVariants as PlainKinds;
 ghost use Rattle.ilp_journal.specs.declared.entry.Ask.{Ask as PlainAsk};
 ghost use Rattle.ilp_journal.specs.declared.entry.Cause.{Cause as PlainCause};
 ghost use Rattle.ilp_journal.specs.declared.entry.Entry.{Entry as PlainEntry};
-ghost use Rattle.ilp_journal_text.specs.Text.{name_at, what_fields, cause_fields, hold_fields, credited_fields};
-ghost use Rattle.ilp_journal_text.specs.Reading.{IsPeer, AreOctets, CanStand, WhatStands, HoldStands, CreditStands, CauseStands};
+ghost use Rattle.ilp_journal_text.specs.Text.{name_at, what_fields, cause_fields, hold_fields, credited_fields, kind_fields};
+ghost use Rattle.ilp_journal_text.specs.Reading.{IsPeer, AreOctets, CanStand, WhatStands, HoldStands, CreditStands, KindStands, CauseStands};
 ghost use Rattle.ilp_journal_text.specs.Fields.{octets_of, entry_fields, kind_of, named_cause, Gives};
 
 use crate::fields::{
@@ -21,7 +23,7 @@ use crate::fields::{
     scale_in, wide_amount_in,
 };
 use ilp_accounts::Config;
-use ilp_journal::{Ask, Cause, Credited, Entry, Hold, What};
+use ilp_journal::{Ask, Cause, CreditKind, Credited, Entry, Hold, Reason, What};
 
 // The kinds of what happened.
 #[derive(Clone, Copy)]
@@ -29,6 +31,7 @@ enum Kind {
     Hold,
     Fulfilled,
     Released,
+    /// A credit, or a correction.
     Credited,
     Asked,
     Confirmed,
@@ -92,6 +95,8 @@ fn kind_of(word: &[u8]) -> Option<Kind>
     } else if word == b"released".as_slice() {
         Some(Kind::Released)
     } else if word == b"credited".as_slice() {
+        Some(Kind::Credited)
+    } else if word == b"corrected".as_slice() {
         Some(Kind::Credited)
     } else if word == b"asked".as_slice() {
         Some(Kind::Asked)
@@ -202,13 +207,13 @@ fn coded_cause(word: &[u8], code: &[u8]) -> Result<Cause, LineFault>
     Ok(Cause::Peer(octets_in(code)?))
 }
 
-// A credit.
+// A credit, or a correction.
 fn credit_in(config: &Config, told: &[&[u8]]) -> Result<Credited, LineFault>
     ensures read { (c : PlainCredited) → CreditStands config.now c
         → octets_of told.now ≡ credited_fields config.now c → Gives result c }
     ensures stands { IfOk result (CreditStands config.now) }
 {
-    let [peer, key, named, scale, credited] = told else {
+    let [peer, key, named, scale, credited, kind @ ..] = told else {
         return Err(LineFault::Bad);
     };
     Ok(Credited {
@@ -217,7 +222,39 @@ fn credit_in(config: &Config, told: &[&[u8]]) -> Result<Credited, LineFault>
         named: wide_amount_in(named)?,
         scale: scale_in(scale)?,
         credited: amount_in(credited)?,
+        kind: kind_in(config, kind)?,
     })
+}
+
+// What a credit is, by what stands behind its other fields.
+fn kind_in(config: &Config, told: &[&[u8]]) -> Result<CreditKind, LineFault>
+    ensures read { (k : PlainKind) → KindStands k → octets_of told.now ≡ kind_fields k
+        → Gives result k }
+    ensures stands { IfOk result KindStands }
+{
+    match told {
+        [] => Ok(CreditKind::Settled),
+        [word, reason] => correction_in(config, word, reason),
+        _ => Err(LineFault::Bad),
+    }
+}
+
+// A correction, by its direction and its reason.
+fn correction_in(config: &Config, word: &[u8], reason: &[u8]) -> Result<CreditKind, LineFault>
+    ensures raised { (r : List ℕ) → IsKey r → IsBytes r → word.now ≡ codes "rises"
+        → reason.now ≡ encode_lower r → Gives result (PlainKinds.Raised r) }
+    ensures lowered { (r : List ℕ) → IsKey r → IsBytes r → word.now ≡ codes "falls"
+        → reason.now ≡ encode_lower r → Gives result (PlainKinds.Lowered r) }
+    ensures stands { IfOk result KindStands }
+{
+    let reason = Reason::of(key_in(config, reason)?);
+    if word == b"rises".as_slice() {
+        Ok(CreditKind::Raised(reason))
+    } else if word == b"falls".as_slice() {
+        Ok(CreditKind::Lowered(reason))
+    } else {
+        Err(LineFault::Bad)
+    }
 }
 
 // A balance that is brought forward.

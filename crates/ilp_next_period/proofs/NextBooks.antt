@@ -15,6 +15,7 @@ use Rattle.ilp_journal.specs.declared.entry.Hold.{Hold}
 use Rattle.ilp_journal.specs.declared.entry.Ask.{Ask}
 use Rattle.ilp_order.specs.Places.{Each, int_sum_from}
 use Rattle.ilp_journal.specs.Journal.{Entries, hold_at, ask_at, as_hold, as_ask}
+use Rattle.ilp_journal.specs.Credits.{raising, lowering}
 use Rattle.ilp_journal.specs.Balance.{above, below, balance, rise, fall}
 use Rattle.ilp_journal.specs.TrialBalance.{balances}
 use Rattle.ilp_journal.specs.BroughtForward.{next_place, KeepsPeers}
@@ -60,7 +61,7 @@ module _ (book : PlainBook) (p : ℕ) (unknown : length book.config.peers ≤ p)
   rises j knows (what.Hold h) named = refl
   rises j knows (what.Fulfilled hold preimage) named = of_holds (λ (h : Hold). cond (h.to == p) h.out 0) (λ h is. ap (λ b. cond b h.out 0) (other h.to is.1)) (hold_at j hold) (knows.holds hold)
   rises j knows (what.Released hold cause) named = of_holds (λ (h : Hold). cond (h.from == p) h.amount 0) (λ h is. ap (λ b. cond b h.amount 0) (other h.from is.0)) (hold_at j hold) (knows.holds hold)
-  rises j knows (what.Credited c) named = ap (λ b. cond b c.credited 0) (other c.peer named)
+  rises j knows (what.Credited c) named = ap (λ b. cond b (raising c.kind c.credited) 0) (other c.peer named)
   rises j knows (what.Asked a) named = refl
   rises j knows (what.Confirmed ask) named = refl
   rises j knows (what.Undone ask) named = of_asks (λ (a : Ask). cond (a.peer == p) a.amount 0) (λ a is. ap (λ b. cond b a.amount 0) (other a.peer is)) (ask_at j ask) (knows.asks ask)
@@ -72,7 +73,7 @@ module _ (book : PlainBook) (p : ℕ) (unknown : length book.config.peers ≤ p)
   falls (what.Hold h) named = ap (λ b. cond b h.amount 0) (other h.from named.0)
   falls (what.Fulfilled hold preimage) named = refl
   falls (what.Released hold cause) named = refl
-  falls (what.Credited c) named = refl
+  falls (what.Credited c) named = ap (λ b. cond b (lowering c.kind c.credited) 0) (other c.peer named)
   falls (what.Asked a) named = ap (λ b. cond b a.amount 0) (other a.peer named)
   falls (what.Confirmed ask) named = refl
   falls (what.Undone ask) named = refl

@@ -2,7 +2,7 @@
 //!
 //! A line is `TIME LEVEL TEXT`. It is written at once, so that lines of threads don't mix, and one that
 //! can't be written is passed over. No line has a token, of a packet none has more than its
-//! amount, four octets of its condition and the code of a Reject, and only a credit's has a key. What
+//! amount, four octets of its condition and the code of a Reject, and only those of credits and corrections have keys. What
 //! is written, and when, no clause can say: it stands in the comments, and `test_sockets` tests it.
 //!
 //! # What is proved
@@ -33,8 +33,10 @@ mod seconds;
 mod sent_hold;
 mod settlements;
 mod shown_key;
+mod shown_reason;
 mod starting;
 mod time_text;
+mod told_payment;
 mod unkept;
 mod waiting;
 mod work;
@@ -52,10 +54,11 @@ pub use journal_file::{
 pub use notices::Notices;
 pub use recovery::{RecoveryNote, recovery_note};
 pub use sent_hold::SentHold;
-pub use settlements::ToldQuantity;
 pub use shown_key::ShownKey;
+pub use shown_reason::ShownReason;
 pub use starting::{
     closing, configuration_warning, few_files, listening, no_thread, not_listening, not_reloaded,
     reloaded, report_follows,
 };
+pub use told_payment::{ToldPayment, ToldQuantity};
 pub use unkept::log_incomplete;

@@ -1,12 +1,12 @@
-//! What is told of settlements and credits.
+//! What is told of settlements, credits and corrections.
 
 use crate::line::{Level, tell};
 use crate::notices::Notices;
 use crate::seconds::Seconds;
 use crate::shown_key::ShownKey;
+use crate::shown_reason::ShownReason;
+use crate::told_payment::ToldPayment;
 use ilp_accounts::Config;
-use std::fmt;
-use std::fmt::Display;
 use std::io::Eprint;
 use std::time::{Clock, Duration};
 
@@ -107,8 +107,27 @@ impl Notices {
         }
     }
 
-    /// Tells that a settlement of a peer was refused, since the entry of this number has its key with
-    /// another quantity.
+    /// Tells that the operator corrected the balance of a peer by this, in units of the peer's asset, under
+    /// this key and for this reason.
+    pub fn corrected<R: Clock + Eprint>(
+        &self,
+        rt: &R,
+        config: &Config,
+        peer: u32,
+        number: u32,
+        change: i128,
+        key: ShownKey,
+        reason: ShownReason,
+    ) {
+        if self.of_peer(config, peer).is_some() {
+            let name = config.name(peer);
+            let text = format_args!("correction {number} of {name}: {change}, key {key}: {reason}");
+            tell(rt, Level::Info, text);
+        }
+    }
+
+    /// Tells that a settlement of a peer, or a correction of its balance, was refused, since the entry of
+    /// this number has its key as another one.
     pub fn key_taken<R: Clock + Eprint>(
         &self,
         rt: &R,
@@ -116,31 +135,20 @@ impl Notices {
         peer: u32,
         number: u32,
         key: ShownKey,
-        kept: ToldQuantity,
-        told: ToldQuantity,
+        kept: ToldPayment,
+        told: ToldPayment,
     ) {
         let Some(of_peer) = self.of_peer(config, peer) else {
             return;
         };
         if let Some(left_out) = of_peer.taken_keys.failed(rt) {
             let name = config.name(peer);
+            let (refused, undone) = (told.refused(), told.undone());
+            let (entry, advice) = (kept.entry(), told.advice());
             let text = format_args!(
-                "settlement of {name} refused, and not credited: {told} under the key {key}, which credit {number} has with {kept}: see which one its engine means{left_out}"
+                "{refused} of {name} refused, and not {undone}: {told} under the key {key}, which {entry} {number} has with {kept}: {advice}{left_out}"
             );
             tell(rt, Level::Error, text);
         }
-    }
-}
-
-/// A quantity as an engine told it: an amount, of which 10 to the power of its scale make one whole.
-#[derive(Clone, Copy, Debug, PartialEq, Eq)]
-pub struct ToldQuantity {
-    pub amount: u128,
-    pub scale: u8,
-}
-
-impl Display for ToldQuantity {
-    fn fmt<W: fmt::Write>(&self, f: &mut fmt::Formatter<W>) -> fmt::Result {
-        write!(f, "{} at scale {}", self.amount, self.scale)
     }
 }

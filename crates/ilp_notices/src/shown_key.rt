@@ -28,7 +28,7 @@ impl ShownKey {
         }
     }
 
-    fn shown(&self) -> &[u8] {
+    pub(crate) fn shown(&self) -> &[u8] {
         self.octets.get(..self.len).unwrap_or(&self.octets)
     }
 }
@@ -38,18 +38,21 @@ impl Display for ShownKey {
         let shown = self.shown();
         match str::from_utf8(shown) {
             Ok(text) if shown.iter().all(|octet| is_plain(*octet)) => write!(f, "\"{text}\""),
-            _ => {
-                f.write_str("0x")?;
-                for octet in shown {
-                    write!(f, "{octet:02x}")?;
-                }
-                Ok(())
-            }
+            _ => put_hex(f, shown),
         }
     }
 }
 
-// Visible ASCII, and no quote.
-fn is_plain(octet: u8) -> bool {
+/// Writes octets in hexadecimal behind `0x`.
+pub(crate) fn put_hex<W: fmt::Write>(f: &mut fmt::Formatter<W>, octets: &[u8]) -> fmt::Result {
+    f.write_str("0x")?;
+    for octet in octets {
+        write!(f, "{octet:02x}")?;
+    }
+    Ok(())
+}
+
+/// Whether an octet is visible ASCII, and no quote.
+pub(crate) fn is_plain(octet: u8) -> bool {
     octet > b' ' && octet < 0x7f && octet != b'"'
 }

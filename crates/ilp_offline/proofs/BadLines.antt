@@ -24,6 +24,7 @@ use Rattle.ilp_book.specs.HoldStep.{incoming, hold_step}
 use Rattle.ilp_book.specs.AnswerStep.{answer_step, expire_step}
 use Rattle.ilp_settlement.specs.declared.verdict.EngineVerdict.{EngineVerdict}
 use Rattle.ilp_settlement.specs.declared.verdict.EngineVerdict.TheVariants as verdicts
+use Rattle.ilp_journal.specs.declared.credit_kind.CreditKind.TheVariants.{Settled}
 use Rattle.ilp_book.specs.SettleStep.{payment, credit_step, ask_step, close_step}
 use Rattle.ilp_offline.specs.Script.{Form, hold, answer, expire, credit, ask, close, report, silent, bad, form_of}
 use Rattle.ilp_offline.specs.Replay.{hold_reply, answer_reply, expire_reply, credit_reply, ask_reply, close_reply, hold_packet, hold_text, answer_text, credit_json, came_back, form_step, line_step}
@@ -69,7 +70,7 @@ answer_told book now number (Ok octets) = sym (answer_replied number (answer_ste
 answer_told book now number (Err fault) = refl
 
 credit_told : (book : PlainBook) (now : ℤ) (peer : ℕ) (key : List ℕ) (r : Result Quantity QuantityFault) → is_bad_line (credit_json book now peer key r).reply ≡ false
-credit_told book now peer key (Ok quantity) = credit_replied (credit_step book (by 0 now) (payment peer key quantity) granted).reply
+credit_told book now peer key (Ok quantity) = credit_replied (credit_step book (by 0 now) (payment peer key quantity Settled) granted).reply
 credit_told book now peer key (Err fault) = refl
 
 form_told : (book : PlainBook) (form : Form) → is_bad_form form ≡ is_bad_line (form_step book form).reply

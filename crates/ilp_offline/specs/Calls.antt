@@ -12,6 +12,7 @@ use Rattle.ilp_accounts.specs.Configuration.{Configuration, peer_names}
 use Rattle.ilp_book.specs.declared.calls.PeerReply.TheVariants as peer_reply
 use Rattle.ilp_book.specs.Book.{by, granted}
 use Rattle.ilp_book.specs.HoldStep.{incoming}
+use Rattle.ilp_journal.specs.declared.credit_kind.CreditKind.TheVariants.{Settled}
 use Rattle.ilp_book.specs.SettleStep.{payment}
 use Rattle.ilp_book.specs.Run as run
 use Rattle.ilp_offline.specs.Script.{Form, hold, answer, expire, credit, ask, close, report, silent, bad, form_of}
@@ -36,7 +37,7 @@ calls_of_answer now number (Ok octets) = called now (run.answer number (came_bac
 calls_of_answer now number (Err fault) = []
 
 abbrev pub calls_of_credit : ℤ → ℕ → List ℕ → Result Quantity QuantityFault → List run.Step
-calls_of_credit now peer key (Ok quantity) = called now (run.credit (payment peer key quantity))
+calls_of_credit now peer key (Ok quantity) = called now (run.credit (payment peer key quantity Settled))
 calls_of_credit now peer key (Err fault) = []
 
 -- the call that a line makes, if it makes one

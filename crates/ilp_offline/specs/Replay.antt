@@ -29,6 +29,7 @@ use Rattle.ilp_book.specs.HoldStep.{incoming, hold_step}
 use Rattle.ilp_book.specs.AnswerStep.{answer_step, expire_step}
 use Rattle.ilp_settlement.specs.declared.verdict.EngineVerdict.{EngineVerdict}
 use Rattle.ilp_settlement.specs.declared.verdict.EngineVerdict.TheVariants as verdicts
+use Rattle.ilp_journal.specs.declared.credit_kind.CreditKind.TheVariants.{Settled}
 use Rattle.ilp_book.specs.SettleStep.{payment, credit_step, ask_step, close_step}
 use Rattle.ilp_refusals.specs.declared.refusal.Refusal.{Refusal}
 use Rattle.ilp_refusals.specs.declared.refusal.Refusal.TheVariants as refusals
@@ -94,7 +95,7 @@ expire_due book now = replied_as (expire_reply (length book.entries)) (expire_st
 
 -- a settlement from a peer, if its JSON is a quantity
 abbrev pub credit_json : PlainBook → ℤ → ℕ → List ℕ → Result Quantity QuantityFault → Made LineReply
-credit_json book now peer key (Ok quantity) = replied_as credit_reply (credit_step book (by 0 now) (payment peer key quantity) granted)
+credit_json book now peer key (Ok quantity) = replied_as credit_reply (credit_step book (by 0 now) (payment peer key quantity Settled) granted)
 credit_json book now peer key (Err fault) = says (replies.Refused (quantity_refusal fault))
 
 abbrev pub ask_due : PlainBook → ℤ → ℕ → Made LineReply

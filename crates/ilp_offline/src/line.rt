@@ -20,7 +20,7 @@ use ilp_book::{
     AskFault, Asked, Book, CreditFault, Held, HoldFault, Kept, NotOpen, Outcome, PeerReply,
 };
 use ilp_described::decode;
-use ilp_journal::{Cause, Key};
+use ilp_journal::{Cause, CreditKind, Key};
 use ilp_packet::Packet;
 use ilp_refusals::Refusal;
 use ilp_settlement::{EngineVerdict, Quantity, QuantityFault};
@@ -192,7 +192,7 @@ fn credit<A: Allocator + Clone>(
     ensures err { OnErr result (book.new ≡ book.old) }
 {
     match Key::new(book.config().allocator(), key)? {
-        Some(key) => credit_reply(book.credit(ACTOR, peer, key, quantity, now)),
+        Some(key) => credit_reply(book.credit(ACTOR, peer, key, quantity, CreditKind::Settled, now)),
         None => unreachable!(),
     }
 }

@@ -183,11 +183,12 @@ quantity_refusal quantity_fault.BadAmount = refusals.BadAmount
 quantity_refusal quantity_fault.BadScale = refusals.BadScale
 quantity_refusal quantity_fault.Memory = refusals.Memory
 
--- the refusal of a settlement from a peer
+-- the refusal of a settlement from a peer, and of a correction
 abbrev pub credit_refusal : CreditFault → Refusal
 credit_refusal credit_fault.TooLarge = refusals.TooLarge
 credit_refusal (credit_fault.KeyTaken kept) = refusals.KeyTaken kept
 credit_refusal credit_fault.Full = refusals.Full
+credit_refusal (credit_fault.BelowLeast balance least) = refusals.BelowLeast balance
 credit_refusal credit_fault.Memory = refusals.Memory
 
 -- the refusal of a settlement to a peer

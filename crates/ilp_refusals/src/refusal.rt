@@ -424,7 +424,7 @@ impl From<QuantityFault> for Refusal {
     }
 }
 
-/// A settlement from a peer that is not credited.
+/// A settlement from a peer that is not credited, or a correction that is not booked.
 impl From<CreditFault> for Refusal {
     ghost use Rattle.std.specs.Prelude.{◌≡◌};
     ghost use Rattle.ilp_refusals.specs.Refusals.{credit_refusal};
@@ -436,6 +436,7 @@ impl From<CreditFault> for Refusal {
             CreditFault::TooLarge => Refusal::TooLarge,
             CreditFault::KeyTaken { kept } => Refusal::KeyTaken { kept },
             CreditFault::Full => Refusal::Full,
+            CreditFault::BelowLeast { balance, .. } => Refusal::BelowLeast { balance },
             CreditFault::Memory => Refusal::Memory,
         }
     }

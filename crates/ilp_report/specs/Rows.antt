@@ -3,6 +3,7 @@ use Rattle.std.specs.Prelude.{◌≡◌, ℕ, ℤ, pos, negsuc, List, [], ◌∷
 use Rattle.ilp_assets.specs.Assets.{PlainAsset}
 use Rattle.ilp_accounts.specs.Configuration.{PlainPeer, nobody}
 use Rattle.ilp_accounts.specs.declared.settings.LogSync.TheVariants.{Group}
+use Rattle.ilp_journal.specs.declared.credit_kind.CreditKind.TheVariants.{Settled}
 use Rattle.ilp_journal.specs.declared.entry.Entry.{Entry}
 use Rattle.ilp_journal.specs.declared.entry.What.{What}
 use Rattle.ilp_journal.specs.declared.entry.What.TheVariants as what
@@ -52,7 +53,7 @@ fulfilled n = booked (what.Fulfilled n (replicate 32 0))
 
 -- alice settles cents
 abbrev pub credited : ℕ → Entry
-credited n = booked (what.Credited (record { peer = 0; key = codes "k"; named = n; scale = 2; credited = n }))
+credited n = booked (what.Credited (record { peer = 0; key = codes "k"; named = n; scale = 2; credited = n; kind = Settled }))
 
 -- a settlement to bob is asked for
 abbrev pub asked : ℕ → Entry

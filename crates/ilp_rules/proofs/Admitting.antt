@@ -14,6 +14,7 @@ use Rattle.ilp_journal.specs.declared.entry.Ask.{Ask}
 use Rattle.ilp_journal.specs.declared.entry.Credited.{Credited}
 use Rattle.ilp_journal.specs.Journal.{open_count}
 use Rattle.ilp_journal.specs.Balance.{below, balance}
+use Rattle.ilp_journal.specs.Credits.{lowering}
 use Rattle.ilp_journal.specs.TrialBalance.{total_in, total_out, amount_in, amount_out}
 use Rattle.ilp_order.proofs.RefusalLemmas.{some_same, chosen}
 use Rattle.ilp_rules.specs.Book.{PlainBook, has_room}
@@ -46,12 +47,22 @@ hold_admits book m actor h lawful timely terms room least totals_in totals_out =
 
 -- ---- credits
 
--- a fresh credit is admitted where it is in time and there is room
+-- a fresh credit is admitted where it is in time, and there is room and, for a correction, balance for it
 pub credit_admits : (book : PlainBook) (m : ℤ) (actor : ℕ) (c : Credited) → IsLawful book → IsInTime book.entries (record { moment = m; actor = actor; what = what.Credited c })
-    → IsFreshCredit book.config book.entries c → has_room book 1 ≡ true → Admits book (record { moment = m; actor = actor; what = what.Credited c })
-credit_admits book m actor c lawful timely fresh fits =
+    → IsFreshCredit book.config book.entries c → has_room book 1 ≡ true
+    → ((peer_at book.config c.peer).least +ℤ pos (lowering c.kind c.credited)) ≤ℤ balance book.entries c.peer
+    → Admits book (record { moment = m; actor = actor; what = what.Credited c })
+credit_admits book m actor c lawful timely fresh fits least =
+    let limits : IsWithinLimits book = limits_now book lawful in
     let room : length book.entries + open_count book.entries + 1 ≤ book.config.settings.journal = leb-true _ _ fits in
-    calm book _ lawful fresh timely (λ _. refl) (λ _. refl) (omega (arith, room))
+    record {
+      rule = fresh;
+      moments = timely;
+      cover = λ p known. covered book.config book.entries c.peer (lowering c.kind c.credited) p (limits.least p known) least;
+      room = omega (arith, room);
+      totals_in = λ x. omega (arith, at_most (nat_le book.base (length book.entries)) 0, limits.totals_in x);
+      totals_out = λ x. omega (arith, at_most (nat_le book.base (length book.entries)) 0, limits.totals_out x);
+    }
 
 -- ---- balances that are brought forward
 

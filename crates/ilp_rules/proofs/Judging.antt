@@ -13,6 +13,9 @@ use Rattle.ilp_journal.specs.declared.entry.What.TheVariants as what
 use Rattle.ilp_journal.specs.declared.entry.Ask.{Ask}
 use Rattle.ilp_journal.specs.Journal.{Entries, opening, closing, open_count, open_asks}
 use Rattle.ilp_journal.specs.Balance.{above, below, balance, rise, fall}
+use Rattle.ilp_journal.specs.Credits.{raising, lowering}
+use Rattle.ilp_journal.specs.declared.credit_kind.CreditKind.{CreditKind}
+use Rattle.ilp_journal.specs.declared.credit_kind.CreditKind.TheVariants.{Settled, Raised, Lowered}
 use Rattle.ilp_order.proofs.Sums.{Each-parts}
 use Rattle.ilp_journal.proofs.Growth.{balance-push, open_count-push}
 use Rattle.ilp_rules.specs.declared.rule.BrokenRule.{BrokenRule}
@@ -64,7 +67,7 @@ judged_good book e valid lawful base timely rule limits = lawful_push book e law
     of (what.Released hold cause) timely rule limits =
         let room = (limits_now book lawful).room in
         calm book (record e { what = what.Released hold cause }) lawful rule timely (λ _. refl) (λ _. refl) (omega (arith, room))
-    of (what.Credited c) timely rule limits = credit_admits book m e.actor c lawful timely rule (of_room 1 limits)
+    of (what.Credited c) timely rule limits = credit_admits book m e.actor c lawful timely rule (of_room 1 limits.0) limits.1
     of (what.Asked a) timely rule limits = ask_admits book m e.actor a valid lawful timely rule (of_room 2 limits)
     of (what.Confirmed ask) timely rule limits =
         let room = (limits_now book lawful).room in
@@ -109,6 +112,12 @@ limits_last book e before after =
     brought least new old (pos n) r f is up down h = omega (arith, ints, is, up, down, h)
     brought least new old (negsuc n) r f is up down h = omega (arith, ints, is, up, down, h)
 
+    corrected : (kind : CreditKind) (amount : ℕ) (least new old : ℤ) (r f : ℕ) → new ≡ old +ℤ pos r -ℤ pos f → r ≡ raising kind amount → f ≡ lowering kind amount
+        → least ≤ℤ old → least ≤ℤ new → (least +ℤ pos (lowering kind amount)) ≤ℤ old
+    corrected Settled amount least new old r f is up down old_enough enough = omega (arith, ints, old_enough)
+    corrected (Raised reason) amount least new old r f is up down old_enough enough = omega (arith, ints, old_enough)
+    corrected (Lowered reason) amount least new old r f is up down old_enough enough = omega (arith, ints, is, up, down, enough)
+
     of : (w : What) → KeepsRule book.config book.period book.base book.entries e.moment w → open_count (book.entries ++ e ∷ []) + closing w ≡ open_count book.entries + opening w
         → ((p : ℕ) → balance (book.entries ++ e ∷ []) p ≡ balance book.entries p +ℤ pos (rise book.entries p w) -ℤ pos (fall p w)) → KeepsLimits book w
     of (what.Hold h) rule opened owed = (
@@ -117,7 +126,12 @@ limits_last book e before after =
     )
     of (what.Fulfilled hold preimage) rule opened owed = tt
     of (what.Released hold cause) rule opened owed = tt
-    of (what.Credited c) rule opened owed = omega (arith, limits.room, longer, opened)
+    of (what.Credited c) rule opened owed = (
+      omega (arith, limits.room, longer, opened),
+      corrected c.kind c.credited _ _ _ (rise book.entries c.peer (what.Credited c)) (fall c.peer (what.Credited c)) (owed c.peer)
+          (held _ (raising c.kind c.credited) (eq-eqb c.peer c.peer refl)) (held _ (lowering c.kind c.credited) (eq-eqb c.peer c.peer refl))
+          ((limits_now book before).least c.peer rule.known) (limits.least c.peer rule.known),
+    )
     of (what.Asked a) rule opened owed = omega (arith, limits.room, longer, opened)
     of (what.Confirmed ask) rule opened owed = tt
     of (what.Undone ask) rule opened owed = tt

@@ -49,12 +49,12 @@ can_stand C period base before e keeps timely typed = record {
     }
     of (what.Fulfilled hold preimage) rule typed = typed
     of (what.Released hold cause) rule typed = typed
-    of (what.Credited c) rule typed = record { peer = rule.known; key = typed.key; named = typed.named; scale = typed.scale; credited = typed.credited }
+    of (what.Credited c) rule typed = record { peer = rule.known; key = typed.key; named = typed.named; scale = typed.scale; credited = typed.credited; kind = typed.kind }
     of (what.Asked a) rule typed = (rule.known, typed)
     of (what.Confirmed ask) rule typed = typed
     of (what.Undone ask) rule typed = typed
     of (what.Opened peer balance) rule typed = (rule.rule.0, typed)
-    of (what.Known c) rule typed = record { peer = rule.rule.0; key = typed.key; named = typed.named; scale = typed.scale; credited = typed.credited }
+    of (what.Known c) rule typed = record { peer = rule.rule.0; key = typed.key; named = typed.named; scale = typed.scale; credited = typed.credited; kind = typed.kind }
     of (what.Pending peer amount key) rule typed = (rule.rule.0, typed.0, typed.1)
 
     only : (w : What) → KeepsRule C period base before e.moment w → IsTrue (is_brought_forward w) → 0 < period

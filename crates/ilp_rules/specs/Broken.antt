@@ -16,7 +16,7 @@ use Rattle.ilp_terms.specs.Condition.{meets}
 use Rattle.ilp_rules.specs.declared.rule.BrokenRule.{BrokenRule}
 use Rattle.ilp_rules.specs.declared.rule.BrokenRule.TheVariants as rule
 use Rattle.ilp_rules.specs.Configured.{IsKnown, scale_at, quote_between}
-use Rattle.ilp_journal.specs.Credits.{as_credit, kept_at}
+use Rattle.ilp_journal.specs.Credits.{lowering, as_credit, kept_at}
 use Rattle.ilp_journal.specs.BroughtForward.{is_brought_forward, earlier_key, opening_at}
 use Rattle.ilp_rules.specs.Heads.{most_open_asks, IsHead, HasOwnKey}
 use Rattle.ilp_rules.specs.Lawful.{IsInTime, due_amount, quantity_named}
@@ -57,9 +57,10 @@ abbrev pub OpensWrong : Entries → What → Type 0
 OpensWrong before (what.Opened peer b) = (b ≡ pos 0) ⊎ IsSome (opening_at before peer)
 OpensWrong before _ = ⊥
 
--- a hold takes its sender's balance below its least, or a balance is opened below its peer's
+-- a hold takes its sender's balance below its least, or a correction its peer's, or a balance is opened below its peer's
 abbrev pub FallsShort : Configuration → Entries → What → Type 0
 FallsShort C before (what.Hold h) = ¬ (((peer_at C h.from).least +ℤ pos h.amount) ≤ℤ balance before h.from)
+FallsShort C before (what.Credited c) = ¬ (((peer_at C c.peer).least +ℤ pos (lowering c.kind c.credited)) ≤ℤ balance before c.peer)
 FallsShort C before (what.Opened peer b) = ¬ ((peer_at C peer).least ≤ℤ (balance before peer +ℤ b))
 FallsShort C before _ = ⊥
 

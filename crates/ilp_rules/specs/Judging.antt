@@ -5,6 +5,7 @@ use Rattle.ilp_journal.specs.declared.entry.What.{What}
 use Rattle.ilp_journal.specs.declared.entry.What.TheVariants as what
 use Rattle.ilp_journal.specs.Journal.{open_count}
 use Rattle.ilp_journal.specs.Balance.{balance}
+use Rattle.ilp_journal.specs.Credits.{lowering}
 use Rattle.ilp_rules.specs.Book.{PlainBook}
 
 -- the greatest base: whatever is in a journal lies below it
@@ -19,11 +20,11 @@ carrying C period = record { config = C; period = period; base = behind_all; ent
 abbrev pub HasRoom : PlainBook → ℕ → Type 0
 HasRoom book n = length book.entries + open_count book.entries + n ≤ book.config.settings.journal
 
--- there is room for an entry, and for what ends it; and a hold leaves its sender's balance at its least or above it, as what is
--- brought forward leaves its peer's
+-- there is room for an entry, and for what ends it; and a hold leaves its sender's balance at its least or above it, as a correction
+-- and what is brought forward leave their peer's
 abbrev pub KeepsLimits : PlainBook → What → Type 0
 KeepsLimits book (what.Hold h) = HasRoom book 2 × (((peer_at book.config h.from).least +ℤ pos h.amount) ≤ℤ balance book.entries h.from)
-KeepsLimits book (what.Credited c) = HasRoom book 1
+KeepsLimits book (what.Credited c) = HasRoom book 1 × (((peer_at book.config c.peer).least +ℤ pos (lowering c.kind c.credited)) ≤ℤ balance book.entries c.peer)
 KeepsLimits book (what.Asked a) = HasRoom book 2
 KeepsLimits book (what.Opened peer b) = HasRoom book 1 × ((peer_at book.config peer).least ≤ℤ (balance book.entries peer +ℤ b))
 KeepsLimits book (what.Known c) = HasRoom book 1

@@ -45,7 +45,7 @@ pub record HasTerms (C : Configuration) (moment : ℤ) (h : Hold) : Type 0 where
 abbrev pub quantity_named : Credited → Quantity
 quantity_named c = record { amount = c.named; scale = c.scale }
 
--- A credit has a key that its peer has not used, and its quantity at the scale of the peer's balance, rounded down.
+-- A credit, or a correction, has a key that its peer has not used, and its quantity at the scale of the peer's balance, rounded down.
 pub record IsFreshCredit (C : Configuration) (before : Entries) (c : Credited) : Type 0 where
   pub known : IsKnown C c.peer
   pub named : IsKey c.key

@@ -5,3 +5,4 @@ pub mod TargetLemmas
 pub mod TokenLemmas
 pub mod LawLemmas
 pub mod Responses
+pub mod TextLemmas

@@ -99,6 +99,7 @@ BeginsReport desk behind before after course =
 abbrev pub BeginsTarget : PlainDesk → List ℕ → Inquiry → Target → PlainFlight → PlainFlight → Course → Type 0
 BeginsTarget desk behind i target.Packet before after course = BeginsPacket desk i.headers i.body before after course
 BeginsTarget desk behind i (target.Settlement peer) before after course = IsServedWhole desk i (target.Settlement peer) before after course
+BeginsTarget desk behind i (target.Correction peer) before after course = IsServedWhole desk i (target.Correction peer) before after course
 BeginsTarget desk behind i (target.Message peer) before after course = BeginsMessage desk peer i.body before after course
 BeginsTarget desk behind i target.Report before after course = BeginsReport desk behind before after course
 BeginsTarget desk behind i target.Close before after course = IsServedWhole desk i target.Close before after course

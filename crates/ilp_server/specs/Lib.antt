@@ -2,6 +2,7 @@ pub mod Targets
 pub mod Fields
 pub mod Statuses
 pub mod Deeds
+pub mod Corrections
 pub mod Serving
 pub mod Connection
 pub mod Response

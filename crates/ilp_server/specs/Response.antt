@@ -10,7 +10,7 @@ use Rattle.ilp_server.specs.declared.handled.Deed.TheVariants as deed
 use Rattle.ilp_server.specs.declared.unserved.NotServed.{NotServed}
 use Rattle.ilp_server.specs.declared.unserved.NotServed.TheVariants as unserved
 use Rattle.ilp_server.specs.declared.served.Served.{Served}
-use Rattle.ilp_server.specs.declared.served.Served.TheVariants.{Packet, Settlement, Message, Report, Close}
+use Rattle.ilp_server.specs.declared.served.Served.TheVariants.{Packet, Booked, BelowLeast, Message, Report, Close}
 use Rattle.ilp_server.specs.declared.response.Body.{Body}
 use Rattle.ilp_server.specs.declared.response.Body.TheVariants.{Nothing, Octets, Text}
 use Rattle.ilp_server.specs.Statuses.{status_of}
@@ -37,7 +37,8 @@ response reply deed closes = record { reply = reply; deed = deed; closes = close
 -- whether the request asks for the connector to close
 abbrev pub closes_of : Result Served NotServed → Bool
 closes_of (Ok (Packet peer rejected)) = false
-closes_of (Ok (Settlement peer kept text)) = false
+closes_of (Ok (Booked peer kept text)) = false
+closes_of (Ok (BelowLeast text)) = false
 closes_of (Ok Message) = false
 closes_of (Ok (Report text)) = false
 closes_of (Ok Close) = true
@@ -50,7 +51,8 @@ response_to worker outcome = response (reply_to worker outcome) (deed_of outcome
 -- The response has no octets of a worker's: it is to no packet and to no message that was answered.
 abbrev pub NeedsNoWorker : Result Served NotServed → Type 0
 NeedsNoWorker (Ok (Packet peer rejected)) = ⊥
-NeedsNoWorker (Ok (Settlement peer kept text)) = ⊤
+NeedsNoWorker (Ok (Booked peer kept text)) = ⊤
+NeedsNoWorker (Ok (BelowLeast text)) = ⊤
 NeedsNoWorker (Ok Message) = ⊥
 NeedsNoWorker (Ok (Report text)) = ⊤
 NeedsNoWorker (Ok Close) = ⊤

@@ -11,13 +11,19 @@ use Rattle.ilp_settlement.specs.declared.quantity.Quantity.{Quantity}
 use Rattle.ilp_settlement.specs.declared.quantity.QuantityFault.{QuantityFault}
 use Rattle.ilp_settlement.specs.declared.quantity.QuantityFault.TheVariants as quantity_fault
 use Rattle.ilp_settlement.specs.Quantity.{quantity_in, quantity_text}
+use Rattle.ilp_settlement.specs.declared.correction.CorrectionFault.{CorrectionFault}
+use Rattle.ilp_settlement.specs.declared.correction.CorrectionFault.TheVariants as correction_fault
+use Rattle.ilp_settlement.specs.Correction.{PlainCorrection, correction_in}
+use Rattle.ilp_journal.specs.declared.credit_kind.CreditKind.TheVariants.{Settled}
 use Rattle.ilp_book.specs.declared.calls.Kept.{Kept}
+use Rattle.ilp_book.specs.declared.fault.CreditFault.TheVariants as credit_fault
 use Rattle.ilp_book.specs.Configured.{scale_at}
 use Rattle.ilp_book.specs.SettleStep.{payment}
 use Rattle.ilp_book.specs.Book.{PlainBook}
 use Rattle.ilp_report.specs.Report.{report_text}
 use Rattle.ilp_desk.specs.Desk.{PlainDesk, IsBookOf}
 use Rattle.ilp_workers.specs.declared.crediting.NotCredited.{NotCredited}
+use Rattle.ilp_workers.specs.declared.crediting.NotCredited.TheVariants as not_credited
 use Rattle.ilp_workers.specs.declared.arrivals.BadPacket.{BadPacket}
 use Rattle.ilp_replies.specs.declared.answer.Receipt.{Receipt}
 use Rattle.ilp_replies.specs.declared.messages.MessageFault.{MessageFault}
@@ -32,10 +38,12 @@ use Rattle.ilp_server.specs.declared.target.Target.TheVariants as target
 use Rattle.ilp_server.specs.declared.unserved.NotServed.{NotServed}
 use Rattle.ilp_server.specs.declared.unserved.NotServed.TheVariants as unserved
 use Rattle.ilp_server.specs.declared.served.Served.{Served}
-use Rattle.ilp_server.specs.declared.served.Served.TheVariants.{Packet, Settlement, Message, Report, Close}
+use Rattle.ilp_server.specs.declared.served.Served.TheVariants.{Packet, Booked, BelowLeast, Message, Report, Close}
+use Rattle.ilp_server.specs.declared.handled.ToldChange.TheVariants.{Settlement}
 use Rattle.ilp_server.specs.Targets.{AsksFor}
 use Rattle.ilp_server.specs.Fields.{values_in, IsFrom, IsKeyAmong}
 use Rattle.ilp_server.specs.Statuses.{status_of}
+use Rattle.ilp_server.specs.Corrections.{kind_of, change_of, moved_by, change_text, least_text}
 
 -- ---- what comes
 
@@ -64,11 +72,12 @@ reply status kind body = record { status = status; kind = kind; body = body }
 abbrev pub bare : Status → Reply
 bare s = reply s kind.Text []
 
--- The response to what became of a request: the octets by which a worker answers the packet, the quantity that was credited, what
--- the peer's engine answered, the report, or nothing but a status.
+-- The response to what became of a request: the octets by which a worker answers the packet, what the balance was moved by, or why it
+-- was not corrected, what the peer's engine answered, the report, or nothing but a status.
 abbrev pub reply_to : PlainWorker → Result Served NotServed → Reply
 reply_to worker (Ok (Packet peer rejected)) = reply status.Ok kind.OctetStream worker.reply
-reply_to worker (Ok (Settlement peer kept text)) = reply status.Created kind.Json text.octets
+reply_to worker (Ok (Booked peer kept text)) = reply status.Created kind.Json text.octets
+reply_to worker (Ok (BelowLeast text)) = reply status.Forbidden kind.Json text.octets
 reply_to worker (Ok Message) = reply status.Created kind.OctetStream (unwrap_or (peer_answer_of (Some worker.reply)) [])
 reply_to worker (Ok (Report text)) = reply status.Ok kind.Text text.items
 reply_to worker (Ok Close) = bare status.Ok
@@ -101,14 +110,14 @@ IsNoQuantity body fault = (fault ≡ quantity_fault.Memory) ⊎ (quantity_in bod
 -- balance; or that is refused, or is not kept
 abbrev pub IsCreditOutcome : PlainDesk → ℕ → Quantity → Result Kept NotCredited → Result Served NotServed → Type 0
 IsCreditOutcome desk peer quantity (Ok kept) outcome =
-    (text : OctetsWithRoom) × (outcome ≡ Ok (Settlement peer kept text)) × (text.octets ≡ quantity_text kept.amount (scale_at desk.config peer))
-IsCreditOutcome desk peer quantity (Err fault) outcome = outcome ≡ Err (unserved.Credit peer quantity fault)
+    (text : OctetsWithRoom) × (outcome ≡ Ok (Booked peer kept text)) × (text.octets ≡ quantity_text kept.amount (scale_at desk.config peer))
+IsCreditOutcome desk peer quantity (Err fault) outcome = outcome ≡ Err (unserved.Credit peer (Settlement quantity) fault)
 
 -- A quantity under a key: there is no memory for its answer; or it is credited, with its outcome.
 abbrev pub ServesQuantity : PlainDesk → ℕ → List ℕ → Quantity → PlainWorker → PlainWorker → Result Served NotServed → Type 0
 ServesQuantity desk peer key quantity before after outcome =
     IsTurnedAway unserved.Memory before after outcome
-    ⊎ ((credit : Result Kept NotCredited) × Credits desk (payment peer key quantity) before after credit × IsCreditOutcome desk peer quantity credit outcome)
+    ⊎ ((credit : Result Kept NotCredited) × Credits desk (payment peer key quantity Settled) before after credit × IsCreditOutcome desk peer quantity credit outcome)
 
 -- A body under a key: what is no quantity is turned away.
 abbrev pub ServesPayment : PlainDesk → ℕ → List ℕ → List ℕ → PlainWorker → PlainWorker → Result Served NotServed → Type 0
@@ -122,6 +131,40 @@ ServesSettlement desk peer headers body before after outcome =
     let given = values_in headers (codes "idempotency-key") in
     (((key : List ℕ) → ¬ (IsKeyAmong given key)) × IsTurnedAway unserved.NoKey before after outcome)
     ⊎ ((key : List ℕ) × IsKeyAmong given key × ServesPayment desk peer key body before after outcome)
+
+-- Why a body is no correction: memory to read it was denied, or this is its first fault.
+abbrev pub IsNoCorrection : List ℕ → CorrectionFault → Type 0
+IsNoCorrection body fault = (fault ≡ correction_fault.Memory) ⊎ (correction_in body ≡ Err fault)
+
+-- The outcome of a correction that is booked, which answers what the amount kept under its key moved the balance by; of one by which the
+-- balance would fall below its least, which answers both; or of one that is refused otherwise, or is not kept. Units are those of the scale
+-- of the peer's balance.
+abbrev pub IsCorrectionOutcome : PlainDesk → ℕ → PlainCorrection → Result Kept NotCredited → Result Served NotServed → Type 0
+IsCorrectionOutcome desk peer c (Ok kept) outcome =
+    (text : OctetsWithRoom) × (outcome ≡ Ok (Booked peer kept text))
+    × (text.octets ≡ change_text (moved_by c.lowers kept.amount) (scale_at desk.config peer))
+IsCorrectionOutcome desk peer c (Err (not_credited.Refused (credit_fault.BelowLeast balance least))) outcome =
+    (text : OctetsWithRoom) × (outcome ≡ Ok (BelowLeast text)) × (text.octets ≡ least_text balance least (scale_at desk.config peer))
+IsCorrectionOutcome desk peer c (Err fault) outcome = outcome ≡ Err (unserved.Credit peer (change_of c) fault)
+
+-- A correction under a key: there is no memory for its answer, its key or its reason; or it is booked as one, with its outcome.
+abbrev pub ServesChange : PlainDesk → ℕ → List ℕ → PlainCorrection → PlainWorker → PlainWorker → Result Served NotServed → Type 0
+ServesChange desk peer key c before after outcome =
+    IsTurnedAway unserved.Memory before after outcome
+    ⊎ ((credit : Result Kept NotCredited) × Credits desk (payment peer key c.quantity (kind_of c)) before after credit × IsCorrectionOutcome desk peer c credit outcome)
+
+-- A body under a key: what is no correction is turned away.
+abbrev pub ServesCorrectionBody : PlainDesk → ℕ → List ℕ → List ℕ → PlainWorker → PlainWorker → Result Served NotServed → Type 0
+ServesCorrectionBody desk peer key body before after outcome =
+    ((fault : CorrectionFault) × IsNoCorrection body fault × IsTurnedAway (unserved.Correction fault) before after outcome)
+    ⊎ ((c : PlainCorrection) × (correction_in body ≡ Ok c) × ServesChange desk peer key c before after outcome)
+
+-- A correction of the balance of a peer: without a key it is turned away.
+abbrev pub ServesCorrection : PlainDesk → ℕ → Entries FieldValue → List ℕ → PlainWorker → PlainWorker → Result Served NotServed → Type 0
+ServesCorrection desk peer headers body before after outcome =
+    let given = values_in headers (codes "idempotency-key") in
+    (((key : List ℕ) → ¬ (IsKeyAmong given key)) × IsTurnedAway unserved.NoKey before after outcome)
+    ⊎ ((key : List ℕ) × IsKeyAmong given key × ServesCorrectionBody desk peer key body before after outcome)
 
 -- the outcome for a message that was answered, or was not
 abbrev pub message_outcome : Result (Unit {0}) MessageFault → Result Served NotServed
@@ -149,6 +192,7 @@ ServesReport desk (Err why) = why ≡ unserved.Memory
 abbrev pub ServesTarget : PlainDesk → Inquiry → Target → PlainWorker → PlainWorker → Result Served NotServed → Type 0
 ServesTarget desk i target.Packet before after outcome = ServesPacket desk i.headers i.body before after outcome
 ServesTarget desk i (target.Settlement peer) before after outcome = ServesSettlement desk peer i.headers i.body before after outcome
+ServesTarget desk i (target.Correction peer) before after outcome = ServesCorrection desk peer i.headers i.body before after outcome
 ServesTarget desk i (target.Message peer) before after outcome = ServesMessage desk peer i.body before after outcome
 ServesTarget desk i target.Report before after outcome = ServesReport desk outcome × (after ≡ before)
 ServesTarget desk i target.Close before after outcome = (outcome ≡ Ok Close) × (after ≡ before)

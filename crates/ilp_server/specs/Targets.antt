@@ -5,7 +5,11 @@ use Rattle.ilp_settlement.specs.Targets.{account_target, settlements_target, mes
 use Rattle.ilp_server.specs.declared.target.Side.{Side}
 use Rattle.ilp_server.specs.declared.target.Side.TheVariants.{Ilp, Engine}
 use Rattle.ilp_server.specs.declared.target.Target.{Target}
-use Rattle.ilp_server.specs.declared.target.Target.TheVariants.{Packet, Settlement, Message, Report, Close, Reload, Pause, Resume}
+use Rattle.ilp_server.specs.declared.target.Target.TheVariants.{Packet, Settlement, Correction, Message, Report, Close, Reload, Pause, Resume}
+
+-- where corrections of the balance of an account are posted, by its name
+abbrev pub corrections_target : List ℕ → List ℕ
+corrections_target name = account_target (codes "/corrections") name
 
 -- where the payouts to an account are paused, by its name
 abbrev pub pause_target : List ℕ → List ℕ
@@ -24,6 +28,7 @@ pub record IsOfPeer (C : Configuration) (target : List ℕ → List ℕ) (path :
 abbrev pub AsksFor : Configuration → Side → List ℕ → Target → Type 0
 AsksFor C Ilp path Packet = path ≡ C.settings.path
 AsksFor C Ilp path (Settlement peer) = ⊥
+AsksFor C Ilp path (Correction peer) = ⊥
 AsksFor C Ilp path (Message peer) = ⊥
 AsksFor C Ilp path Report = ⊥
 AsksFor C Ilp path Close = ⊥
@@ -32,6 +37,7 @@ AsksFor C Ilp path (Pause peer) = ⊥
 AsksFor C Ilp path (Resume peer) = ⊥
 AsksFor C Engine path Packet = ⊥
 AsksFor C Engine path (Settlement peer) = IsOfPeer C settlements_target path peer
+AsksFor C Engine path (Correction peer) = IsOfPeer C corrections_target path peer
 AsksFor C Engine path (Message peer) = IsOfPeer C messages_target path peer
 AsksFor C Engine path Report = path ≡ codes "/report"
 AsksFor C Engine path Close = path ≡ codes "/close"

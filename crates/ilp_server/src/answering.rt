@@ -22,13 +22,14 @@ use std::sync::Wait;
 /// It answers `Done` with the status of the response that was written whole, `Close` in its place
 /// after a close at the side of the engines, and `Fault` where no response was written whole: a
 /// write failed, or nothing was written, since a read failed or memory for the fields was denied.
-/// The deed is the credit that this request made, its settlement that was refused since its key is
-/// taken, or the Reject that the sender of its packet is answered, also where the response was not
-/// written whole, or is 503 since the credit is not kept. What is refused, as octets or later, is
-/// answered with a status and an empty body, and leaves the worker as it was unless a packet, a
-/// credit or a message was tried. What was booked stays, whatever becomes of the response. `alloc`
-/// is for the fields, for a report, and for the JSON of a quantity and its answer; room for that
-/// answer is made before anything is booked.
+/// The deed is the credit or the correction that this request made, its settlement or correction that
+/// was refused since its key is taken, or the Reject that the sender of its packet is answered, also
+/// where the response was not written whole, or is 503 since the credit is not kept. What is refused,
+/// as octets or later, is answered with a status and an empty body, but for a correction by which the
+/// balance would fall below its least, and leaves the worker as it was unless a packet, a credit, a
+/// correction or a message was tried. What was booked stays, whatever becomes of the response. `alloc`
+/// is for the fields, for a report, for the JSON of a quantity or a correction and its answer, and for
+/// key and reason; room for that answer is made before anything is booked.
 pub fn answer_connection<
     J: Naming,
     C: Clock + Drop,
@@ -87,8 +88,11 @@ fn respond<
         Ok(Served::Packet { .. }) => {
             send(sink, Status::Ok, Kind::OctetStream, worker.reply(), deed)
         }
-        Ok(Served::Settlement { text, .. }) => {
+        Ok(Served::Booked { text, .. }) => {
             send(sink, Status::Created, Kind::Json, text.as_slice(), deed)
+        }
+        Ok(Served::BelowLeast(text)) => {
+            send(sink, Status::Forbidden, Kind::Json, text.as_slice(), deed)
         }
         Ok(Served::Message) => send(
             sink,

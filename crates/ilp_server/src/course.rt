@@ -5,6 +5,7 @@ ghost use Rattle.ilp_server.specs.Serving.{inquiry};
 ghost use Rattle.ilp_server.specs.Response.{IsToPacket};
 ghost use Rattle.ilp_server.specs.Course.{flight_of, BeginsPacket, BeginsMessage, BeginsInquiry, BeginsRequest, IsOfKnownPeer};
 
+use crate::correcting::serve_correction;
 use crate::fields::sender_of;
 use crate::handled::ConnectionFault;
 use crate::response::Response;
@@ -47,8 +48,9 @@ pub enum Course {
 /// until it is finished; a message is ready for whom it is handed to; all else is done, but for what is
 /// asked of the connector as a whole. Nobody outside is waited for. A report has `behind` at its end.
 ///
-/// What is refused is answered with a status and an empty body, and leaves the flight as it was unless
-/// a packet, a credit or a message was tried. The copy of a Reject that a packet is answered at once
+/// What is refused is answered with a status and an empty body, but for a correction by which the balance
+/// would fall below its least, and leaves the flight as it was unless a packet, a credit, a correction or
+/// a message was tried. The copy of a Reject that a packet is answered at once
 /// takes memory: where that is denied the packet is answered 503.
 pub fn begin_request<
     J: Naming,
@@ -103,6 +105,10 @@ fn begin<J: Naming, C: Clock + Drop, U: Uplink + Drop, E: EngineLink + Drop, K: 
         Some(Target::Settlement { peer }) => {
             let outcome = serve_settlement(rt, alloc, &mut flight.worker, desk, peer, request);
             Course::Answered(Response::to_outcome(outcome))
+        }
+        Some(Target::Correction { peer }) => {
+            let corrected = serve_correction(rt, alloc, &mut flight.worker, desk, peer, request);
+            Course::Answered(Response::to_outcome(corrected))
         }
         Some(Target::Message { peer }) => begin_message(flight, desk, peer, request.body),
         Some(Target::Report) => {

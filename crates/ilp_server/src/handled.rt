@@ -17,24 +17,35 @@ pub enum Handled {
     Fault { fault: ConnectionFault, deed: Deed },
 }
 
+/// What is told of a peer's balance under a key.
+#[derive(Clone, Copy, Debug, PartialEq, Eq)]
+pub enum ToldChange {
+    /// A settlement of the peer, of this quantity.
+    Settlement(Quantity),
+    /// A correction by which the balance rises by this quantity.
+    Rise(Quantity),
+    /// A correction by which it falls by it.
+    Fall(Quantity),
+}
+
 /// What a request brought about that an operator is told of.
 #[derive(Clone, Copy, Debug, PartialEq, Eq)]
 pub enum Deed {
     /// Nothing of that kind.
     Nothing,
-    /// A settlement of the peer was credited by the entry of this number, with so many units of the
-    /// peer's asset. One that had been credited before is none.
+    /// A settlement of the peer, or a correction of its balance, was booked by the entry of this number,
+    /// with so many units of the peer's asset. One that had been booked before is none.
     Credited {
         peer: u32,
         number: u32,
         amount: u64,
     },
-    /// A settlement of the peer is not credited, since the entry of this number has its key with another
-    /// quantity than this.
+    /// What is told of the peer is not booked, since the entry of this number has its key with another
+    /// quantity, or as something else.
     KeyTaken {
         peer: u32,
         number: u32,
-        quantity: Quantity,
+        told: ToldChange,
     },
     /// The peer is answered this Reject for its packet.
     Rejected {

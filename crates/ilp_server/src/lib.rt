@@ -14,13 +14,17 @@
 //!   asked. Else `Worker::credit`'s relation holds of the quantity, the key and the path's peer; a
 //!   credit of which the worker's keeper said that it is not kept is answered 503. Of a message
 //!   `Worker::message`'s relation holds.
+//! - Of a correction with a key and a body that `Correction::read` takes, 503 for want of memory may come
+//!   before a book is asked. Else `Worker::credit`'s relation holds of its quantity, by its direction and for
+//!   its reason. It is answered what the kept amount moved the balance by; where the balance would fall below
+//!   its least, 403 with both (`specs/Corrections.antt`).
 //! - A report is exactly the report of some book of the desk, or 503 where memory is short. It
 //!   changes nothing; nor does a close. A reload, a pause and a resume do nothing: they are answered
 //!   503.
 //! - `Done`: the response with this status was written whole; `Close`: the same of 200, only for a
 //!   close at the engines' side. `Fault`: a write failed before its end; or nothing that is
 //!   answered was read, nothing was written, and the worker is as it was. `Done` and `Fault` have
-//!   the `Deed` (`specs/Deeds.antt`): the credit that was made now, kept or not, the settlement that
+//!   the `Deed` (`specs/Deeds.antt`): the credit or correction that was made now, kept or not, the one that
 //!   was refused since its key is taken, or the Reject that the packet's sender is answered, and
 //!   nothing else.
 //! - `target_of` is what a path asks for at a side (`specs/Targets.antt`), `sender_of` the peer
@@ -31,7 +35,7 @@
 //!   no token leaves the flight as it was, and has the same refusal. A packet is begun as
 //!   `Flight::begin` does, from the token's peer: it waits under that key, or the engine here is to be
 //!   asked, or it is answered by the worker's octets, or by 503 where memory for their copy is denied.
-//!   A message is made ready for the path's peer. Settlements and closes are served whole, as above, and
+//!   A message is made ready for the path's peer. Settlements, corrections and closes are served whole, as above, and
 //!   what waited still waits; so are reports, with what they are to have behind their own text. A reload
 //!   is handed on, and so are a pause and a resume with the path's peer, whom the configuration has; they
 //!   change nothing.
@@ -50,6 +54,8 @@
 #![tactic(auto)]
 
 mod answering;
+mod correcting;
+mod correction_text;
 mod course;
 mod fields;
 mod handled;
@@ -64,7 +70,7 @@ mod work;
 pub use answering::answer_connection;
 pub use course::{Course, begin_request};
 pub use fields::{key_of, sender_of};
-pub use handled::{ConnectionFault, Deed, Handled};
+pub use handled::{ConnectionFault, Deed, Handled, ToldChange};
 pub use response::Response;
 pub use target::{Side, Target, target_of};
 pub use unserved::{NotServed, unread};

@@ -115,8 +115,11 @@ impl Response {
     {
         let deed = deed_of(&outcome);
         let (status, kind, body, closes) = match outcome {
-            Ok(Served::Settlement { text, .. }) => {
+            Ok(Served::Booked { text, .. }) => {
                 (Status::Created, Kind::Json, Body::Octets(text), false)
+            }
+            Ok(Served::BelowLeast(text)) => {
+                (Status::Forbidden, Kind::Json, Body::Octets(text), false)
             }
             Ok(Served::Report(text)) => (Status::Ok, Kind::Text, Body::Text(text), false),
             Ok(Served::Close) => (Status::Ok, Kind::Text, Body::Nothing, true),

@@ -2,14 +2,13 @@
 ghost use Rattle.std.specs.Prelude.{◌≡◌};
 ghost use Rattle.ilp_server.specs.Deeds.{deed_of, credit_deed, refusal_deed, uncredited_deed};
 
-use crate::handled::Deed;
+use crate::handled::{Deed, ToldChange};
 use crate::unserved::NotServed;
 use ilp_book::{CreditFault, Kept};
 use ilp_oer::Octets;
-use ilp_settlement::Quantity;
 use ilp_workers::{NotCredited, ToldReject};
 
-/// What the response to a request that was served has as its body.
+/// What the response to a request has as its body, if it has one.
 #[derive(Drop)]
 pub(crate) enum Served {
     // The octets by which the worker answers the peer's packet, and which Reject they are, if any.
@@ -17,12 +16,15 @@ pub(crate) enum Served {
         peer: u32,
         rejected: Option<ToldReject>,
     },
-    // The JSON of the quantity that is credited, and what is kept of the peer's settlement.
-    Settlement {
+    // The JSON of what the balance was moved by, and what is kept of the peer's settlement or of the
+    // correction.
+    Booked {
         peer: u32,
         kept: Kept,
         text: Octets,
     },
+    // The JSON of the balance that would fall below its least by a correction.
+    BelowLeast(Octets),
     // What the peer's engine answered.
     Message,
     // The report of the book.
@@ -43,37 +45,31 @@ pub(crate) fn deed_of(outcome: &Result<Served, NotServed>) -> Deed
             },
             None => Deed::Nothing,
         },
-        Ok(Served::Settlement { peer, kept, .. }) => credit_deed(*peer, *kept),
-        Err(
-            NotServed::Credit {
-                peer,
-                quantity,
-                fault,
-            },
-        ) => uncredited_deed(*peer, *quantity, *fault),
+        Ok(Served::Booked { peer, kept, .. }) => credit_deed(*peer, *kept),
+        Err(NotServed::Credit { peer, told, fault }) => uncredited_deed(*peer, *told, *fault),
         _ => Deed::Nothing,
     }
 }
 
-// A settlement that is not answered as credited. It may be credited all the same.
-fn uncredited_deed(peer: u32, quantity: Quantity, fault: NotCredited) -> Deed
-    ensures { result ≡ uncredited_deed peer quantity fault }
+// A settlement or a correction that is not answered as booked. It may be booked all the same.
+fn uncredited_deed(peer: u32, told: ToldChange, fault: NotCredited) -> Deed
+    ensures { result ≡ uncredited_deed peer told fault }
 {
     match fault {
-        NotCredited::Refused(fault) => refusal_deed(peer, quantity, fault),
+        NotCredited::Refused(fault) => refusal_deed(peer, told, fault),
         NotCredited::NotKept { credit } => credit_deed(peer, credit),
     }
 }
 
-// A settlement that is not credited, if that is since its key is taken.
-fn refusal_deed(peer: u32, quantity: Quantity, fault: CreditFault) -> Deed
-    ensures { result ≡ refusal_deed peer quantity fault }
+// One that is not booked, if that is since its key is taken.
+fn refusal_deed(peer: u32, told: ToldChange, fault: CreditFault) -> Deed
+    ensures { result ≡ refusal_deed peer told fault }
 {
     match fault {
         CreditFault::KeyTaken { kept } => Deed::KeyTaken {
             peer,
             number: kept,
-            quantity,
+            told,
         },
         _ => Deed::Nothing,
     }

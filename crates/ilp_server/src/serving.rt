@@ -4,13 +4,15 @@ ghost use Rattle.ilp_journal.specs.Keys.{IsKey};
 ghost use Rattle.ilp_book.specs.Configured.{IsKnown};
 ghost use Rattle.ilp_server.specs.Serving.{inquiry, Serves, ServesPacket, ServesSettlement, ServesPayment, ServesMessage, TellsReport, ServesReport};
 
+use crate::correcting::serve_correction;
 use crate::fields::{key_of, sender_of};
+use crate::handled::ToldChange;
 use crate::served::Served;
 use crate::target::{Side, Target, target_of};
 use crate::unserved::NotServed;
 use ilp_desk::{Desk, Naming};
 use ilp_http::Request;
-use ilp_journal::Key;
+use ilp_journal::{CreditKind, Key};
 use ilp_oer::Octets;
 use ilp_report::print;
 use ilp_settlement::{LONGEST_QUANTITY, Quantity, put_quantity};
@@ -43,6 +45,9 @@ pub(crate) fn serve<
         Some(Target::Packet) => serve_packet(rt, worker, desk, request),
         Some(Target::Settlement { peer }) => {
             serve_settlement(rt, alloc, worker, desk, peer, request)
+        }
+        Some(Target::Correction { peer }) => {
+            serve_correction(rt, alloc, worker, desk, peer, request)
         }
         Some(Target::Message { peer }) => serve_message(worker, desk, peer, request.body),
         Some(Target::Report) => serve_report(rt, alloc, desk),
@@ -146,14 +151,14 @@ fn serve_payment<
     let Ok(Some(key)) = Key::new(alloc, key) else {
         return Err(NotServed::Memory);
     };
-    match worker.credit(rt, desk, peer, key, &quantity) {
+    match worker.credit(rt, desk, peer, key, &quantity, CreditKind::Settled) {
         Ok(kept) => {
             put_quantity(&mut text, kept.amount, desk.config().scale(peer));
-            Ok(Served::Settlement { peer, kept, text })
+            Ok(Served::Booked { peer, kept, text })
         }
         Err(fault) => Err(NotServed::Credit {
             peer,
-            quantity,
+            told: ToldChange::Settlement(quantity),
             fault,
         }),
     }

@@ -22,6 +22,8 @@ pub enum Target {
     Packet,
     /// Credit a settlement that came in from the peer.
     Settlement { peer: u32 },
+    /// Correct the balance of the peer.
+    Correction { peer: u32 },
     /// Hand a message to the peer's settlement engine.
     Message { peer: u32 },
     /// Tell the balances.
@@ -66,6 +68,9 @@ fn engine_target(config: &Config, path: &[u8]) -> Option<Target>
     }
     if let Some(peer) = peer_in(config, path, b"/settlements") {
         return Some(Target::Settlement { peer });
+    }
+    if let Some(peer) = peer_in(config, path, b"/corrections") {
+        return Some(Target::Correction { peer });
     }
     if let Some(peer) = peer_in(config, path, b"/messages") {
         return Some(Target::Message { peer });

@@ -3,10 +3,10 @@ ghost use Rattle.std.specs.Prelude.{◌≡◌};
 ghost use Rattle.ilp_server.specs.Statuses as statuses;
 ghost use Rattle.ilp_server.specs.Statuses.{status_of, status_of_credit};
 
-use crate::handled::ConnectionFault;
+use crate::handled::{ConnectionFault, ToldChange};
 use ilp_book::CreditFault;
 use ilp_http::{Refusal, RequestFault, Status};
-use ilp_settlement::{Quantity, QuantityFault};
+use ilp_settlement::{CorrectionFault, QuantityFault};
 use ilp_workers::{BadPacket, MessageFault, NotCredited};
 use thiserror::Error;
 
@@ -25,17 +25,20 @@ pub enum NotServed {
     /// The body is no Prepare.
     #[error("{0}")]
     Packet(BadPacket),
-    /// No key of a settlement is given.
-    #[error("no key of a settlement is given")]
+    /// No key of a settlement or a correction is given.
+    #[error("no key is given")]
     NoKey,
     /// The body is no quantity, or memory to read it was denied.
     #[error("{0}")]
     Quantity(QuantityFault),
-    /// The settlement of the peer, of this quantity, is not answered as credited.
+    /// The body is no correction, or memory to read it was denied.
+    #[error("{0}")]
+    Correction(CorrectionFault),
+    /// What is told of the peer is not answered as booked.
     #[error("{fault}")]
     Credit {
         peer: u32,
-        quantity: Quantity,
+        told: ToldChange,
         fault: NotCredited,
     },
     /// The message has no answer.
@@ -62,6 +65,8 @@ impl NotServed {
             NotServed::NoKey => Status::BadRequest,
             NotServed::Quantity(QuantityFault::Memory) => Status::Unavailable,
             NotServed::Quantity(_) => Status::BadRequest,
+            NotServed::Correction(CorrectionFault::Memory) => Status::Unavailable,
+            NotServed::Correction(_) => Status::BadRequest,
             NotServed::Credit {
                 fault: NotCredited::Refused(fault),
                 ..
@@ -79,13 +84,14 @@ impl NotServed {
     }
 }
 
-// The status by which a settlement is answered that is not credited.
+// The status by which a settlement is answered that is not credited, or a correction that is not booked.
 fn status_of_credit(fault: CreditFault) -> Status
     ensures { result ≡ status_of_credit fault }
 {
     match fault {
         CreditFault::TooLarge => Status::BadRequest,
         CreditFault::KeyTaken { .. } => Status::Conflict,
+        CreditFault::BelowLeast { .. } => Status::Forbidden,
         CreditFault::Full => Status::Unavailable,
         CreditFault::Memory => Status::Unavailable,
     }

@@ -16,7 +16,7 @@ use std::alloc::Global;
 /// Whether serving a connection waits for somebody outside of the connector.
 #[derive(Clone, Copy, Debug, PartialEq, Eq)]
 pub enum Work {
-    /// It waits for nobody: a settlement that came in, a report, what is asked of the connector as a
+    /// It waits for nobody: a settlement that came in, a correction, a report, what is asked of the connector as a
     /// whole, and whatever is refused as it stands.
     Local,
     /// It may wait for a peer or an engine: a packet of a peer (RFC 0035), or a message of a peer's

@@ -1,3 +1,4 @@
+pub mod Correction
 pub mod KeyTable
 pub mod Quantity
 pub mod Targets

@@ -5,6 +5,7 @@
 //!
 //! - `Quantity::read`, on what `serde_json` reads, is the amount (below 10^38) and the scale of the
 //!   object, or its first fault; on all else `NotJson`. Want of memory may come instead.
+//! - `Correction::read` is alike, of a quantity with a direction and a reason.
 //! - `credited` is the floor of the quantity at the account's scale, for all scales from 0 to 255,
 //!   and refuses just where that has more than 64 bits.
 //! - `print` appends the JSON of an amount at a scale. `put_quantity` writes it in place of what is
@@ -15,6 +16,7 @@
 //!   nothing. What a look-up costs has no clause.
 #![tactic(auto)]
 
+mod correction;
 mod credit;
 mod json;
 mod key_table;
@@ -22,6 +24,7 @@ mod printed;
 mod quantity;
 mod verdict;
 
+pub use correction::{Correction, CorrectionFault};
 pub use credit::{TooLarge, credited};
 pub use key_table::KeyTable;
 pub use printed::{LONGEST_QUANTITY, print, put_quantity};

@@ -6,11 +6,15 @@ use std::alloc::{AllocError, Global};
 type Form = (&'static str, &'static str);
 
 // Lines of what is booked.
-const FORMS: [Form; 7] = [
+const FORMS: [Form; 8] = [
     ("hold", "hold FROM TO AMOUNT FEE OUT DEADLINE CONDITION"),
     ("fulfilled", "fulfilled HOLD PREIMAGE"),
     ("released", "released HOLD CAUSE"),
     ("credited", "credited PEER KEY AMOUNT SCALE CREDITED"),
+    (
+        "corrected",
+        "corrected PEER KEY AMOUNT SCALE CREDITED WAY REASON",
+    ),
     ("asked", "asked PEER AMOUNT"),
     ("confirmed", "confirmed ASK"),
     ("undone", "undone ASK"),
@@ -19,7 +23,7 @@ const FORMS: [Form; 7] = [
 // Lines of what is brought forward, which only the text of a period above 0 has.
 const HEAD_FORMS: [Form; 3] = [
     ("opened", "opened PEER BALANCE"),
-    ("known", "known PEER KEY AMOUNT SCALE CREDITED"),
+    ("known", "known PEER KEY AMOUNT SCALE CREDITED [WAY REASON]"),
     ("pending", "pending PEER AMOUNT KEY"),
 ];
 

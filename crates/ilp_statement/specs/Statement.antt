@@ -5,11 +5,13 @@ use Rattle.ilp_journal.specs.declared.entry.Entry.{Entry}
 use Rattle.ilp_journal.specs.declared.entry.What.{What}
 use Rattle.ilp_journal.specs.declared.entry.What.TheVariants as what
 use Rattle.ilp_journal.specs.declared.entry.Hold.{Hold}
+use Rattle.ilp_journal.specs.declared.credit_kind.CreditKind.{CreditKind}
+use Rattle.ilp_journal.specs.declared.credit_kind.CreditKind.TheVariants as credit
 use Rattle.ilp_journal.specs.declared.entry.Ask.{Ask}
 use Rattle.ilp_journal.specs.Journal.{Entries, hold_at, ask_at}
 use Rattle.ilp_journal.specs.Balance.{balance, rise_at, fall_at}
 use Rattle.ilp_statement.specs.declared.kind.Kind.{Kind}
-use Rattle.ilp_statement.specs.declared.kind.Kind.TheVariants.{Opened, Sent, Paid, Returned, Received, Refused, Credited, Asked, Confirmed, Undone}
+use Rattle.ilp_statement.specs.declared.kind.Kind.TheVariants.{Opened, Sent, Paid, Returned, Received, Refused, Credited, Corrected, Asked, Confirmed, Undone}
 use Rattle.ilp_statement.specs.declared.line.Line.{Line}
 
 -- ---- which entries are a peer's
@@ -22,13 +24,19 @@ side_of p h sent went = if h.from == p then Some sent else if h.to == p then Som
 abbrev pub owner_is : ℕ → ℕ → Kind → Option Kind
 owner_is p owner kind = if owner == p then Some kind else None
 
+-- whether it is a settlement or a correction
+abbrev pub kind_by : CreditKind → Kind
+kind_by credit.Settled = Credited
+kind_by (credit.Raised reason) = Corrected
+kind_by (credit.Lowered reason) = Corrected
+
 -- What an entry is to the peer, where it is the peer's: it holds the peer's money, ends such a hold or one of a packet that went to it,
--- or is of its settlements or of the balance that it began with.
+-- or is of its settlements, of a correction or of the balance that it began with.
 abbrev pub kind_of : Entries → ℕ → What → Option Kind
 kind_of j p (what.Hold h) = owner_is p h.from Sent
 kind_of j p (what.Fulfilled hold preimage) = option_and_then (λ h. side_of p h Paid Received) (hold_at j hold)
 kind_of j p (what.Released hold cause) = option_and_then (λ h. side_of p h Returned Refused) (hold_at j hold)
-kind_of j p (what.Credited c) = owner_is p c.peer Credited
+kind_of j p (what.Credited c) = owner_is p c.peer (kind_by c.kind)
 kind_of j p (what.Asked a) = owner_is p a.peer Asked
 kind_of j p (what.Confirmed ask) = option_and_then (λ (a : Ask). owner_is p a.peer Confirmed) (ask_at j ask)
 kind_of j p (what.Undone ask) = option_and_then (λ (a : Ask). owner_is p a.peer Undone) (ask_at j ask)

@@ -1,11 +1,11 @@
 //! What an entry is to a peer.
 ghost use Rattle.std.specs.Prelude.{◌≡◌};
 ghost use Rattle.ilp_journal.specs.Journal.{ask_at, hold_at};
-ghost use Rattle.ilp_statement.specs.Statement.{kind_at, kind_of, owner_is, side_of};
+ghost use Rattle.ilp_statement.specs.Statement.{kind_at, kind_by, kind_of, owner_is, side_of};
 
 use crate::standing::{ask_at, hold_at};
 use ilp_book::Book;
-use ilp_journal::{Hold, What};
+use ilp_journal::{CreditKind, Hold, What};
 use std::alloc::Allocator;
 
 /// What an entry is to the peer whose statement lists it.
@@ -25,6 +25,8 @@ pub enum Kind {
     Refused,
     /// It settled.
     Credited,
+    /// Its balance was corrected.
+    Corrected,
     /// A settlement to it was asked for.
     Asked,
     /// That was accepted by its engine.
@@ -52,6 +54,7 @@ impl Kind {
             Kind::Received => "received",
             Kind::Refused => "refused",
             Kind::Credited => "credited",
+            Kind::Corrected => "corrected",
             Kind::Asked => "asked",
             Kind::Confirmed => "confirmed",
             Kind::Undone => "undone",
@@ -70,13 +73,23 @@ impl Kind {
             What::Released { hold, .. } => {
                 side_of(peer, hold_at(book, *hold)?, Kind::Returned, Kind::Refused)
             }
-            What::Credited(credited) => owner_is(peer, credited.peer, Kind::Credited),
+            What::Credited(credited) => owner_is(peer, credited.peer, kind_by(&credited.kind)),
             What::Asked(ask) => owner_is(peer, ask.peer, Kind::Asked),
             What::Confirmed { ask } => owner_is(peer, ask_at(book, *ask)?.peer, Kind::Confirmed),
             What::Undone { ask } => owner_is(peer, ask_at(book, *ask)?.peer, Kind::Undone),
             What::Opened { peer: opened, .. } => owner_is(peer, *opened, Kind::Opened),
             What::Known(_) | What::Pending { .. } => None,
         }
+    }
+}
+
+// Whether it is a settlement or a correction.
+fn kind_by(kind: &CreditKind) -> Kind
+    ensures { result ≡ kind_by kind.now }
+{
+    match kind {
+        CreditKind::Settled => Kind::Credited,
+        CreditKind::Raised(_) | CreditKind::Lowered(_) => Kind::Corrected,
     }
 }
 

@@ -40,7 +40,9 @@ fn rise<A: Allocator>(book: &Book<A>, peer: u32, what: &What) -> u64
             Some(hold) if hold.from == peer => hold.amount,
             _ => 0,
         },
-        What::Credited(credited) if credited.peer == peer => credited.credited,
+        What::Credited(credited) if credited.peer == peer => {
+            credited.kind.raising(credited.credited)
+        }
         What::Undone { ask } => match ask_at(book, *ask) {
             Some(ask) if ask.peer == peer => ask.amount,
             _ => 0,
@@ -59,6 +61,9 @@ fn fall(peer: u32, what: &What) -> u64
 {
     match what {
         What::Hold(hold) if hold.from == peer => hold.amount,
+        What::Credited(credited) if credited.peer == peer => {
+            credited.kind.lowering(credited.credited)
+        }
         What::Asked(ask) if ask.peer == peer => ask.amount,
         What::Opened {
             peer: opened,

@@ -1,5 +1,7 @@
 -- What an entry is about, in units of the asset of the peer whose it is.
-use Rattle.std.specs.Prelude.{ℕ, ℤ, pos, Option, Some, None, option_map, option_and_then, slice_get, if◌then◌else◌, ◌==◌}
+use Rattle.std.specs.Prelude.{ℕ, ℤ, pos, ◌-ℤ◌, Option, Some, None, option_map, option_and_then, slice_get, if◌then◌else◌, ◌==◌}
+use Rattle.ilp_journal.specs.declared.credit_kind.CreditKind.{CreditKind}
+use Rattle.ilp_journal.specs.declared.credit_kind.CreditKind.TheVariants.{Settled, Raised, Lowered}
 use Rattle.ilp_journal.specs.declared.entry.Ask.{Ask}
 use Rattle.ilp_journal.specs.declared.entry.Entry.{Entry}
 use Rattle.ilp_journal.specs.declared.entry.Hold.{Hold}
@@ -13,12 +15,18 @@ use Rattle.ilp_statement_text.specs.declared.row.About.TheVariants as about
 abbrev pub side_amount : ℕ → Hold → ℤ
 side_amount p h = pos (if h.from == p then h.amount else h.out)
 
+-- by how much a settlement or a correction raises the balance, which lies below 0 where it lowers it
+abbrev pub change_by : CreditKind → ℕ → ℤ
+change_by Settled amount = pos amount
+change_by (Raised reason) amount = pos amount
+change_by (Lowered reason) amount = pos 0 -ℤ pos amount
+
 -- what an entry of the peer's is about
 abbrev pub amount_of : Entries → ℕ → What → Option ℤ
 amount_of j p (what.Hold h) = Some (side_amount p h)
 amount_of j p (what.Fulfilled hold preimage) = option_map (side_amount p) (hold_at j hold)
 amount_of j p (what.Released hold cause) = option_map (side_amount p) (hold_at j hold)
-amount_of j p (what.Credited c) = Some (pos c.credited)
+amount_of j p (what.Credited c) = Some (change_by c.kind c.credited)
 amount_of j p (what.Asked a) = Some (pos a.amount)
 amount_of j p (what.Confirmed ask) = option_map (λ (a : Ask). pos a.amount) (ask_at j ask)
 amount_of j p (what.Undone ask) = option_map (λ (a : Ask). pos a.amount) (ask_at j ask)
@@ -35,3 +43,4 @@ abbrev pub amount_in : About → ℤ
 amount_in (about.Balance balance) = balance
 amount_in (about.Packet other amount condition) = pos amount
 amount_in (about.Settlement amount key) = pos amount
+amount_in (about.Correction change key) = change

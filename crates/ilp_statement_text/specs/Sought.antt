@@ -59,11 +59,13 @@ abbrev pub condition_in : About → Option (List ℕ)
 condition_in (about.Balance balance) = None
 condition_in (about.Packet other amount condition) = Some condition
 condition_in (about.Settlement amount key) = None
+condition_in (about.Correction change key) = None
 
 abbrev pub key_in : About → Option (List ℕ)
 key_in (about.Balance balance) = None
 key_in (about.Packet other amount condition) = None
 key_in (about.Settlement amount key) = Some (octets_of key)
+key_in (about.Correction change key) = Some (octets_of key)
 
 -- ---- what is looked for
 

@@ -134,7 +134,20 @@ pub(crate) struct KeyText<'b> {
     spaces: Spaces,
 }
 
-/// How a space in a key is printed.
+/// Octets that were given, as they are printed: as a key is.
+#[derive(Clone, Copy)]
+pub(crate) struct OctetsText<'o> {
+    pub(crate) octets: &'o [u8],
+    pub(crate) spaces: Spaces,
+}
+
+impl Display for OctetsText<'_> {
+    fn fmt<W: fmt::Write>(&self, f: &mut fmt::Formatter<W>) -> fmt::Result {
+        put_octets(self.octets, self.spaces, f)
+    }
+}
+
+/// How a space in a key or a reason is printed.
 #[derive(Clone, Copy, Debug, PartialEq, Eq)]
 pub(crate) enum Spaces {
     /// As it is.

@@ -35,6 +35,6 @@ pub use fault::StatementFault;
 pub use key::SettlementKey;
 pub use moment::{Moment, moment_of};
 pub use records::put_records;
-pub use row::{About, Row};
+pub use row::{About, Row, Why};
 pub use rows::put_rows;
 pub use sought::Sought;

@@ -6,7 +6,7 @@ use crate::extent::Extent;
 use crate::key::Spaces;
 use crate::moment::Moment;
 use crate::row::Row;
-use crate::shown::{CauseText, Hexadecimal, OrDash};
+use crate::shown::{Hexadecimal, OrDash, WhyText};
 use crate::totals::Total;
 use std::fmt;
 use std::fmt::Display;
@@ -83,8 +83,9 @@ impl EntryLine<'_> {
         let ends = OrDash(self.row.ends);
         let condition = OrDash(self.row.condition().map(|octets| Hexadecimal(octets)));
         let key = OrDash(self.row.key().map(|key| key.text(Spaces::Escaped)));
-        let cause = OrDash(self.row.cause.map(CauseText));
-        write!(f, " {ends} {condition} {key} {cause}")
+        let spaces = Spaces::Escaped;
+        let why = OrDash(self.row.why.map(|why| WhyText { why, spaces }));
+        write!(f, " {ends} {condition} {key} {why}")
     }
 }
 

@@ -4,11 +4,11 @@ ghost use Rattle.std.specs.Prelude.{◌<◌, ◌≤◌, length};
 use crate::account::Account;
 use crate::extent::Extent;
 use crate::fault::StatementFault;
-use crate::key::Spaces;
+use crate::key::{OctetsText, Spaces};
 use crate::listing::listed;
 use crate::moment::Moment;
 use crate::row::Row;
-use crate::shown::{CauseText, Hexadecimal};
+use crate::shown::{Hexadecimal, WhyText};
 use crate::sought::Sought;
 use csv::{Terminator, Writer, WriterBuilder};
 use ilp_book::Book;
@@ -47,8 +47,8 @@ const COLUMNS: [&str; 16] = [
 /// - `amount` is what the entry is about, `in` and `out` by how much it raised or lowered the balance, if it did, and
 ///   `balance` what that was behind it, all in decimals of the asset's scale.
 /// - `ends` is the number of the packet or settlement that the entry ends, `cause` why a packet was not fulfilled,
-///   as in the text of a journal, and `condition` a packet's.
-/// - In `key`, a settlement's, a backslash, an octet that is not printable ASCII, and a first `=`, `+`, `-` or `@`
+///   as in the text of a journal, or the reason of a correction, and `condition` a packet's.
+/// - In names, in `key`, a settlement's or a correction's, and in a reason, a backslash, an octet that is not printable ASCII, and a first `=`, `+`, `-` or `@`
 ///   are written as `\x` and two hexadecimal digits.
 ///
 /// It takes memory for each entry of the peer's in the extent, and for one field. `Memory` tells that it is short,
@@ -136,16 +136,24 @@ impl<'s, W: Sink> Records<'s, W> {
     // What stands in every row.
     fn put_account(&mut self) -> Result<(), StatementFault> {
         let account = self.account;
-        self.put(account.run)?;
+        self.put_name(account.run)?;
         self.put(account.period)?;
-        self.put(account.peer)?;
+        self.put_name(account.peer)?;
         self.put(account.asset)
+    }
+
+    // A name, of which a spreadsheet takes no octet for the beginning of a formula.
+    fn put_name(&mut self, name: &str) -> Result<(), StatementFault> {
+        self.put(OctetsText {
+            octets: name.as_bytes(),
+            spaces: Spaces::Stand,
+        })
     }
 
     // With whom, and what of it is in the balance.
     fn put_moves(&mut self, row: &Row<'_>) -> Result<(), StatementFault> {
         let account = self.account;
-        self.put_if(row.with())?;
+        self.put_name(row.with().unwrap_or(""))?;
         self.put(account.amount(row.amount()))?;
         self.put_if(account.amount_above_0(row.line.rise))?;
         self.put_if(account.amount_above_0(row.line.fall))?;
@@ -155,7 +163,8 @@ impl<'s, W: Sink> Records<'s, W> {
     // What it ends and why, and by what that is known.
     fn put_about(&mut self, row: &Row<'_>) -> Result<(), StatementFault> {
         self.put_if(row.ends)?;
-        self.put_if(row.cause.map(CauseText))?;
+        let spaces = Spaces::Stand;
+        self.put_if(row.why.map(|why| WhyText { why, spaces }))?;
         self.put_if(row.condition().map(|octets| Hexadecimal(octets)))?;
         self.put_if(row.key().map(|key| key.text(Spaces::Stand)))
     }

@@ -4,13 +4,13 @@ ghost use Rattle.ilp_journal.specs.declared.entry.Entry.{Entry};
 ghost use Rattle.ilp_journal.specs.Journal.{ended};
 ghost use Rattle.ilp_rules.specs.SettlementKeys.{settlement_key_at};
 ghost use Rattle.ilp_statement.specs.Statement.{kind_at, kind_of};
-ghost use Rattle.ilp_statement_text.specs.Amounts.{amount_at, amount_in, amount_of, side_amount};
+ghost use Rattle.ilp_statement_text.specs.Amounts.{amount_at, amount_in, amount_of, change_by, side_amount};
 ghost use Rattle.ilp_statement_text.specs.Sought.{condition_at, condition_in, condition_of, key_at, key_in, key_of};
 
 use crate::key::SettlementKey;
 use ilp_accounts::Config;
 use ilp_book::Book;
-use ilp_journal::{Cause, Hold, What};
+use ilp_journal::{Cause, CreditKind, Credited, Hold, What};
 use ilp_statement::{Kind, Line, ask_at, hold_at};
 
 /// A line of a peer's statement with what its entry is about.
@@ -23,8 +23,17 @@ pub struct Row<'b> {
     pub about: About<'b>,
     /// The number of the hold or of the settlement that it ends.
     pub ends: Option<u32>,
-    /// Why a packet was not fulfilled.
-    pub cause: Option<Cause>,
+    /// Why a packet was not fulfilled, or the balance was corrected.
+    pub why: Option<Why<'b>>,
+}
+
+/// Why an entry was booked.
+#[derive(Clone, Copy, Debug)]
+pub enum Why<'b> {
+    /// A packet was not fulfilled for this cause.
+    Cause(Cause),
+    /// The balance was corrected for this reason, in the operator's words.
+    Reason(&'b [u8]),
 }
 
 /// What an entry of a peer's is about, in units of the peer's asset.
@@ -41,6 +50,11 @@ pub enum About<'b> {
     /// A settlement of this amount under this key.
     Settlement {
         amount: u64,
+        key: SettlementKey<'b>,
+    },
+    /// A correction under this key: by how much the balance rose, which lies below 0 where it fell.
+    Correction {
+        change: i128,
         key: SettlementKey<'b>,
     },
 }
@@ -67,7 +81,7 @@ impl<'b> Row<'b> {
             kind: Kind::at(book, peer, line.number)?,
             about: About::of(book, peer, line.number, what)?,
             ends: what.answered().or(what.closed()),
-            cause: cause_of(what),
+            why: why_of(what),
         })
     }
 }
@@ -80,6 +94,7 @@ impl Row<'_> {
         match self.about {
             About::Balance(balance) => i128::from(balance),
             About::Packet { amount, .. } | About::Settlement { amount, .. } => i128::from(amount),
+            About::Correction { change, .. } => change,
         }
     }
 
@@ -99,10 +114,10 @@ impl Row<'_> {
         }
     }
 
-    /// The key of a settlement.
+    /// The key of a settlement or a correction.
     pub fn key(&self) -> Option<SettlementKey<'_>> {
         match self.about {
-            About::Settlement { key, .. } => Some(key),
+            About::Settlement { key, .. } | About::Correction { key, .. } => Some(key),
             _ => None,
         }
     }
@@ -124,10 +139,7 @@ impl<'b> About<'b> {
             What::Fulfilled { hold, .. } | What::Released { hold, .. } => {
                 Some(packet(book.config(), peer, hold_at(book, *hold)?))
             }
-            What::Credited(credited) => Some(About::Settlement {
-                amount: credited.credited,
-                key: SettlementKey::Given(credited.key.as_slice()),
-            }),
+            What::Credited(credited) => Some(credit(credited)),
             What::Asked(ask) => Some(asked(book, number, ask.amount)),
             What::Confirmed { ask } | What::Undone { ask } => {
                 Some(asked(book, *ask, ask_at(book, *ask)?.amount))
@@ -135,6 +147,27 @@ impl<'b> About<'b> {
             What::Opened { balance, .. } => Some(About::Balance(*balance)),
             What::Known(_) | What::Pending { .. } => None,
         }
+    }
+}
+
+// A settlement from a peer, or a correction of its balance.
+fn credit(credited: &Credited) -> About<'_>
+    ensures amount { amount_in result ≡ change_by credited.now.kind credited.now.credited }
+    ensures condition { condition_in result ≡ None }
+    ensures key { key_in result ≡ Some credited.now.key }
+{
+    let amount = credited.credited;
+    let key = SettlementKey::Given(credited.key.as_slice());
+    match &credited.kind {
+        CreditKind::Settled => About::Settlement { amount, key },
+        CreditKind::Raised(_) => About::Correction {
+            change: i128::from(amount),
+            key,
+        },
+        CreditKind::Lowered(_) => About::Correction {
+            change: -i128::from(amount),
+            key,
+        },
     }
 }
 
@@ -170,10 +203,16 @@ fn asked(book: &Book, number: u32, amount: u64) -> About<'_>
     }
 }
 
-// Why an entry's packet was not fulfilled.
-fn cause_of(what: &What) -> Option<Cause> {
+// Why an entry's packet was not fulfilled, or a balance was corrected.
+fn why_of(what: &What) -> Option<Why<'_>> {
     match what {
-        What::Released { cause, .. } => Some(*cause),
+        What::Released { cause, .. } => Some(Why::Cause(*cause)),
+        What::Credited(credited) => match &credited.kind {
+            CreditKind::Settled => None,
+            CreditKind::Raised(reason) | CreditKind::Lowered(reason) => {
+                Some(Why::Reason(reason.as_slice()))
+            }
+        },
         _ => None,
     }
 }

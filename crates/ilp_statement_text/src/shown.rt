@@ -1,5 +1,7 @@
 //! How the parts of a row are printed.
 
+use crate::key::{OctetsText, Spaces};
+use crate::row::Why;
 use ilp_journal::Cause;
 use std::fmt;
 use std::fmt::Display;
@@ -30,9 +32,28 @@ impl Display for Hexadecimal<'_> {
     }
 }
 
-/// Why a packet was not fulfilled, as in the text of a journal.
+/// Why an entry was booked: the cause of a release as in the text of a journal, or a reason.
 #[derive(Clone, Copy)]
-pub(crate) struct CauseText(pub(crate) Cause);
+pub(crate) struct WhyText<'b> {
+    pub(crate) why: Why<'b>,
+    pub(crate) spaces: Spaces,
+}
+
+impl Display for WhyText<'_> {
+    fn fmt<W: fmt::Write>(&self, f: &mut fmt::Formatter<W>) -> fmt::Result {
+        match self.why {
+            Why::Cause(cause) => write!(f, "{}", CauseText(cause)),
+            Why::Reason(octets) => {
+                let spaces = self.spaces;
+                write!(f, "{}", OctetsText { octets, spaces })
+            }
+        }
+    }
+}
+
+// The cause of a release.
+#[derive(Clone, Copy)]
+struct CauseText(Cause);
 
 impl Display for CauseText {
     fn fmt<W: fmt::Write>(&self, f: &mut fmt::Formatter<W>) -> fmt::Result {

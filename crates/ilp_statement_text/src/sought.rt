@@ -23,7 +23,9 @@ impl Sought<'_> {
         match (row.about, self.packet, self.key) {
             (_, None, None) => true,
             (About::Packet { condition, .. }, Some(digits), _) => begins_with(&condition, digits),
-            (About::Settlement { key, .. }, _, Some(octets)) => key.is(octets),
+            (About::Settlement { key, .. } | About::Correction { key, .. }, _, Some(octets)) => {
+                key.is(octets)
+            }
             _ => false,
         }
     }

@@ -35,7 +35,7 @@ impl Total {
 
 /// A total of each kind.
 #[derive(Clone, Copy)]
-pub(crate) struct Totals(pub(crate) [Total; 10]);
+pub(crate) struct Totals(pub(crate) [Total; 11]);
 
 impl Totals {
     /// Those of no rows.
@@ -48,6 +48,7 @@ impl Totals {
             Total::of(Kind::Received),
             Total::of(Kind::Refused),
             Total::of(Kind::Credited),
+            Total::of(Kind::Corrected),
             Total::of(Kind::Asked),
             Total::of(Kind::Confirmed),
             Total::of(Kind::Undone),

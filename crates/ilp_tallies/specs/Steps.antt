@@ -6,6 +6,7 @@ use Rattle.ilp_journal.specs.declared.entry.Hold.{Hold}
 use Rattle.ilp_journal.specs.declared.entry.Ask.{Ask}
 use Rattle.ilp_journal.specs.declared.entry.Credited.{Credited}
 use Rattle.ilp_journal.specs.Journal.{Entries, hold_at, ask_at}
+use Rattle.ilp_journal.specs.Credits.{raising, lowering}
 use Rattle.ilp_journal.specs.Balance.{above, below}
 use Rattle.ilp_tallies.specs.declared.step.Step.{Step}
 use Rattle.ilp_tallies.specs.Rows.{zero_peer, zero_asset, peer_plus, asset_plus, FitsPeer, FitsAsset}
@@ -67,9 +68,12 @@ paid_in peer amount = record (no_step peer) {
   from_sums = record zero_asset { paid_in = amount };
 }
 
--- a credit raises the balance of its peer
+-- a credit raises the balance of its peer, and a correction raises or lowers it
 abbrev pub credit_step : Credited → Step
-credit_step c = paid_in c.peer c.credited
+credit_step c = record (no_step c.peer) {
+  from_row = record zero_peer { raised = raising c.kind c.credited; lowered = lowering c.kind c.credited };
+  from_sums = record zero_asset { paid_in = raising c.kind c.credited; paid_out = lowering c.kind c.credited };
+}
 
 -- a settlement that is asked for lowers the balance of its peer
 abbrev pub ask_step : Ask → Step

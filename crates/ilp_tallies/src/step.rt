@@ -174,12 +174,26 @@ fn release_step(base: u32, number: u32, hold: &Hold) -> Step
     }
 }
 
-// A credit raises the balance of its peer.
+// A credit raises the balance of its peer, and a correction raises or lowers it.
 fn credit_step(credited: &Credited) -> Step
     ensures step { result ≡ steps.credit_step credited.now }
     ensures fits { FitsStep result }
 {
-    paid_in(credited.peer, credited.credited)
+    let raised = u128::from(credited.kind.raising(credited.credited));
+    let lowered = u128::from(credited.kind.lowering(credited.credited));
+    Step {
+        from_row: PeerRow {
+            raised,
+            lowered,
+            ..PeerRow::zero()
+        },
+        from_sums: AssetRow {
+            paid_in: raised,
+            paid_out: lowered,
+            ..AssetRow::zero()
+        },
+        ..no_step(credited.peer)
+    }
 }
 
 // A settlement that is asked for lowers the balance of its peer.

@@ -1,5 +1,5 @@
 -- A credit is told behind its entry.
-use Rattle.std.proofs.Common.{◌≡◌, ℕ, Bool, true, false, List, [], ◌∷◌, ◌++◌, length, Option, Some, None, inl, inr, refl, sym, ap, subst}
+use Rattle.std.proofs.Common.{◌≡◌, ℕ, ℤ, Bool, true, false, List, [], ◌∷◌, ◌++◌, length, Option, Some, None, inl, inr, refl, sym, ap, subst}
 use Rattle.std.specs.Prelude.{Result, Ok, Err, ◌==◌, ◌&&◌, not, nat_lt, option_and_then, if◌then◌else◌}
 use Rattle.ilp_assets.specs.Quote.{most}
 use Rattle.ilp_journal.specs.declared.entry.Entry.{Entry}
@@ -11,7 +11,7 @@ use Rattle.ilp_book.specs.declared.calls.Kept.{Kept}
 use Rattle.ilp_book.specs.declared.fault.CreditFault.{CreditFault}
 use Rattle.ilp_book.specs.declared.fault.CreditFault.TheVariants as credit_fault
 use Rattle.ilp_book.specs.Book.{PlainBook, By, by, Growth, granted, denied, Does, has_room, entry_by, appended, with_entry}
-use Rattle.ilp_journal.specs.Credits.{as_credit, credit_at}
+use Rattle.ilp_journal.specs.Credits.{same_kind, as_credit, credit_at}
 use Rattle.ilp_book.specs.SettleStep.{kept, credit_kept, Payment, amount_of, credit_of, credit_fresh, credit_checked, credit_growth, credit_booked, credit_step}
 use Rattle.ilp_desk.specs.Desk.{PlainDesk}
 use Rattle.ilp_keeping.specs.declared.keeper.NotKept.{NotKept}
@@ -34,8 +34,8 @@ record IsEntered (j : Entries) (p : Payment) (credit : Kept) : Type 0 where
   amount : entry.credited ≡ credit.amount
 
 -- one that was kept before
-by_kept : (j : Entries) (p : Payment) (n : ℕ) (c : Credited) (credit : Kept) → kept j p.peer p.key ≡ Some (n, c) → ◌≡◌ {A = Result Kept CreditFault} (Ok credit) (credit_kept p.quantity (n, c)) → IsEntered j p credit
-by_kept j p n c credit is replied = of ((c.named == p.quantity.amount) && (c.scale == p.quantity.scale)) replied
+by_kept : (j : Entries) (p : Payment) (n : ℕ) (c : Credited) (credit : Kept) → kept j p.peer p.key ≡ Some (n, c) → ◌≡◌ {A = Result Kept CreditFault} (Ok credit) (credit_kept p.quantity p.kind (n, c)) → IsEntered j p credit
+by_kept j p n c credit is replied = of ((c.named == p.quantity.amount) && (c.scale == p.quantity.scale) && same_kind c.kind p.kind) replied
   where
     of : (b : Bool) → ◌≡◌ {A = Result Kept CreditFault} (Ok credit) (if b then Ok (record { number = n; amount = c.credited; fresh = false }) else Err (credit_fault.KeyTaken n)) → IsEntered j p credit
     of true e =
@@ -45,12 +45,13 @@ by_kept j p n c credit is replied = of ((c.named == p.quantity.amount) && (c.sca
     of false e = absurd cc
 
 -- a new one, if there is room and memory for it
-by_fitted : (book : PlainBook) (caller : By) (p : Payment) (growth : Growth) (room : Bool) (credit : Kept)
-    → ◌≡◌ {A = Result Kept CreditFault} (Ok credit) (credit_booked book caller growth (refuse_if (not room) (Err credit_fault.Full) >>= λ _. Ok (credit_of book.config p))).reply
-    → IsEntered (appended book.entries (credit_booked book caller growth (refuse_if (not room) (Err credit_fault.Full) >>= λ _. Ok (credit_of book.config p))).entry) p credit
-by_fitted book caller p growth false credit e = absurd cc
-by_fitted book caller p denied true credit e = absurd cc
-by_fitted book caller p granted true credit e =
+by_fitted : (book : PlainBook) (caller : By) (p : Payment) (growth : Growth) (owed least : ℤ) (room short : Bool) (credit : Kept)
+    → ◌≡◌ {A = Result Kept CreditFault} (Ok credit) (credit_booked book caller growth (refuse_if (not room) (Err credit_fault.Full) >>= λ _. refuse_if short (Err (credit_fault.BelowLeast owed least)) >>= λ _. Ok (credit_of book.config p))).reply
+    → IsEntered (appended book.entries (credit_booked book caller growth (refuse_if (not room) (Err credit_fault.Full) >>= λ _. refuse_if short (Err (credit_fault.BelowLeast owed least)) >>= λ _. Ok (credit_of book.config p))).entry) p credit
+by_fitted book caller p growth owed least false short credit e = absurd cc
+by_fitted book caller p growth owed least true true credit e = absurd cc
+by_fitted book caller p denied owed least true false credit e = absurd cc
+by_fitted book caller p granted owed least true false credit e =
     let c = credit_of book.config p in
     let entry = entry_by book caller (what.Credited c) in
     let same : record { number = length book.entries; amount = c.credited; fresh = true } ≡ credit = cc in
@@ -66,7 +67,7 @@ by_checked : (book : PlainBook) (caller : By) (p : Payment) (growth : Growth) (l
     → ◌≡◌ {A = Result Kept CreditFault} (Ok credit) (credit_booked book caller growth (refuse_if large (Err credit_fault.TooLarge) >>= λ _. credit_fresh book p o)).reply
     → IsEntered (appended book.entries (credit_booked book caller growth (refuse_if large (Err credit_fault.TooLarge) >>= λ _. credit_fresh book p o)).entry) p credit
 by_checked book caller p growth true o credit is e = absurd cc
-by_checked book caller p growth false None credit is e = by_fitted book caller p growth (has_room book 1) credit e
+by_checked book caller p growth false None credit is e = by_fitted book caller p growth _ _ (has_room book 1) _ credit e
 by_checked book caller p growth false (Some x) credit is e = by_kept book.entries p x.0 x.1 credit is e
 
 of_step : (book : PlainBook) (caller : By) (p : Payment) (growth : Growth) (credit : Kept) → ◌≡◌ {A = Result Kept CreditFault} (Ok credit) (credit_step book caller p growth).reply

@@ -24,7 +24,8 @@ use Rattle.ilp_book.specs.declared.fault.CreditFault.{CreditFault}
 use Rattle.ilp_book.specs.declared.fault.CreditFault.TheVariants as credit_fault
 use Rattle.ilp_book.specs.Configured.{scale_at}
 use Rattle.ilp_book.specs.Book.{PlainBook, By, by, Growth, granted, denied, Made, Does, has_room}
-use Rattle.ilp_journal.specs.Credits.{as_credit, credit_at, has_key, kept_at}
+use Rattle.ilp_journal.specs.Credits.{same_kind, as_credit, credit_at, has_key, kept_at}
+use Rattle.ilp_journal.proofs.KindLemmas.{same_kinds}
 use Rattle.ilp_book.specs.Lawful.{IsLawful, KeepsRule, KeepsRuleOf, quantity_named}
 use Rattle.ilp_book.specs.SettleStep.{kept, credit_kept, Payment, amount_of, credit_of, credit_fresh, credit_checked, credit_growth, credit_booked, credit_step}
 use Rattle.ilp_rules.proofs.Standing.{first_found}
@@ -111,8 +112,8 @@ record IsCreditStep (book : PlainBook) (p : Payment) (made : Made (Result Kept C
 
 -- a credit that is kept is answered as it was
 by_kept : (book : PlainBook) (caller : By) (p : Payment) (growth : Growth) (n : ℕ) (c : Credited) → IsLawful book → kept book.entries p.peer p.key ≡ Some (n, c)
-    → IsCreditStep book p (credit_booked book caller growth (Err (credit_kept p.quantity (n, c))))
-by_kept book caller p growth n c lawful is = of (c.named == p.quantity.amount) (c.scale == p.quantity.scale) refl refl
+    → IsCreditStep book p (credit_booked book caller growth (Err (credit_kept p.quantity p.kind (n, c))))
+by_kept book caller p growth n c lawful is = of (c.named == p.quantity.amount) (c.scale == p.quantity.scale) (same_kind c.kind p.kind) refl refl refl
   where
     its : (credit_at book.entries n ≡ Some c) × (c.peer ≡ p.peer) × (c.key ≡ p.key)
     its = kept_is_its book.entries p.peer p.key n c is
@@ -127,9 +128,9 @@ by_kept book caller p growth n c lawful is = of (c.named == p.quantity.amount) (
     kept_now : Kept
     kept_now = record { number = n; amount = c.credited; fresh = false }
 
-    amount : c.named ≡ p.quantity.amount → c.scale ≡ p.quantity.scale → IsRoundedOr book (known_at book.entries n) c → TellsAmount book.config book.period book.entries p kept_now
-    amount named scale (inl is) = inl (rounded is named scale)
-    amount named scale (inr is) = inr (record {
+    amount : c.named ≡ p.quantity.amount → c.scale ≡ p.quantity.scale → c.kind ≡ p.kind → IsRoundedOr book (known_at book.entries n) c → TellsAmount book.config book.period book.entries p kept_now
+    amount named scale kind (inl is) = inl (rounded is named scale)
+    amount named scale kind (inr is) = inr (record {
       later = is.0;
       credit = c;
       known = is.1;
@@ -137,20 +138,24 @@ by_kept book caller p growth n c lawful is = of (c.named == p.quantity.amount) (
       key = its.2;
       named = named;
       scale = scale;
+      kind = kind;
       amount = refl;
     })
 
-    of : (a b : Bool) → (c.named == p.quantity.amount) ≡ a → (c.scale == p.quantity.scale) ≡ b
-        → IsCreditStep book p (credit_booked book caller growth (Err (cond (a && b) (Ok (record { number = n; amount = c.credited; fresh = false })) (Err (credit_fault.KeyTaken n)))))
-    of true true named scale = record { counted = refl; amount = amount (eqb-true _ _ named) (eqb-true _ _ scale) (all_rounded book book.entries lawful.rules n c its.0); allowed = λ e. cc }
-    of true false named scale = record { counted = refl; amount = tt; allowed = λ e. cc }
-    of false b named scale = record { counted = refl; amount = tt; allowed = λ e. cc }
+    of : (a b k : Bool) → (c.named == p.quantity.amount) ≡ a → (c.scale == p.quantity.scale) ≡ b → same_kind c.kind p.kind ≡ k
+        → IsCreditStep book p (credit_booked book caller growth (Err (cond (a && (b && k)) (Ok (record { number = n; amount = c.credited; fresh = false })) (Err (credit_fault.KeyTaken n)))))
+    of true true true named scale kind = record { counted = refl; amount = amount (eqb-true _ _ named) (eqb-true _ _ scale) (same_kinds c.kind p.kind kind) (all_rounded book book.entries lawful.rules n c its.0); allowed = λ e. cc }
+    of true true false named scale kind = record { counted = refl; amount = tt; allowed = λ e. cc }
+    of true false k named scale kind = record { counted = refl; amount = tt; allowed = λ e. cc }
+    of false b k named scale kind = record { counted = refl; amount = tt; allowed = λ e. cc }
 
 -- a new one is booked, if there is room and memory for it
-by_fitted : (book : PlainBook) (caller : By) (p : Payment) (growth : Growth) (room : Bool) → IsCreditStep book p (credit_booked book caller growth (refuse_if (not room) (Err credit_fault.Full) >>= λ _. Ok (credit_of book.config p)))
-by_fitted book caller p growth false = record { counted = refl; amount = tt; allowed = λ e. cc }
-by_fitted book caller p denied true = record { counted = refl; amount = tt; allowed = λ e. cc }
-by_fitted book caller p granted true = record { counted = refl; amount = inl refl; allowed = λ e. cc }
+by_fitted : (book : PlainBook) (caller : By) (p : Payment) (growth : Growth) (owed least : ℤ) (room short : Bool)
+    → IsCreditStep book p (credit_booked book caller growth (refuse_if (not room) (Err credit_fault.Full) >>= λ _. refuse_if short (Err (credit_fault.BelowLeast owed least)) >>= λ _. Ok (credit_of book.config p)))
+by_fitted book caller p growth owed least false short = record { counted = refl; amount = tt; allowed = λ e. cc }
+by_fitted book caller p growth owed least true true = record { counted = refl; amount = tt; allowed = λ e. cc }
+by_fitted book caller p denied owed least true false = record { counted = refl; amount = tt; allowed = λ e. cc }
+by_fitted book caller p granted owed least true false = record { counted = refl; amount = inl refl; allowed = λ e. cc }
 
 credit_step_is : (book : PlainBook) (caller : By) (p : Payment) (growth : Growth) → IsLawful book → amount_of book.config p ≤ most → IsCreditStep book p (credit_step book caller p growth)
 unfolding credit_step credit_checked
@@ -161,7 +166,7 @@ credit_step_is book caller p growth lawful fits =
     subst (λ b. Step b (kept book.entries p.peer p.key)) (sym small) (of (kept book.entries p.peer p.key) refl)
   where
     of : (o : Option (ℕ × Credited)) → kept book.entries p.peer p.key ≡ o → IsCreditStep book p (credit_booked book caller growth (credit_fresh book p o))
-    of None is = by_fitted book caller p growth (has_room book 1)
+    of None is = by_fitted book caller p growth _ _ (has_room book 1) _
     of (Some x) is = by_kept book caller p growth x.0 x.1 lawful is
 
 -- ---- sessions
@@ -191,6 +196,7 @@ tells_of_desk desk book p told of_desk (inr was) = inr (record {
   key = was.key;
   named = was.named;
   scale = was.scale;
+  kind = was.kind;
   amount = was.amount;
 })
 

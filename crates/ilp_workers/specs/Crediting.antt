@@ -1,4 +1,4 @@
--- What becomes of a settlement from a peer, which the peer's engine tells a worker of.
+-- What becomes of a settlement from a peer, which the peer's engine tells a worker of, and of a correction of its balance.
 use Rattle.std.specs.Prelude.{◌≡◌, ◌≢◌, ℕ, ◌+◌, ◌<◌, ◌≤◌, ℤ, ◌⊎◌, List, [], ◌∷◌, ◌++◌, length, Option, Some, None, option_and_then, slice_get, Result, Ok, Err, IfOk, if◌then◌else◌}
 use Rattle.ilp_assets.specs.Quote.{most}
 use Rattle.ilp_accounts.specs.Configuration.{Configuration}
@@ -7,6 +7,7 @@ use Rattle.ilp_journal.specs.declared.entry.What.{What}
 use Rattle.ilp_journal.specs.declared.entry.What.TheVariants as what
 use Rattle.ilp_journal.specs.declared.entry.Credited.{Credited}
 use Rattle.ilp_journal.specs.Journal.{Entries}
+use Rattle.ilp_journal.specs.Credits.{lowers}
 use Rattle.ilp_book.specs.declared.calls.Kept.{Kept}
 use Rattle.ilp_book.specs.declared.fault.CreditFault.{CreditFault}
 use Rattle.ilp_book.specs.declared.fault.CreditFault.TheVariants as credit_fault
@@ -34,7 +35,7 @@ IsCreditedAt desk p now seen seen' before after reply =
 
 -- what the books say of a payment that was credited
 abbrev pub record_of_credit : Payment → Kept → Record
-record_of_credit p kept = record { number = kept.number; what = recorded.Credited p.peer kept.amount }
+record_of_credit p kept = record { number = kept.number; what = recorded.Credited p.peer kept.amount (lowers p.kind) }
 
 -- what is kept of a reply: the record of a credit that it made, and of no other
 abbrev pub kept_of : Payment → Result Kept CreditFault → List Record
@@ -49,7 +50,7 @@ as_known _ = None
 abbrev pub known_at : Entries → ℕ → Option Credited
 known_at j n = option_and_then (λ (e : Entry). as_known e.what) (slice_get j n)
 
--- In a period above 0 a credit of an earlier one was brought forward under the payment's key, of the same quantity, and what is told
+-- In a period above 0 a credit of an earlier one was brought forward under the payment's key, of the same quantity and kind, and what is told
 -- is the amount that was credited then.
 pub record IsKnownCredit (period : ℕ) (j : Entries) (p : Payment) (told : Kept) : Type 0 where
   pub later : 0 < period
@@ -59,6 +60,7 @@ pub record IsKnownCredit (period : ℕ) (j : Entries) (p : Payment) (told : Kept
   pub key : credit.key ≡ p.key
   pub named : credit.named ≡ p.quantity.amount
   pub scale : credit.scale ≡ p.quantity.scale
+  pub kind : credit.kind ≡ p.kind
   pub amount : told.amount ≡ credit.credited
 
 -- what is told is what the payment comes to, or what was credited in an earlier period

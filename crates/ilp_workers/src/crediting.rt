@@ -1,14 +1,15 @@
-//! Settlements from peers, which their engines tell of.
+//! Settlements from peers, which their engines tell of, and corrections of balances.
 ghost use Rattle.std.specs.Prelude.{◌≡◌};
 ghost use Rattle.ilp_book.specs.Configured.{IsKnown};
 ghost use Rattle.ilp_book.specs.SettleStep.{Payment, payment};
+ghost use Rattle.ilp_journal.specs.Credits.{lowers as kind_lowers};
 ghost use Rattle.ilp_workers.specs.Worker.{seat};
 ghost use Rattle.ilp_workers.specs.Crediting.{record_of_credit, CreditsAt, IsPaid};
 
 use crate::parts::{Parts, reserve_beside};
 use ilp_book::{CreditFault, Kept};
 use ilp_desk::{Desk, Naming, Record, Recorded};
-use ilp_journal::Key;
+use ilp_journal::{CreditKind, Key};
 use ilp_keeping::{Keeper, NotKept};
 use ilp_link_traits::{Clock, EngineLink, Uplink};
 use ilp_settlement::{Quantity, credited};
@@ -16,7 +17,7 @@ use std::alloc::Allocator;
 use std::sync::Wait;
 use thiserror::Error;
 
-/// Why a settlement is not answered as credited.
+/// Why a settlement is not answered as credited, or a correction as booked.
 #[derive(Clone, Copy, Debug, PartialEq, Eq, Error)]
 pub enum NotCredited {
     /// It is not credited, for this reason.
@@ -36,7 +37,7 @@ impl<
     K: Keeper<J> + Drop,
     A: Allocator,
 > Parts<J, C, U, E, K, A> {
-    // Books the settlement, and answers a credit only once the journal that has it is kept.
+    // Books the settlement or the correction, and answers it only once the journal that has it is kept.
     pub(crate) fn credit(
         &mut self,
         rt: &impl Wait,
@@ -44,9 +45,10 @@ impl<
         peer: u32,
         key: Key,
         quantity: &Quantity,
+        kind: CreditKind,
     ) -> Result<Kept, NotCredited>
         requires known { IsKnown J.desk.config peer }
-        ensures paid { IsPaid J.desk (payment peer key quantity.now)
+        ensures paid { IsPaid J.desk (payment peer key quantity.now kind)
             (seat self.old.share self.old.records.items (C.told self.old.clock) self.old.receipt
             (K.told self.old.keeper))
             (seat self.new.share self.new.records.items (C.told self.new.clock) self.new.receipt
@@ -58,7 +60,7 @@ impl<
         ensures buffers { (self.new.incoming ≡ self.old.incoming)
             × (self.new.outgoing ≡ self.old.outgoing) × (self.new.rejected ≡ self.old.rejected) }
     {
-        match self.book_credit(rt, desk, peer, key, quantity) {
+        match self.book_credit(rt, desk, peer, key, quantity, kind) {
             Ok(credit) => match self.keep() {
                 Ok(()) => Ok(credit),
                 Err(NotKept) => Err(NotCredited::NotKept { credit }),
@@ -75,9 +77,10 @@ impl<
         peer: u32,
         key: Key,
         quantity: &Quantity,
+        kind: CreditKind,
     ) -> Result<Kept, CreditFault>
         requires known { IsKnown J.desk.config peer }
-        ensures told { CreditsAt J.desk (payment peer key quantity.now)
+        ensures told { CreditsAt J.desk (payment peer key quantity.now kind)
             (seat self.old.share self.old.records.items (C.told self.old.clock) self.old.receipt
             (K.told self.old.keeper))
             (seat self.new.share self.new.records.items (C.told self.new.clock) self.new.receipt
@@ -95,6 +98,7 @@ impl<
         let Ok(()) = reserve_beside(&mut self.records, self.pending) else {
             return Err(CreditFault::Memory);
         };
+        let lowers = kind.lowers();
         let now = self.clock.now();
         match desk.credit_shown(
             rt,
@@ -103,11 +107,12 @@ impl<
             peer,
             key,
             quantity,
+            kind,
             now,
         ) {
             Ok(kept) => {
                 if kept.fresh {
-                    self.records.push_reserved(record_of(peer, kept));
+                    self.records.push_reserved(record_of(peer, kept, lowers));
                 }
                 Ok(kept)
             }
@@ -116,15 +121,17 @@ impl<
     }
 }
 
-// The record of a settlement that was credited.
-fn record_of(peer: u32, kept: Kept) -> Record
-    ensures { (p : Payment) → p.peer ≡ peer → result ≡ record_of_credit p kept }
+// The record of a settlement that was credited, or of a correction.
+fn record_of(peer: u32, kept: Kept, lowers: bool) -> Record
+    ensures { (p : Payment) → p.peer ≡ peer → kind_lowers p.kind ≡ lowers
+        → result ≡ record_of_credit p kept }
 {
     Record {
         number: kept.number,
         what: Recorded::Credited {
             peer,
             amount: kept.amount,
+            lowers,
         },
     }
 }

@@ -67,8 +67,8 @@
 //!   `peer_answer_in` reads what comes back.
 //! - `Worker::credit` (`specs/Crediting.antt`) first refuses what is too much at the scale of the
 //!   peer's balance; then it may refuse as for want of memory. Both leave all as it was.
-//! - `credit` else has a book of the desk credit it under its key at a moment of the clock. Share
-//!   and records grow by one just where that is a new credit. The answer is what the quantity comes
+//! - `credit` else has a book of the desk credit it under its key, or correct the balance, at a moment of the
+//!   clock. Share and records grow by one just where that is a new one. The answer is what the quantity comes
 //!   to, also where a credit is kept; of one of an earlier period it is what was credited then.
 //! - Of either the keeper is first handed the journal that has it. Where it says that this isn't
 //!   kept, the answer is `NotKept`, and entry and record stay. Of a refusal it is handed nothing.

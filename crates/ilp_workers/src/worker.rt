@@ -21,7 +21,7 @@ use crate::in_flight::{Begun, Pending};
 use crate::parts::{Buffer, Parts};
 use ilp_book::Kept;
 use ilp_desk::{Desk, End, JournalReceipt, Naming, Record, Share};
-use ilp_journal::Key;
+use ilp_journal::{CreditKind, Key};
 use ilp_keeping::Keeper;
 use ilp_link_traits::{Clock, EngineLink, Uplink};
 use ilp_oer::Octets;
@@ -351,8 +351,8 @@ impl<
         self.parts.hand_journal()
     }
 
-    /// Credits a settlement that a peer's engine tells of (RFC 0038), once for each of the peer's
-    /// keys, by `Book::credit`; room for its record is made first. What is `Refused` books nothing and
+    /// Credits a settlement that a peer's engine tells of (RFC 0038), or corrects the peer's balance, by the
+    /// kind, once for each of the peer's keys, by `Book::credit`; room for its record is made first. What is `Refused` books nothing and
     /// leaves share and records as they were: `TooLarge` comes before anything else, and `Memory` may
     /// come in place of any later one. Of a credit, now or under its key from before, the keeper is
     /// then handed the journal that has it. Where it is `NotKept`, entry and record stay.
@@ -363,13 +363,14 @@ impl<
         peer: u32,
         key: Key,
         quantity: &Quantity,
+        kind: CreditKind,
     ) -> Result<Kept, NotCredited>
         requires known { IsKnown J.desk.config peer }
-        ensures credited { Credits J.desk (payment peer key quantity.now) self.old self.new result }
+        ensures credited { Credits J.desk (payment peer key quantity.now kind) self.old self.new result }
         ensures pending { self.new.pending ≡ self.old.pending }
         ensures actor { self.new.share.actor ≡ self.old.share.actor }
     {
-        self.parts.credit(rt, desk, peer, key, quantity)
+        self.parts.credit(rt, desk, peer, key, quantity, kind)
     }
 
     /// Sends a message of the settlement engine here to that of a peer (RFC 0038): a Prepare of

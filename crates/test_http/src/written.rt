@@ -5,11 +5,12 @@ use ilp_io::{Narrow, Recording, Sink, WhenFull, WriteFault};
 use std::alloc::{AllocError, Global};
 use std::{io, str};
 
-const STATUSES: [Status; 12] = [
+const STATUSES: [Status; 13] = [
     Status::Ok,
     Status::Created,
     Status::BadRequest,
     Status::Unauthorized,
+    Status::Forbidden,
     Status::NotFound,
     Status::MethodNotAllowed,
     Status::Conflict,

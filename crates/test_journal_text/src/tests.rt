@@ -2,7 +2,7 @@
 
 use ilp_accounts::Config;
 use ilp_io::{Narrow, WhenFull, WriteFault};
-use ilp_journal::{Ask, Cause, Credited, Entry, Hold, Journal, Key, What};
+use ilp_journal::{Ask, Cause, CreditKind, Credited, Entry, Hold, Journal, Key, What};
 use ilp_journal_text::put_journal;
 use std::process::Abort;
 use std::test::Fail;
@@ -99,6 +99,7 @@ fn booked(rt: &(impl Abort + AllocGlobal)) -> Result<Journal, Fail> {
         named: u128::MAX,
         scale: 255,
         credited: 0,
+        kind: CreditKind::Settled,
     });
     push(rt, &mut journal, 1735689600001, u32::MAX, credited);
     let ask = Ask {
@@ -156,6 +157,7 @@ fn brought_forward(rt: &(impl Abort + AllocGlobal)) -> Result<Journal, Fail> {
         named: u128::MAX,
         scale: 255,
         credited: u64::MAX,
+        kind: CreditKind::Settled,
     });
     push(rt, &mut journal, 1735689600000, 0, known);
     let pending = What::Pending {

@@ -2,7 +2,7 @@
 
 use ilp_book::{EngineVerdict, PeerReply};
 use ilp_desk::{Desk, Naming, Share};
-use ilp_journal::Key;
+use ilp_journal::{CreditKind, Key};
 use ilp_packet::Prepare;
 use ilp_settlement::Quantity;
 use std::sync::Wait;
@@ -148,7 +148,7 @@ fn credit<J: Naming>(
         scale: 2,
     };
     if peer < desk.config().peers() {
-        let _ = desk.credit(rt, share, peer, key, &quantity, now);
+        let _ = desk.credit(rt, share, peer, key, &quantity, CreditKind::Settled, now);
     }
 }
 

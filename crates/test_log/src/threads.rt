@@ -8,7 +8,7 @@ use crate::running::{DeskParts, LogParts, desk_parts, log_parts, open_log};
 use crate::tearing::{Failures, TearingDevice};
 use ilp_accounts::Config;
 use ilp_desk::{Desk, Naming, Share};
-use ilp_journal::Key;
+use ilp_journal::{CreditKind, Key};
 use ilp_log::{Log, LogNaming};
 use ilp_settlement::Quantity;
 use std::alloc::Global;
@@ -40,7 +40,10 @@ fn credit<J: Naming>(
         amount: 1,
         scale: 2,
     };
-    0 < desk.config().peers() && desk.credit(rt, share, 0, key, &one, START).is_ok()
+    0 < desk.config().peers()
+        && desk
+            .credit(rt, share, 0, key, &one, CreditKind::Settled, START)
+            .is_ok()
 }
 
 // Whether all entries so far are on the disk.

@@ -3,7 +3,7 @@
 use crate::configured::PERIODS;
 use ilp_accounts::Config;
 use ilp_book::{Book, ForwardFault};
-use ilp_journal::{Key, What};
+use ilp_journal::{CreditKind, Key, What};
 use ilp_settlement::Quantity;
 use std::alloc::Allocator;
 use std::process::Abort;
@@ -87,7 +87,7 @@ fn fill<A: Allocator + Clone>(
             panic!(rt; "no key");
         };
         assert!(rt; BOB < book.config().peers());
-        let _ = book.credit(0, BOB, key, &quantity, START);
+        let _ = book.credit(0, BOB, key, &quantity, CreditKind::Settled, START);
     }
     assert!(rt; BOB < book.config().peers());
     let _ = book.ask(0, BOB, START);

@@ -35,12 +35,22 @@ pub(crate) struct Sent {
     pub(crate) condition: [u8; 32],
 }
 
-/// A settlement from a peer, under one of the peer's keys.
+/// A settlement from a peer, or a correction of its balance, under one of the peer's keys.
 #[derive(Clone, Copy, Debug)]
 pub(crate) struct Payment {
     pub(crate) peer: u32,
     pub(crate) key: u8,
     pub(crate) quantity: Quantity,
+    pub(crate) change: Change,
+}
+
+/// What a payment is.
+#[derive(Clone, Copy, Debug, PartialEq, Eq)]
+pub(crate) enum Change {
+    Settled,
+    /// Corrections, for a reason of one octet.
+    Raised(u8),
+    Lowered(u8),
 }
 
 /// The octets of a key. All peers use the same.

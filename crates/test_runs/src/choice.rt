@@ -1,6 +1,6 @@
 //! Which call comes next, and with what.
 
-use crate::calls::{Call, Made, Payment, Sent};
+use crate::calls::{Call, Change, Made, Payment, Sent};
 use crate::configured::PEERS;
 use crate::locks::{condition, preimage};
 use crate::walks::{Ends, ask_at, ended_by, open_hold_at, open_settlement};
@@ -183,6 +183,17 @@ fn payment(chance: &mut Chance) -> Payment {
         peer,
         key: u8::try_from(key).unwrap_or(0),
         quantity: quantity(chance, key),
+        change: change(chance),
+    }
+}
+
+// A settlement as a rule, else a correction, for one of two reasons.
+fn change(chance: &mut Chance) -> Change {
+    let reason = if chance.is_one_in(8) { b'b' } else { b'a' };
+    match chance.below(8) {
+        0 => Change::Raised(reason),
+        1 | 2 => Change::Lowered(reason),
+        _ => Change::Settled,
     }
 }
 

@@ -1,9 +1,9 @@
 //! Whether the entry of a call is the one that is to be.
 
-use crate::calls::{Call, Made, Payment, Reply, key_octets};
+use crate::calls::{Call, Change, Made, Payment, Reply, key_octets};
 use crate::terms::terms;
 use ilp_book::{Book, EngineVerdict, Outcome, PeerReply};
-use ilp_journal::{Ask, Cause, Credited, What};
+use ilp_journal::{Ask, Cause, CreditKind, Credited, What};
 
 /// Whether the last entry is the one that a call booked at this moment, by its reply.
 pub(crate) fn is_booked(book: &Book, moment: i64, made: &Made, reply: &Reply) -> bool {
@@ -76,6 +76,20 @@ fn credits(credited: &Credited, payment: &Payment, reply: &Reply) -> bool {
         && credited.named == payment.quantity.amount
         && credited.scale == payment.quantity.scale
         && credited.credited == kept.amount
+        && is_change(&credited.kind, payment.change)
+}
+
+// Whether it is the settlement or the correction that was made.
+fn is_change(kind: &CreditKind, change: Change) -> bool {
+    match (kind, change) {
+        (CreditKind::Settled, Change::Settled) => true,
+        (CreditKind::Raised(reason), Change::Raised(told)) => reason.as_slice()
+            == [told].as_slice(),
+        (CreditKind::Lowered(reason), Change::Lowered(told)) => {
+            reason.as_slice() == [told].as_slice()
+        }
+        _ => false,
+    }
 }
 
 fn asks(ask: &Ask, peer: u32, reply: &Reply) -> bool {

@@ -1,6 +1,6 @@
 //! What a call is to be answered, by the rules and by walks over the book.
 
-use crate::calls::{Call, Made, Payment, Reply, Sent};
+use crate::calls::{Call, Change, Made, Payment, Reply, Sent};
 use crate::configured::{Levels, account_of, asset_of, scale_of};
 use crate::locks::meets;
 use crate::terms::terms;
@@ -112,11 +112,12 @@ fn credited(book: &Book, ends: &Ends, payment: &Payment) -> Result<Kept, CreditF
         return Err(CreditFault::TooLarge);
     };
     if let Some(kept) = walks::kept_under(book, payment.peer, payment.key) {
-        return kept_reply(&kept, quantity);
+        return kept_reply(&kept, payment);
     }
     if !has_room(book, ends, 1) {
         return Err(CreditFault::Full);
     }
+    check_least(book, payment, amount)?;
     Ok(Kept {
         number: book.len(),
         amount,
@@ -124,9 +125,28 @@ fn credited(book: &Book, ends: &Ends, payment: &Payment) -> Result<Kept, CreditF
     })
 }
 
-fn kept_reply(kept: &walks::Kept, quantity: &Quantity) -> Result<Kept, CreditFault> {
+// A correction downwards leaves the balance at its least or above it.
+fn check_least(book: &Book, payment: &Payment, amount: u64) -> Result<(), CreditFault> {
+    let Change::Lowered(_) = payment.change else {
+        return Ok(());
+    };
+    let balance = walks::balance(book, payment.peer);
+    let least = account_of(payment.peer).least;
+    if balance.wrapping_sub(i128::from(amount)) >= least {
+        return Ok(());
+    }
+    // The configured one has 64 bits.
+    let least = i64::try_from(least).unwrap_or(i64::MIN);
+    Err(CreditFault::BelowLeast { balance, least })
+}
+
+fn kept_reply(kept: &walks::Kept, payment: &Payment) -> Result<Kept, CreditFault> {
     let number = kept.number;
-    if kept.named != quantity.amount || kept.scale != quantity.scale {
+    let quantity = &payment.quantity;
+    let is_same = kept.named == quantity.amount
+        && kept.scale == quantity.scale
+        && kept.change == payment.change;
+    if !is_same {
         return Err(CreditFault::KeyTaken { kept: number });
     }
     Ok(Kept {

@@ -33,6 +33,7 @@ enum Kind {
     TooLarge,
     KeyTaken,
     CreditFull,
+    CreditBelowLeast,
     Asked,
     StillOpen,
     NotDue,
@@ -139,6 +140,7 @@ fn kind_of_credit(fault: &CreditFault) -> Kind {
         CreditFault::TooLarge => Kind::TooLarge,
         CreditFault::KeyTaken { .. } => Kind::KeyTaken,
         CreditFault::Full => Kind::CreditFull,
+        CreditFault::BelowLeast { .. } => Kind::CreditBelowLeast,
         CreditFault::Memory => Kind::Other,
     }
 }

@@ -1,9 +1,9 @@
 //! Calls that are made.
 
-use crate::calls::{Call, Made, Payment, Reply, Sent, key_octets};
+use crate::calls::{Call, Change, Made, Payment, Reply, Sent, key_octets};
 use crate::configured::destination;
 use ilp_book::Book;
-use ilp_journal::Key;
+use ilp_journal::{CreditKind, Key, Reason};
 use ilp_packet::Prepare;
 use std::alloc::{AllocError, Global};
 
@@ -52,8 +52,26 @@ fn credit(
     let Some(key) = Key::new(alloc, octets.as_slice())? else {
         return Ok(Reply::NotMade);
     };
-    let reply = book.credit(actor, payment.peer, key, &payment.quantity, now);
+    let Some(kind) = kind_of(alloc, payment.change)? else {
+        return Ok(Reply::NotMade);
+    };
+    let reply = book.credit(actor, payment.peer, key, &payment.quantity, kind, now);
     Ok(Reply::Credit(reply))
+}
+
+// The kind of a payment, as the book is told it.
+fn kind_of(alloc: Global, change: Change) -> Result<Option<CreditKind>, AllocError> {
+    match change {
+        Change::Settled => Ok(Some(CreditKind::Settled)),
+        Change::Raised(reason) => match Reason::new(alloc, &[reason])? {
+            Some(reason) => Ok(Some(CreditKind::Raised(reason))),
+            None => Ok(None),
+        },
+        Change::Lowered(reason) => match Reason::new(alloc, &[reason])? {
+            Some(reason) => Ok(Some(CreditKind::Lowered(reason))),
+            None => Ok(None),
+        },
+    }
 }
 
 fn ask(book: &mut Book, actor: u32, peer: u32, now: i64) -> Reply {

@@ -11,7 +11,7 @@ pub(crate) use ends::{Ends, ended_by};
 pub(crate) use holds::{answer_of, earliest, fulfilled, hold_at, open_hold_at, open_holds};
 use ilp_book::Book;
 use ilp_journal::What;
-pub(crate) use peers::balance;
+pub(crate) use peers::{balance, is_fall};
 pub(crate) use settlements::{
     Kept, ask_at, closing_of, kept_under, open_ask_at, open_asks, open_settlement,
 };

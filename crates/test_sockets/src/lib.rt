@@ -11,6 +11,8 @@
 //!   for the other, and then for the first again under its key.
 //! - `serve` whose payouts to bob are paused and go on: both are answered, and the report says in between
 //!   whose are paused.
+//! - `serve` whose operator corrects bob's balance: a fall, the same again, two others under its key, one that
+//!   is too much, two that are none, and a rise.
 //! - The links, with stand-ins for peers and engines: requests octet for octet; what responses come
 //!   to, one that is too long among them; peers and engines that aren't there, aren't configured or
 //!   have no `IP:PORT`; a deadline that is over; reads that end by their moment, writes to a closed

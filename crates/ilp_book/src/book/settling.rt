@@ -11,16 +11,17 @@ use crate::book::Book;
 use crate::calls::{Asked, Kept};
 use crate::credits::kept_reply;
 use crate::fault::{AskFault, CreditFault, NotOpen};
-use ilp_journal::{Ask, Credited, Entry, Key, What};
-use ilp_rules::{due_amount, open_ask_at};
+use ilp_journal::{Ask, CreditKind, Credited, Entry, Key, What};
+use ilp_rules::{due_amount, is_short, open_ask_at};
 use ilp_settlement::{EngineVerdict, Quantity, credited};
 use std::alloc::Allocator;
 
 impl<A: Allocator + Clone> Book<A> {
-    /// Credits a settlement that came from a peer (RFC 0038), once for each of the peer's keys: the
-    /// quantity at the scale of the peer's asset, rounded down. A key that is kept with an equal
-    /// amount and scale is answered as it was, with `fresh` false, and books nothing. The refusals
-    /// come in the order of `CreditFault`; each leaves the book as it was.
+    /// Credits a settlement that came from a peer (RFC 0038), or corrects its balance, by the kind, once for
+    /// each of the peer's keys: the quantity at the scale of the peer's asset, rounded down. A key that is
+    /// kept with an equal amount and scale, and an equal kind, is answered as it was, with `fresh` false, and
+    /// books nothing. No balance falls below its least by that. The refusals come in the order of
+    /// `CreditFault`; each leaves the book as it was.
     #[tactic(auto, unfolding(crate::specs::SettleStep::credit_step, crate::specs::SettleStep::credit_checked))]
     pub fn credit(
         &mut self,
@@ -28,16 +29,24 @@ impl<A: Allocator + Clone> Book<A> {
         peer: u32,
         key: Key,
         quantity: &Quantity,
+        kind: CreditKind,
         now: i64,
     ) -> Result<Kept, CreditFault>
         requires known { IsKnown self.old.config peer }
         ensures step { Does self.old self.new result (credit_step self.old (by actor now)
-            (payment peer key quantity.now) (credit_growth result)) }
+            (payment peer key quantity.now kind) (credit_growth result)) }
         ensures lawful { IsLawful self.new }
         ensures err { OnErr result (self.new ≡ self.old) }
     {
         let amount = credited(quantity, self.config.scale(peer))?;
-        match kept_reply(&self.journal, &self.tables.keys, peer, &key, quantity) {
+        match kept_reply(
+            &self.journal,
+            &self.tables.keys,
+            peer,
+            &key,
+            quantity,
+            &kind,
+        ) {
             Some(reply) => reply,
             None => {
                 let credit = Credited {
@@ -46,6 +55,7 @@ impl<A: Allocator + Clone> Book<A> {
                     named: quantity.amount,
                     scale: quantity.scale,
                     credited: amount,
+                    kind,
                 };
                 self.book_credit(actor, now, credit)
             }
@@ -77,7 +87,7 @@ impl<A: Allocator + Clone> Book<A> {
 
 // What the calls are made of.
 impl<A: Allocator + Clone> Book<A> {
-    // Books a credit that its rules allow, if there is room for it.
+    // Books a credit or a correction that its rules allow, if there is room and balance for it.
     fn book_credit(&mut self, actor: u32, now: i64, credit: Credited) -> Result<Kept, CreditFault>
         requires fresh { IsFreshCredit self.old.config self.old.entries credit }
         ensures step { Does self.old self.new result (credit_booked self.old (by actor now)
@@ -87,6 +97,12 @@ impl<A: Allocator + Clone> Book<A> {
     {
         if !self.has_room(1) {
             return Err(CreditFault::Full);
+        }
+        let balance = self.balance(credit.peer);
+        let least = self.config.least(credit.peer);
+        let lowered = credit.kind.lowering(credit.credited);
+        if is_short(balance, lowered, least) {
+            return Err(CreditFault::BelowLeast { balance, least });
         }
         let moment = self.moment_at(now);
         let amount = credit.credited;

@@ -203,9 +203,14 @@ impl<A: Allocator> Carrying<A> {
         match &entry.what {
             What::Hold(hold) => {
                 self.judge_room(2)?;
-                self.judge_balance(hold)
+                self.judge_balance(hold.from, hold.amount)
             }
-            What::Credited(_) | What::Known(_) => self.judge_room(1),
+            What::Credited(credited) => {
+                self.judge_room(1)?;
+                let lowered = credited.kind.lowering(credited.credited);
+                self.judge_balance(credited.peer, lowered)
+            }
+            What::Known(_) => self.judge_room(1),
             What::Asked(_) | What::Pending { .. } => self.judge_room(2),
             What::Opened { peer, balance } => {
                 self.judge_room(1)?;
@@ -227,17 +232,17 @@ impl<A: Allocator> Carrying<A> {
         Ok(())
     }
 
-    // Whether a hold leaves its sender's balance at its least or above it.
-    fn judge_balance(&self, hold: &Hold) -> Result<(), BrokenRule>
-        requires known { IsKnown self.now.config hold.now.from }
-        ensures ok { OnOk result (((peer_at self.now.config hold.now.from).least +ℤ pos hold.now.amount)
-            ≤ℤ balance self.now.entries hold.now.from) }
-        ensures err { OnErr result ((((peer_at self.now.config hold.now.from).least +ℤ pos hold.now.amount)
-            ≤ℤ balance self.now.entries hold.now.from) → ⊥) }
+    // Whether a peer's balance is at its least or above it without this amount.
+    fn judge_balance(&self, peer: u32, amount: u64) -> Result<(), BrokenRule>
+        requires known { IsKnown self.now.config peer }
+        ensures ok { OnOk result (((peer_at self.now.config peer).least +ℤ pos amount)
+            ≤ℤ balance self.now.entries peer) }
+        ensures err { OnErr result ((((peer_at self.now.config peer).least +ℤ pos amount)
+            ≤ℤ balance self.now.entries peer) → ⊥) }
         ensures broken { IfErr result (λ rule. rule ≡ BrokenRule.Least) }
     {
-        let balance = self.tables.tallies.balance(hold.from);
-        if is_short(balance, hold.amount, self.config.least(hold.from)) {
+        let balance = self.tables.tallies.balance(peer);
+        if is_short(balance, amount, self.config.least(peer)) {
             return Err(BrokenRule::Least);
         }
         Ok(())

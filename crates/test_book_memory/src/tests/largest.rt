@@ -5,7 +5,7 @@ use super::books::{CONDITION, START};
 use super::reports::report_each;
 use ilp_accounts::Config;
 use ilp_book::{Asked, Book, EngineVerdict, Kept, Outcome, PeerReply};
-use ilp_journal::{Cause, Key};
+use ilp_journal::{Cause, CreditKind, Key};
 use ilp_packet::Prepare;
 use ilp_report::{PeerAccount, Snapshot};
 use ilp_settlement::Quantity;
@@ -187,7 +187,7 @@ fn credit(rt: &(impl Abort + AllocGlobal), book: &mut Book, peer: u8, letter: u8
     };
     let peer = u32::from(peer);
     assert!(rt; peer < book.config().peers());
-    let outcome = book.credit(0, peer, key, &quantity, START);
+    let outcome = book.credit(0, peer, key, &quantity, CreditKind::Settled, START);
     let kept = Kept {
         number,
         amount: MOST,

@@ -6,7 +6,7 @@ use ilp_accounts::Config;
 use ilp_book::{
     AskFault, Asked, Book, CreditFault, EngineVerdict, Kept, NotOpen, Outcome, PeerReply,
 };
-use ilp_journal::Key;
+use ilp_journal::{CreditKind, Key};
 use ilp_settlement::Quantity;
 use std::alloc::Allocator;
 use std::process::Abort;
@@ -50,11 +50,25 @@ pub(super) fn credit<A: Allocator + Clone>(
     let number = book.len();
     let owed = book.balance(peer);
     assert!(rt; peer < book.config().peers());
-    let mut outcome = book.credit(0, peer, key(rt, round), &QUANTITY, START);
+    let mut outcome = book.credit(
+        0,
+        peer,
+        key(rt, round),
+        &QUANTITY,
+        CreditKind::Settled,
+        START,
+    );
     if outcome == Err(CreditFault::Memory) {
         assert_eq!(rt; (book.len(), book.balance(peer)), (number, owed));
         assert!(rt; peer < book.config().peers());
-        outcome = book.credit(0, peer, key(rt, round), &QUANTITY, START);
+        outcome = book.credit(
+            0,
+            peer,
+            key(rt, round),
+            &QUANTITY,
+            CreditKind::Settled,
+            START,
+        );
     }
     let kept = Kept {
         number,
@@ -72,7 +86,14 @@ pub(super) fn credit_again<A: Allocator + Clone>(
     number: u32,
 ) {
     assert!(rt; book.config().peers() == 2);
-    let outcome = book.credit(0, BOB, key(rt, round), &QUANTITY, START);
+    let outcome = book.credit(
+        0,
+        BOB,
+        key(rt, round),
+        &QUANTITY,
+        CreditKind::Settled,
+        START,
+    );
     let kept = Kept {
         number,
         amount: 2_000,

@@ -1,7 +1,7 @@
 //! Calls by chance, and what they are answered, without the numbers of entries.
 
 use ilp_book::{AskFault, Book, CreditFault, EngineVerdict, HoldFault, Outcome, PeerReply};
-use ilp_journal::{Cause, Key};
+use ilp_journal::{Cause, CreditKind, Key};
 use ilp_packet::Prepare;
 use ilp_settlement::Quantity;
 use std::alloc::{AllocError, Global};
@@ -160,7 +160,7 @@ fn credit(
     if peer >= book.config().peers() {
         return Ok(Reply::NotMade);
     }
-    match book.credit(4, peer, key, &quantity, now) {
+    match book.credit(4, peer, key, &quantity, CreditKind::Settled, now) {
         Ok(kept) => Ok(Reply::Credited {
             amount: kept.amount,
             fresh: kept.fresh,

@@ -2,7 +2,7 @@
 
 use crate::configured::{ACTIVE, Name, Terms, destination};
 use ilp_book::{Book, EngineVerdict, PeerReply};
-use ilp_journal::Key;
+use ilp_journal::{CreditKind, Key};
 use ilp_packet::Prepare;
 use ilp_settlement::Quantity;
 use std::alloc::{AllocError, Global};
@@ -115,7 +115,7 @@ impl Caller {
             Key::new(alloc, octets.as_slice())?,
         ) {
             if place < book.config().peers() {
-                let _ = book.credit(3, place, key, &quantity, now);
+                let _ = book.credit(3, place, key, &quantity, CreditKind::Settled, now);
             }
         }
         Ok(())

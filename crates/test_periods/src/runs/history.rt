@@ -2,7 +2,7 @@
 
 use crate::configured::{NAMES, Name, Terms, name_of};
 use ilp_book::{Book, CreditFault, Kept};
-use ilp_journal::{Credited, Hold, Key, What};
+use ilp_journal::{CreditKind, Credited, Hold, Key, What};
 use ilp_settlement::Quantity;
 use std::alloc::{AllocError, Global};
 use std::process::Abort;
@@ -409,5 +409,5 @@ fn credit_under(
         panic!(rt; "no key");
     };
     assert!(rt; place < book.config().peers());
-    Ok(book.credit(0, place, key, &quantity, now))
+    Ok(book.credit(0, place, key, &quantity, CreditKind::Settled, now))
 }

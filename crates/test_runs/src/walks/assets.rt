@@ -1,7 +1,7 @@
 //! The books of an asset.
 
 use crate::configured::asset_of;
-use crate::walks::{Ends, ask_at, hold_at, open_hold_at, what_at};
+use crate::walks::{Ends, ask_at, hold_at, is_fall, open_hold_at, what_at};
 use ilp_book::{Book, Sums};
 use ilp_journal::{Hold, What};
 
@@ -38,10 +38,17 @@ fn held(book: &Book, ends: &Ends, asset: u32) -> i128 {
     held
 }
 
-// Credited amounts, less asked ones, plus undone ones.
+// Credited amounts, less those of corrections downwards and asked ones, plus undone ones.
 fn settled_by(book: &Book, asset: u32, what: &What) -> i128 {
     match what {
-        What::Credited(credit) if asset_of(credit.peer) == asset => i128::from(credit.credited),
+        What::Credited(credit) if asset_of(credit.peer) == asset => {
+            let amount = i128::from(credit.credited);
+            if is_fall(&credit.kind) {
+                0i128.wrapping_sub(amount)
+            } else {
+                amount
+            }
+        }
         What::Asked(ask) if asset_of(ask.peer) == asset => {
             0i128.wrapping_sub(i128::from(ask.amount))
         }

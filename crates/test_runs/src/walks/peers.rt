@@ -2,7 +2,7 @@
 
 use crate::walks::{ask_at, hold_at, what_at};
 use ilp_book::Book;
-use ilp_journal::What;
+use ilp_journal::{CreditKind, What};
 
 /// What the connector owes a peer.
 pub(crate) fn balance(book: &Book, peer: u32) -> i128 {
@@ -28,7 +28,7 @@ fn rise(book: &Book, peer: u32, what: &What) -> u64 {
             Some(hold) if hold.from == peer => hold.amount,
             _ => 0,
         },
-        What::Credited(credit) if credit.peer == peer => credit.credited,
+        What::Credited(credit) if credit.peer == peer && !is_fall(&credit.kind) => credit.credited,
         What::Undone { ask } => match ask_at(book, *ask) {
             Some(ask) if ask.peer == peer => ask.amount,
             _ => 0,
@@ -37,10 +37,19 @@ fn rise(book: &Book, peer: u32, what: &What) -> u64 {
     }
 }
 
+// Whether it is a correction downwards.
+pub(crate) fn is_fall(kind: &CreditKind) -> bool {
+    match kind {
+        CreditKind::Lowered(_) => true,
+        CreditKind::Settled | CreditKind::Raised(_) => false,
+    }
+}
+
 // By how much an entry lowers the balance of a peer.
 fn fall(peer: u32, what: &What) -> u64 {
     match what {
         What::Hold(hold) if hold.from == peer => hold.amount,
+        What::Credited(credit) if credit.peer == peer && is_fall(&credit.kind) => credit.credited,
         What::Asked(ask) if ask.peer == peer => ask.amount,
         _ => 0,
     }

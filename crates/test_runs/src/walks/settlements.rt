@@ -1,9 +1,9 @@
 //! Settlements.
 
-use crate::calls::key_octets;
+use crate::calls::{Change, key_octets};
 use crate::walks::{Ends, what_at};
 use ilp_book::{Asked, Book};
-use ilp_journal::{Ask, What};
+use ilp_journal::{Ask, CreditKind, Reason, What};
 
 /// The asked settlement under a number.
 pub(crate) fn ask_at(book: &Book, number: u32) -> Option<Ask> {
@@ -75,6 +75,7 @@ pub(crate) struct Kept {
     pub(crate) named: u128,
     pub(crate) scale: u8,
     pub(crate) credited: u64,
+    pub(crate) change: Change,
 }
 
 /// The first credit of a peer under a key.
@@ -85,6 +86,22 @@ pub(crate) fn kept_under(book: &Book, peer: u32, key: u8) -> Option<Kept> {
         }
     }
     None
+}
+
+// What a credit is: a settlement, or a correction with the first octet of its reason.
+fn change_of(kind: &CreditKind) -> Change {
+    match kind {
+        CreditKind::Settled => Change::Settled,
+        CreditKind::Raised(reason) => Change::Raised(first_of(reason)),
+        CreditKind::Lowered(reason) => Change::Lowered(first_of(reason)),
+    }
+}
+
+fn first_of(reason: &Reason) -> u8 {
+    match reason.as_slice().first() {
+        Some(octet) => *octet,
+        None => 0,
+    }
 }
 
 // The entry of this number, where it is a credit of the peer under the key.
@@ -99,6 +116,7 @@ fn kept_at(book: &Book, number: u32, peer: u32, key: u8) -> Option<Kept> {
                 named: credit.named,
                 scale: credit.scale,
                 credited: credit.credited,
+                change: change_of(&credit.kind),
             })
         }
         _ => None,

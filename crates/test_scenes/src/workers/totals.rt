@@ -7,7 +7,7 @@ use ilp_journal::{Entry, What};
 use std::io;
 
 /// What was booked: how many entries, how many holds that were fulfilled, and their amounts in and
-/// out; what was credited, and the settlements to peers that were confirmed and undone.
+/// out; what was credited, and what corrections took, and the settlements to peers that were confirmed and undone.
 #[derive(Clone, Copy, Debug)]
 struct Totals {
     entries: u64,
@@ -15,6 +15,7 @@ struct Totals {
     paid: u64,
     got: u64,
     credited: u64,
+    corrected: u64,
     confirmed: u64,
     undone: u64,
 }
@@ -25,6 +26,7 @@ const NOTHING: Totals = Totals {
     paid: 0,
     got: 0,
     credited: 0,
+    corrected: 0,
     confirmed: 0,
     undone: 0,
 };
@@ -36,8 +38,12 @@ impl Totals {
         self.got = self.got.wrapping_add(out);
     }
 
-    fn add_credit(&mut self, amount: u64) {
-        self.credited = self.credited.wrapping_add(amount);
+    fn add_credit(&mut self, amount: u64, lowers: bool) {
+        if lowers {
+            self.corrected = self.corrected.wrapping_add(amount);
+        } else {
+            self.credited = self.credited.wrapping_add(amount);
+        }
     }
 
     fn add_settlement(&mut self, amount: u64, verdict: EngineVerdict) {
@@ -51,7 +57,7 @@ impl Totals {
     fn add_record(&mut self, record: &Record) {
         match record.what {
             Recorded::Answered(hold) => self.add_answered(&hold),
-            Recorded::Credited { amount, .. } => self.add_credit(amount),
+            Recorded::Credited { amount, lowers, .. } => self.add_credit(amount, lowers),
             Recorded::Closed {
                 amount,
                 verdict,
@@ -73,7 +79,7 @@ impl Totals {
                 let (amount, out) = held_at(book, *hold).unwrap_or((0, 0));
                 self.add_payment(amount, out);
             }
-            What::Credited(credit) => self.add_credit(credit.credited),
+            What::Credited(credit) => self.add_credit(credit.credited, credit.kind.lowers()),
             What::Confirmed { ask } => {
                 self.add_settlement(asked_at(book, *ask), EngineVerdict::Accepted);
             }

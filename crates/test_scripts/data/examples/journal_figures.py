@@ -15,6 +15,8 @@ from journal_reading import Entry, NoJournal, Part, entries_of
 HOUR = 3_600_000
 HEAD = ("opened", "known", "pending")
 PACKETS, FULFILLED = "packets", "fulfilled"
+# Which way a correction moves a balance.
+SIGNS = {"rises": 1, "falls": -1}
 
 
 @dataclass
@@ -88,8 +90,8 @@ class Figures:
         # What is done with an entry, by what it is.
         self.ways: dict[str, Callable[..., None]] = {
             "hold": self.hold, "fulfilled": self.fulfilled, "released": self.released, "credited": self.credited,
-            "known": self.known, "asked": self.asked, "confirmed": self.confirmed, "undone": self.undone,
-            "opened": self.opened, "pending": self.pending}
+            "corrected": self.corrected, "known": self.known, "asked": self.asked, "confirmed": self.confirmed,
+            "undone": self.undone, "opened": self.opened, "pending": self.pending}
 
     # ---- periods
 
@@ -191,6 +193,10 @@ class Figures:
     def credited(self, peer: str, _key: str, _amount: str, _scale: str, units: str) -> None:
         """A peer settled."""
         self.move(peer, int(units))
+
+    def corrected(self, peer: str, _key: str, _amount: str, _scale: str, units: str, way: str, _reason: str) -> None:
+        """A balance was corrected."""
+        self.move(peer, SIGNS[way] * int(units))
 
     def asked(self, peer: str, amount: str) -> None:
         """A settlement to a peer was asked for."""

@@ -14,14 +14,15 @@ balances, to the unit.
 
 Packets are matched by their conditions; of several with one condition those first that are of one amount and ended
 alike, and then in order of time. Settlements are matched by their keys where both have one, and else by their amounts
-in order of time. Each is in one of these groups:
+in order of time. A correction is one book's own, and matches nothing. Each is in one of these groups:
 
 - alike: both have it, of one amount and with one end. A settlement that is credited may still be open where it was
   asked for. The sum is 0, but for what had begun before a statement's first row.
 - quiet: one has it alone, and the other needs not: a packet that the other refused before it held it, and a
   settlement that was undone, or was asked for before the first row.
 - open: one has it alone, held or asked for, and it has not ended. The sum is on its way.
-- only ours, only theirs: one has it alone.
+- only ours, only theirs: one has it alone. So are all corrections, with their reasons: one that takes back a forged
+  credit stands beside it, and their sums come to 0.
 - other amounts; other ends: both have it, of two amounts, or fulfilled here and not there, with the cause.
 
 Each of the last five groups is listed, and with --all each of all seven. What ends about the moment at which a

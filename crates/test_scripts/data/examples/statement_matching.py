@@ -1,4 +1,4 @@
-"""What belongs together in two statements of one peering, and the group of each packet and settlement.
+"""What belongs together in two statements of one peering, and the group of each packet, settlement and correction.
 
 reconcile.py uses it, and says what the groups are. It needs Python 3.11, and statement_rows.py beside it.
 """
@@ -7,8 +7,9 @@ from __future__ import annotations
 from collections import defaultdict, deque
 from collections.abc import Callable, Hashable, Iterable
 from dataclasses import dataclass, field
+from itertools import chain
 
-from statement_rows import PACKETS, NoStatement, Row, Statement
+from statement_rows import CORRECTED, PACKETS, NoStatement, Row, Statement
 
 BEGIN, END = ("sent", "asked"), ("paid", "returned", "confirmed", "undone")
 
@@ -25,7 +26,8 @@ DISPUTED = (OURS, THEIRS, AMOUNTS, ENDS)
 
 @dataclass
 class Item:
-    """A packet or a settlement in one statement: its rows, of which there are two where it begins and ends there."""
+    """A packet, a settlement or a correction in one statement: its rows, of which there are two where it begins and
+    ends there."""
 
     is_ours: bool
     rows: list[Row]
@@ -111,7 +113,7 @@ def thread_of(row: Row) -> Hashable:
 
 
 def items_of(statement: Statement, is_ours: bool) -> list[Item]:
-    """The packets and settlements of a statement."""
+    """The packets, settlements and corrections of a statement."""
     items: list[Item] = []
     begun: dict[Hashable, Item] = {}
     for row in statement.rows:
@@ -209,7 +211,9 @@ def matched(ours: Statement, theirs: Statement) -> Comparison:
     matches = (match for namings, on_ours, on_theirs in WAYS for match in match_all(
         namings, [item for item in items_of_ours if item.last.what in on_ours],
         [item for item in items_of_theirs if item.last.what in on_theirs]))
-    for match in matches:
+    # A correction is of one book alone, whatever the other has.
+    corrections = (Match([item]) for item in items_of_ours + items_of_theirs if item.last.what == CORRECTED)
+    for match in chain(matches, corrections):
         comparison.groups[group_of(match)].append(match)
     return comparison
 

@@ -5,7 +5,6 @@ statement_reading.py uses it. It needs Python 3.11 and nothing else.
 from __future__ import annotations
 
 import re
-from collections.abc import Collection
 from dataclasses import dataclass
 
 ACCOUNT = ["run", "period", "peer", "asset"]
@@ -16,9 +15,12 @@ EDGE = ["time", "entry", "what", "balance"]
 
 # What an entry is to the peer, and how often its amount goes into the balance.
 MOVES = {"opened": 1, "sent": -1, "paid": 0, "returned": 1, "received": 1, "refused": 0,
-         "credited": 1, "asked": -1, "confirmed": 0, "undone": 1}
+         "credited": 1, "corrected": 1, "asked": -1, "confirmed": 0, "undone": 1}
 PACKETS = ("sent", "paid", "returned", "received", "refused")
 SETTLEMENTS = ("credited", "asked", "confirmed", "undone")
+CORRECTED = "corrected"
+# Whose amount may be below 0.
+SIGNED = ("opened", CORRECTED)
 # What ends something, and of that what has begun in a row of the same peer's, and in which.
 ENDING = ("paid", "returned", "received", "refused", "confirmed", "undone")
 BEGUN = {"paid": "sent", "returned": "sent", "confirmed": "asked", "undone": "asked"}
@@ -26,18 +28,20 @@ BEGUN = {"paid": "sent", "returned": "sent", "confirmed": "asked", "undone": "as
 TIME = re.compile(r"[0-9]{4}-[0-9]{2}-[0-9]{2}T[0-9]{2}:[0-9]{2}:[0-9]{2}\.[0-9]{3}Z")
 NUMBER = re.compile(r"0|[1-9][0-9]{0,9}")
 DECIMAL = re.compile(r"(-?)(0|[1-9][0-9]{0,59})(?:\.([0-9]{1,255}))?")
-PEER = re.compile(r"[a-z0-9_-]{1,16}")
+# A name or a key has an escape in place of a first octet that a spreadsheet would take for a formula.
+PEER = re.compile(r"(?:\\x2d|[a-z0-9_])[a-z0-9_-]{0,15}")
 CAUSE = re.compile(r"Late|WrongPreimage|NoReply|Restart|Peer [0-9a-f]{6}")
 CONDITION = re.compile(r"[0-9a-f]{64}")
 KEY = re.compile(r"(?![=+@-])(?:[ -\[\]-~]|\\x[0-9a-f]{2})+")
 
 # What the columns of an account have.
-ACCOUNTS = {"run": re.compile(r"[A-Za-z0-9-]{1,32}"), "period": NUMBER, "peer": PEER,
+ACCOUNTS = {"run": re.compile(r"(?:\\x2d|[A-Za-z0-9])[A-Za-z0-9-]{0,31}"), "period": NUMBER, "peer": PEER,
             "asset": re.compile(r"[A-Z0-9]{1,12}/(?:0|[1-9][0-9]{0,2})")}
 # What other columns have, and in which rows; in others they are empty.
-COLUMNS: dict[str, tuple[re.Pattern[str], Collection[str]]] = {
-    "time": (TIME, MOVES), "entry": (NUMBER, MOVES), "with": (PEER, PACKETS), "ends": (NUMBER, ENDING),
-    "cause": (CAUSE, ("returned", "refused")), "condition": (CONDITION, PACKETS), "key": (KEY, SETTLEMENTS)}
+COLUMNS: dict[str, dict[str, re.Pattern[str]]] = {
+    "time": dict.fromkeys(MOVES, TIME), "entry": dict.fromkeys(MOVES, NUMBER), "with": dict.fromkeys(PACKETS, PEER),
+    "ends": dict.fromkeys(ENDING, NUMBER), "cause": {"returned": CAUSE, "refused": CAUSE, CORRECTED: KEY},
+    "condition": dict.fromkeys(PACKETS, CONDITION), "key": dict.fromkeys((*SETTLEMENTS, CORRECTED), KEY)}
 
 # A row by its columns.
 Fields = dict[str, str]
@@ -128,9 +132,9 @@ def expect_columns(fields: Fields) -> None:
     """Each column has what belongs to such a row."""
     what = fields["what"]
     expect(what in MOVES, f"it has an unknown what: {what!r}")
-    for column, (pattern, whats) in COLUMNS.items():
+    for column, patterns in COLUMNS.items():
         text = fields[column]
-        expect(pattern.fullmatch(text) if what in whats else not text, f"its {column} is none of {what}")
+        expect(patterns[what].fullmatch(text) if what in patterns else not text, f"its {column} is none of {what}")
 
 
 def row_of(fields: Fields, scale: int) -> Row:
@@ -139,7 +143,7 @@ def row_of(fields: Fields, scale: int) -> Row:
     what, entry = fields["what"], int(fields["entry"])
     ends = int(fields["ends"]) if fields["ends"] else None
     units, moved = units_in(fields, "amount", scale), movement_in(fields, scale)
-    expect(units >= 0 or what == "opened", "its amount is below 0")
+    expect(units >= 0 or what in SIGNED, "its amount is below 0")
     expect(moved == MOVES[what] * units, f"its in and out are none of {what}")
     expect(ends is None or ends < entry, "its ends is not before it")
     return Row(int(fields["period"]), fields["time"], entry, what, fields["with"], units, moved,

@@ -1,10 +1,11 @@
 //! The running connector, in a conversation of its peers and a settlement engine, beside a peer that says
 //! nothing, beside one that answers once its packet was swept, beside an engine that says nothing of one of
-//! two settlements, and with payouts that are paused. The tests themselves start the threads:
+//! two settlements, with payouts that are paused, and with a balance that is corrected. The tests themselves start the threads:
 //! what a connector asks of its runtime has types of its own, of which a proof knows nothing in another
 //! thread where the runtime is a parameter.
 
 mod conversation;
+mod correcting;
 mod messages;
 mod parts;
 mod pausing;
@@ -13,6 +14,7 @@ mod sweeping;
 
 use super::{START, Settable, Still};
 use conversation::{Others, converse};
+use correcting::{PRINTED_OF_CORRECTIONS, correct};
 use ilp_accounts::Config;
 use ilp_book::Book;
 use ilp_config_file::BUILT_IN;
@@ -131,6 +133,15 @@ fn pause_at<R: Net<Stream = TcpStream> + Clock>(
     engines: &String,
 ) -> io::Result<bool> {
     pause(rt, alloc, engines.as_str())
+}
+
+// Has the balance of bob corrected.
+fn correct_at<R: Net<Stream = TcpStream> + Clock>(
+    rt: &R,
+    alloc: Global,
+    engines: &String,
+) -> io::Result<bool> {
+    correct(rt, alloc, engines.as_str())
 }
 
 // What a test plays on: the configuration, and where bob and his engine listen.
@@ -316,5 +327,23 @@ fn paused_payouts(rt: HostRuntime) -> Result<(), Fail> {
         || pause_at(&rt, alloc, &engines),
     );
     assert!(rt; is_right(written, said, UNTOUCHED));
+    Ok(())
+}
+
+#[test]
+fn corrected_balances(rt: HostRuntime) -> Result<(), Fail> {
+    let alloc = rt.alloc();
+    let (peers, engines) = (free_place(&rt, alloc)?, free_place(&rt, alloc)?);
+    let Stage {
+        config,
+        bob: _bob,
+        engine: _engine,
+    } = beside_bob(&rt, alloc, peers.as_str(), engines.as_str(), 30_000)?;
+    let (written, said) = join(
+        &rt,
+        || printed(&rt, &config, Still),
+        || correct_at(&rt, alloc, &engines),
+    );
+    assert!(rt; is_right(written, said, PRINTED_OF_CORRECTIONS));
     Ok(())
 }

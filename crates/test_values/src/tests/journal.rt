@@ -1,4 +1,4 @@
-use ilp_journal::{Ask, Cause, Credited, Entry, Hold, Journal, Key, What};
+use ilp_journal::{Ask, Cause, CreditKind, Credited, Entry, Hold, Journal, Key, What};
 use std::process::Abort;
 use std::test::Fail;
 
@@ -35,6 +35,7 @@ fn credited(rt: &(impl Abort + AllocGlobal), peer: u32, credited: u64) -> What {
         named: u128::from(credited),
         scale: 2,
         credited,
+        kind: CreditKind::Settled,
     })
 }
 

@@ -1,4 +1,4 @@
-use Rattle.ilp_book.proofs.RowProofs.{paid_row, late_row, released_row, expired_row, least_row, terms_row, total_row, full_row, older_row, credited_row, settled_row, parts_row, carried_row}
+use Rattle.ilp_book.proofs.RowProofs.{paid_row, late_row, released_row, expired_row, least_row, terms_row, total_row, full_row, older_row, credited_row, corrected_row, settled_row, parts_row, carried_row}
 use Rattle.ilp_book.proofs.laws.rows.Goals as goal
 
 pub returns : goal.returns
@@ -13,6 +13,7 @@ returns c = record {
   full = full_row;
   older = older_row;
   credited = credited_row;
+  corrected = corrected_row;
   settled = settled_row;
   parts = parts_row;
   carried = carried_row;

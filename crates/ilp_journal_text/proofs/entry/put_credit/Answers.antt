@@ -9,4 +9,5 @@ returns-clause-typed c = record {
   named = search rules;
   scale = search rules;
   credited = search rules;
+  kind = c.put_kind.ensures.typed;
 }

@@ -3,7 +3,7 @@
 use super::hearing::{At, Hearing};
 use super::stand_in::config_at;
 use ilp_accounts::Config;
-use ilp_notices::{Notices, SentHold, ShownKey, ToldQuantity};
+use ilp_notices::{Notices, SentHold, ShownKey, ShownReason, ToldPayment, ToldQuantity};
 use std::alloc::Global;
 use std::io;
 use std::io::Eprint;
@@ -43,6 +43,9 @@ pub(super) enum Event {
     KeptOpen(u32),
     Credited(u32),
     KeyTaken(u32),
+    Raised(u32),
+    Lowered(u32),
+    CorrectionKeyTaken(u32),
 }
 
 /// At so many milliseconds this happens, and this is written.
@@ -86,8 +89,35 @@ fn happen_to_settlements<R: Clock + Eprint>(
             notices.credited(rt, config, peer, 7, 250, ShownKey::new(b"k-1"));
         }
         Event::KeyTaken(peer) => {
-            let (kept, told) = (quantity(250, 2), quantity(25, 1));
+            let kept = ToldPayment::Settlement(quantity(250, 2));
+            let told = ToldPayment::Settlement(quantity(25, 1));
             notices.key_taken(rt, config, peer, 7, ShownKey::new(b"a \xff"), kept, told);
+        }
+        _ => happen_to_corrections(rt, notices, config, event),
+    }
+}
+
+// What happens to corrections.
+fn happen_to_corrections<R: Clock + Eprint>(
+    rt: &R,
+    notices: &Notices,
+    config: &Config,
+    event: Event,
+) {
+    let key = ShownKey::new(b"c-1");
+    match event {
+        Event::Raised(peer) => {
+            let reason = ShownReason::new(b"an \"error\"");
+            notices.corrected(rt, config, peer, 8, 250, key, reason);
+        }
+        Event::Lowered(peer) => {
+            let reason = ShownReason::new(b"charged back");
+            notices.corrected(rt, config, peer, 9, -250, key, reason);
+        }
+        Event::CorrectionKeyTaken(peer) => {
+            let kept = ToldPayment::Rise(quantity(250, 2));
+            let told = ToldPayment::Fall(quantity(25, 1));
+            notices.key_taken(rt, config, peer, 8, key, kept, told);
         }
         _ => {}
     }

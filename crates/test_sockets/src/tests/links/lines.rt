@@ -247,6 +247,22 @@ fn settlements_and_engines(rt: HostRuntime) -> Result<(), Fail> {
         Row(0, Credited(3), ""),
         Row(
             0,
+            Raised(1),
+            "1970-01-01T00:00:00.000Z info correction 8 of bob: 250, key \"c-1\": 0x616e20226572726f7222\n",
+        ),
+        Row(
+            0,
+            Lowered(1),
+            "1970-01-01T00:00:00.000Z info correction 9 of bob: -250, key \"c-1\": \"charged back\"\n",
+        ),
+        Row(0, Lowered(3), ""),
+        Row(
+            0,
+            CorrectionKeyTaken(2),
+            "1970-01-01T00:00:00.000Z error correction of carol refused, and not booked: -25 at scale 1 under the key \"c-1\", which correction 8 has with 250 at scale 2: see which one is meant, and for which reason\n",
+        ),
+        Row(
+            0,
             KeyTaken(1),
             "1970-01-01T00:00:00.000Z error settlement of bob refused, and not credited: 25 at scale 1 under the key 0x6120ff, which credit 7 has with 250 at scale 2: see which one its engine means\n",
         ),

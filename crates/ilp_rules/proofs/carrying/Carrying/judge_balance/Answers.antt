@@ -12,22 +12,22 @@ use Rattle.ilp_rules.proofs.carrying.Carrying.judge_balance.Goals as goal
 
 pub returns-then-is_short-clause-err : goal.returns-then-is_short-clause-err
 returns-then-is_short-clause-err g c =
-    let from = c.args.hold.now.from in
+    let from = c.args.peer in
     let owed_fits : FitsSigned w128 c.balance-balance.result = search rules in
     let least_fits : FitsSigned w64 c.least.result = search rules in
     let owed = to_z-of_z w128 c.balance-balance.result owed_fits
     ∙ (c.balance-balance.ensures.value (peer_assets c.self.inside.config) behind_all c.self.inside.journal.entries c.self.invariant.tallied
     ∙ ap (λ (b : PlainBook). balance b.entries from) c.self.view_is) in
     let least = to_z-of_z w64 c.least.result least_fits ∙ (c.least.ensures ∙ ap (λ (b : PlainBook). (peer_at b.config from).least) c.self.view_is) in
-    not_covered _ _ _ _ c.args.hold.now.amount owed least (sym c.is_short.ensures ∙ c.if-is_short.true)
+    not_covered _ _ _ _ c.args.amount owed least (sym c.is_short.ensures ∙ c.if-is_short.true)
 
 pub returns-clause-ok : goal.returns-clause-ok
 returns-clause-ok g c =
-    let from = c.args.hold.now.from in
+    let from = c.args.peer in
     let owed_fits : FitsSigned w128 c.balance-balance.result = search rules in
     let least_fits : FitsSigned w64 c.least.result = search rules in
     let owed = to_z-of_z w128 c.balance-balance.result owed_fits
     ∙ (c.balance-balance.ensures.value (peer_assets c.self.inside.config) behind_all c.self.inside.journal.entries c.self.invariant.tallied
     ∙ ap (λ (b : PlainBook). balance b.entries from) c.self.view_is) in
     let least = to_z-of_z w64 c.least.result least_fits ∙ (c.least.ensures ∙ ap (λ (b : PlainBook). (peer_at b.config from).least) c.self.view_is) in
-    is_covered _ _ _ _ c.args.hold.now.amount owed least (sym c.is_short.ensures ∙ c.if-is_short.false)
+    is_covered _ _ _ _ c.args.amount owed least (sym c.is_short.ensures ∙ c.if-is_short.false)

@@ -15,7 +15,7 @@ use Rattle.ilp_workers.proofs.parts.Parts.book_credit.Goals as goal
 pub returns-then-kept-clause-told : goal.returns-then-kept-clause-told
 returns-then-kept-clause-told g c =
     let desk = g.J.Naming.desk in
-    let p = payment c.args.peer c.args.key c.args.quantity.now in
+    let p = payment c.args.peer c.args.key c.args.quantity.now c.args.kind in
     let kept = c.args.self.now.records.items in
     let told = c.in-Ok-credit_shown.kept in
     let reply : Result Kept CreditFault = Ok told in
@@ -28,13 +28,13 @@ returns-then-kept-clause-told g c =
     (seat c.args.self.now.share kept (g.C.Clock.told c.args.self.now.clock) c.args.self.now.receipt (g.K.Keeper.told c.args.self.now.keeper))
     (seat c.credit_shown.new.share c.push_reserved.new.self.items (g.C.Clock.told c.now-now.new.self) c.credit_shown.new.receipt (g.K.Keeper.told c.args.self.now.keeper)) now reply
     (small c.config.result.now desk.config c.args.quantity.now c.args.peer c.scale.result c.config.ensures c.scale.ensures c.in-Ok.ensures.0) c.now-now.ensures at
-    (c.push_reserved.ensures.items ∙ (ap (λ r. c.reserve_beside.new.records.items ++ r ∷ []) (c.record_of.ensures p refl) ∙ (ap (λ k. k ++ record_of_credit p told ∷ []) c.in-Ok-reserve_beside.ensures.items ∙ ap (λ rs. kept ++ rs) (sym one)))) refl)
+    (c.push_reserved.ensures.items ∙ (ap (λ r. c.reserve_beside.new.records.items ++ r ∷ []) (c.record_of.ensures p refl (sym c.lowers-lowers.ensures)) ∙ (ap (λ k. k ++ record_of_credit p told ∷ []) c.in-Ok-reserve_beside.ensures.items ∙ ap (λ rs. kept ++ rs) (sym one)))) refl)
 
 -- an earlier credit is answered
 pub returns-else-kept-clause-told : goal.returns-else-kept-clause-told
 returns-else-kept-clause-told g c =
     let desk = g.J.Naming.desk in
-    let p = payment c.args.peer c.args.key c.args.quantity.now in
+    let p = payment c.args.peer c.args.key c.args.quantity.now c.args.kind in
     let kept = c.args.self.now.records.items in
     let reply : Result Kept CreditFault = Ok c.in-Ok-credit_shown.kept in
     let now = c.now-now.result in
@@ -52,7 +52,7 @@ returns-else-kept-clause-told g c =
 pub returns-in-Err-clause-told : goal.returns-in-Err-clause-told
 returns-in-Err-clause-told g c =
     let desk = g.J.Naming.desk in
-    let p = payment c.args.peer c.args.key c.args.quantity.now in
+    let p = payment c.args.peer c.args.key c.args.quantity.now c.args.kind in
     let kept = c.args.self.now.records.items in
     let reply : Result Kept CreditFault = Err c.in-Err.fault in
     let now = c.now-now.result in
