@@ -1,13 +1,11 @@
 -- Texts that are written piece by piece.
-use Rattle.std.proofs.Common.{◌≡◌, ℕ, List, ◌++◌, ap, ◌∙◌, append_assoc}
+use Rattle.std.proofs.Common.{◌≡◌, ℕ, List, ◌++◌, ap, sym, ◌∙◌, append_assoc}
 
--- two pieces of two parts each, and an end
-pub joined : (first second third fourth rest one two all : List ℕ) → one ≡ first ++ second → two ≡ one ++ (third ++ fourth) → all ≡ two ++ rest
-    → all ≡ first ++ (second ++ (third ++ (fourth ++ rest)))
-joined first second third fourth rest one two all is_one is_two is_all =
+-- two pieces of two parts each, and an end of three
+pub joined : (first second third fourth fifth sixth last one two all : List ℕ) → one ≡ first ++ second → two ≡ one ++ (third ++ fourth) → all ≡ two ++ (fifth ++ (sixth ++ last))
+    → all ≡ (((((first ++ second) ++ third) ++ fourth) ++ fifth) ++ sixth) ++ last
+joined first second third fourth fifth sixth last one two all is_one is_two is_all =
     is_all
-    ∙ ap (λ (l : List ℕ). l ++ rest) is_two
-    ∙ append_assoc one (third ++ fourth) rest
-    ∙ ap (λ (l : List ℕ). one ++ l) (append_assoc third fourth rest)
-    ∙ ap (λ (l : List ℕ). l ++ (third ++ (fourth ++ rest))) is_one
-    ∙ append_assoc first second (third ++ (fourth ++ rest))
+    ∙ ap (λ (l : List ℕ). l ++ (fifth ++ (sixth ++ last))) (is_two ∙ ap (λ (l : List ℕ). l ++ (third ++ fourth)) is_one ∙ sym (append_assoc (first ++ second) third fourth))
+    ∙ sym (append_assoc (((first ++ second) ++ third) ++ fourth) fifth (sixth ++ last))
+    ∙ sym (append_assoc ((((first ++ second) ++ third) ++ fourth) ++ fifth) sixth last)
