@@ -16,7 +16,7 @@ NOW = 1764187208000
 LAST = 253402207200999
 EPOCH = datetime(1970, 1, 1, tzinfo=timezone.utc)
 HEADER = "run,period,peer,asset,time,entry,what,with,amount,in,out,balance,ends,cause,condition,key"
-KINDS = "opened sent paid returned received refused credited asked confirmed undone".split()
+KINDS = "opened sent paid returned received refused credited corrected asked confirmed undone".split()
 
 
 def amount(units, scale):
@@ -58,7 +58,7 @@ def moment_of(text):
     return milliseconds - (146097 * 86400000 if year_0 else 0)
 
 
-def key_text(octets, with_spaces):
+def octets_text(octets, with_spaces):
     text = ""
     for place, octet in enumerate(octets):
         plain = 33 <= octet <= 126 and octet != 92 or octet == 32 and with_spaces
@@ -66,6 +66,10 @@ def key_text(octets, with_spaces):
             plain = False
         text += chr(octet) if plain else f"\\x{octet:02x}"
     return text
+
+
+def name_text(name):
+    return octets_text(name.encode(), True)
 
 
 class Book:
@@ -99,12 +103,16 @@ class Book:
     def row(self, peer, number):
         """What an entry is to a peer, with what it does to the balance; none where it is none of the peer's."""
         what = self.entries[number][1]
-        row = dict(number=number, moment=self.entries[number][0], rise=0, fall=0, other=None, ends=None, cause=None, condition=None, key=None)
+        row = dict(number=number, moment=self.entries[number][0], rise=0, fall=0, other=None, ends=None, cause=None, condition=None, key=None, reason=None)
         if what[0] == "opened" and what[1] == peer:
             units = int(what[2])
             return row | dict(kind="opened", amount=units, rise=max(units, 0), fall=max(-units, 0))
         if what[0] == "credited" and what[1] == peer:
             return row | dict(kind="credited", amount=int(what[5]), rise=int(what[5]), key=bytes.fromhex(what[2]))
+        if what[0] == "corrected" and what[1] == peer:
+            change = int(what[5]) * {"rises": 1, "falls": -1}[what[6]]
+            row |= dict(kind="corrected", amount=change, rise=max(change, 0), fall=max(-change, 0))
+            return row | dict(key=bytes.fromhex(what[2]), reason=bytes.fromhex(what[7]))
         if what[0] == "asked" and what[1] == peer:
             return row | dict(kind="asked", amount=int(what[2]), fall=int(what[2]), key=self.key_of(number))
         if what[0] in ("confirmed", "undone"):
@@ -166,12 +174,12 @@ def statement(book, asked):
     for kind in KINDS:
         if kind in totals:
             print(f"total {kind} {totals[kind][0]} {amount(totals[kind][1], scale)}")
-    account = [book.run, str(book.period), peer, asset]
+    account = [name_text(book.run), str(book.period), name_text(peer), asset]
     record(HEADER.split(","))
     record(account + [at(since), str(first), "opening", "", "", "", "", opening, "", "", "", ""])
     for row in shown:
         time, number, kind, other, units, rise, fall, left, ends, condition, key, cause = fields(row, scale, True)
-        record(account + [time, number, kind, other, units, rise, fall, left, ends, cause, condition, key])
+        record(account + [time, number, kind, name_text(other), units, rise, fall, left, ends, cause, condition, key])
     record(account + [at(until), str(behind), "closing", "", "", "", "", closing, "", "", "", ""])
 
 
@@ -181,7 +189,7 @@ def fields(row, scale, with_spaces):
         moment(row["moment"]), str(row["number"]), row["kind"], row["other"] or "",
         amount(row["amount"], scale), moved(row["rise"]), moved(row["fall"]), amount(row["balance"], scale),
         "" if row["ends"] is None else str(row["ends"]), row["condition"] or "",
-        key_text(row["key"], with_spaces) if row["key"] else "", row["cause"] or "",
+        octets_text(row["key"] or b"", with_spaces), row["cause"] or octets_text(row["reason"] or b"", with_spaces),
     ]
 
 
