@@ -192,7 +192,14 @@ fn credit<A: Allocator + Clone>(
     ensures err { OnErr result (book.new ≡ book.old) }
 {
     match Key::new(book.config().allocator(), key)? {
-        Some(key) => credit_reply(book.credit(ACTOR, peer, key, quantity, CreditKind::Settled, now)),
+        Some(key) => credit_reply(book.credit(
+            ACTOR,
+            peer,
+            key,
+            quantity,
+            CreditKind::Settled,
+            now,
+        )),
         None => unreachable!(),
     }
 }

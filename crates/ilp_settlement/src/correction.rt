@@ -1,6 +1,5 @@
 //! A correction of a balance, read from JSON.
 ghost use Rattle.std.specs.Prelude.{◌≡◌, ◌<◌, ◌^◌, ◌⊎◌, IfOk, IfErr};
-
 ghost use Rattle.ilp_settlement.specs.declared.correction.CorrectionFault.TheVariants as correction_fault;
 
 use crate::json;
