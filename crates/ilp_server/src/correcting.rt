@@ -47,7 +47,34 @@ pub(crate) fn serve_correction<
     let Some(key) = key_of(&request.headers) else {
         return Err(NotServed::NoKey);
     };
-    match Correction::read(alloc, request.body) {
+    serve_correction_body(rt, alloc, worker, desk, peer, key, request.body)
+}
+
+// Books a body as a correction under a key.
+fn serve_correction_body<
+    J: Naming,
+    C: Clock + Drop,
+    U: Uplink + Drop,
+    E: EngineLink + Drop,
+    K: Keeper<J> + Drop,
+    A: Allocator + Copy,
+>(
+    rt: &impl Wait,
+    alloc: Global,
+    worker: &mut Worker<J, C, U, E, K, A>,
+    desk: &Desk<J>,
+    peer: u32,
+    key: &[u8],
+    body: &[u8],
+) -> Result<Served, NotServed>
+    requires known { IsKnown J.desk.config peer }
+    requires key { IsKey key.now }
+    ensures served { ServesCorrectionBody J.desk peer key.now body.now worker.old worker.new result }
+    ensures pending { worker.new.pending ≡ worker.old.pending }
+    ensures actor { worker.new.share.actor ≡ worker.old.share.actor }
+    ensures whole { NeedsNoWorker result }
+{
+    match Correction::read(alloc, body) {
         Ok(correction) => serve_change(rt, alloc, worker, desk, peer, key, &correction),
         Err(fault) => Err(NotServed::Correction(fault)),
     }

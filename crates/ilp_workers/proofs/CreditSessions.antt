@@ -143,7 +143,7 @@ by_kept book caller p growth n c lawful is = of (c.named == p.quantity.amount) (
     })
 
     of : (a b k : Bool) → (c.named == p.quantity.amount) ≡ a → (c.scale == p.quantity.scale) ≡ b → same_kind c.kind p.kind ≡ k
-        → IsCreditStep book p (credit_booked book caller growth (Err (cond (a && (b && k)) (Ok (record { number = n; amount = c.credited; fresh = false })) (Err (credit_fault.KeyTaken n)))))
+        → IsCreditStep book p (credit_booked book caller growth (Err (cond ((a && b) && k) (Ok (record { number = n; amount = c.credited; fresh = false })) (Err (credit_fault.KeyTaken n)))))
     of true true true named scale kind = record { counted = refl; amount = amount (eqb-true _ _ named) (eqb-true _ _ scale) (same_kinds c.kind p.kind kind) (all_rounded book book.entries lawful.rules n c its.0); allowed = λ e. cc }
     of true true false named scale kind = record { counted = refl; amount = tt; allowed = λ e. cc }
     of true false k named scale kind = record { counted = refl; amount = tt; allowed = λ e. cc }
