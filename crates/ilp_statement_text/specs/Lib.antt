@@ -1,3 +1,4 @@
 pub mod Amounts
 pub mod Keys
 pub mod Sought
+pub mod Why

@@ -6,9 +6,10 @@
 //!   statement (`lines_of` of `ilp_statement`) that are looked for.
 //! - `Sought::is` is what the definitions say (`specs/Sought.antt`): the digits of the condition begin with those
 //!   that were given, whatever their case, or the key is the one that was given.
-//! - `Row::of` tells of a line what its entry is to the peer, the amount at the peer's side (`specs/Amounts.antt`),
-//!   the number that it ends, and the condition or the key that it is known by: a settlement's is the one under which
-//!   its engine was asked, in this period or an earlier one.
+//! - `Row::of` tells of a line when its entry was booked, what it is to the peer, the amount at the peer's side
+//!   (`specs/Amounts.antt`), the number that it ends, and the condition or the key that it is known by: a settlement's
+//!   is the one under which its engine was asked, in this period or an earlier one. It tells the other peer's name, for
+//!   which cause a packet's money came back, and for which reason a balance was corrected (`specs/Why.antt`).
 //! - A total's sum is exact as long as it fits 128 bits.
 //!
 //! All else is proved safe. How it is printed, rows of tests say (`test_statements`).

@@ -1,11 +1,14 @@
 //! A line of a statement with what its entry is about.
 ghost use Rattle.std.specs.Prelude.{◌≡◌, pos, Some, None, IfNone, IfSome, option_map, option_and_then, slice_get};
+ghost use Rattle.ilp_accounts.specs.Configuration.{peer_at};
 ghost use Rattle.ilp_journal.specs.declared.entry.Entry.{Entry};
 ghost use Rattle.ilp_journal.specs.Journal.{ended};
 ghost use Rattle.ilp_rules.specs.SettlementKeys.{settlement_key_at};
 ghost use Rattle.ilp_statement.specs.Statement.{kind_at, kind_of};
 ghost use Rattle.ilp_statement_text.specs.Amounts.{amount_at, amount_in, amount_of, change_by, side_amount};
+ghost use Rattle.ilp_statement_text.specs.Keys.{octets_of};
 ghost use Rattle.ilp_statement_text.specs.Sought.{condition_at, condition_in, condition_of, key_at, key_in, key_of};
+ghost use Rattle.ilp_statement_text.specs.Why.{cause_at, cause_in, cause_of, other_name, reason_at, reason_in, reason_by, reason_of, with_at, with_in, with_of};
 
 use crate::key::SettlementKey;
 use ilp_accounts::Config;
@@ -66,12 +69,20 @@ impl<'b> Row<'b> {
         ensures line { IfSome result (λ row. row.line ≡ line) }
         ensures ends { IfSome result (λ row. row.ends ≡ option_and_then (λ (e : Entry). ended e.what)
             (slice_get book.now.entries line.number)) }
+        ensures moment { IfSome result (λ row. option_map (λ (e : Entry). e.moment)
+            (slice_get book.now.entries line.number) ≡ Some row.moment) }
         ensures amount { IfSome result (λ row.
             amount_at book.now.entries peer line.number ≡ Some (amount_in row.about)) }
+        ensures with { IfSome result (λ row. with_in row.about
+            ≡ with_at book.now.config book.now.entries peer line.number) }
         ensures condition { IfSome result (λ row.
             condition_in row.about ≡ condition_at book.now.entries line.number) }
         ensures key { IfSome result (λ row. key_in row.about
             ≡ key_at book.now.config book.now.period book.now.entries line.number) }
+        ensures cause { IfSome result (λ row.
+            cause_in row.why ≡ cause_at book.now.entries line.number) }
+        ensures reason { IfSome result (λ row.
+            reason_in row.why ≡ reason_at book.now.entries line.number) }
     {
         let entry = book.entry(line.number)?;
         let what = &entry.what;
@@ -99,7 +110,9 @@ impl Row<'_> {
     }
 
     /// The other peer of a packet.
-    pub fn with(&self) -> Option<&str> {
+    pub fn with(&self) -> Option<&str>
+        ensures { option_map (λ name. name.now) result ≡ with_in self.now.about }
+    {
         match &self.about {
             About::Packet { with, .. } => Some(with),
             _ => None,
@@ -107,7 +120,9 @@ impl Row<'_> {
     }
 
     /// The condition of a packet.
-    pub fn condition(&self) -> Option<&[u8]> {
+    pub fn condition(&self) -> Option<&[u8]>
+        ensures { option_map (λ condition. condition.now) result ≡ condition_in self.now.about }
+    {
         match &self.about {
             About::Packet { condition, .. } => Some(condition.as_slice()),
             _ => None,
@@ -115,7 +130,9 @@ impl Row<'_> {
     }
 
     /// The key of a settlement or a correction.
-    pub fn key(&self) -> Option<SettlementKey<'_>> {
+    pub fn key(&self) -> Option<SettlementKey<'_>>
+        ensures { option_map octets_of result ≡ key_in self.now.about }
+    {
         match self.about {
             About::Settlement { key, .. } | About::Correction { key, .. } => Some(key),
             _ => None,
@@ -129,6 +146,8 @@ impl<'b> About<'b> {
         ensures none { IfNone result (kind_of book.now.entries peer what.now ≡ None) }
         ensures amount { IfSome result (λ about.
             amount_of book.now.entries peer what.now ≡ Some (amount_in about)) }
+        ensures with { IfSome result (λ about.
+            with_in about ≡ with_of book.now.config book.now.entries peer what.now) }
         ensures condition { IfSome result (λ about.
             condition_in about ≡ condition_of book.now.entries what.now) }
         ensures key { IfSome result (λ about. key_in about
@@ -153,6 +172,7 @@ impl<'b> About<'b> {
 // A settlement from a peer, or a correction of its balance.
 fn credit(credited: &Credited) -> About<'_>
     ensures amount { amount_in result ≡ change_by credited.now.kind credited.now.credited }
+    ensures with { with_in result ≡ None }
     ensures condition { condition_in result ≡ None }
     ensures key { key_in result ≡ Some credited.now.key }
 {
@@ -174,6 +194,7 @@ fn credit(credited: &Credited) -> About<'_>
 // The packet of a hold, at the side of a peer.
 fn packet(config: &Config, peer: u32, hold: Hold) -> About<'_>
     ensures amount { amount_in result ≡ side_amount peer hold }
+    ensures with { with_in result ≡ Some (other_name config.now peer hold) }
     ensures condition { condition_in result ≡ Some hold.condition }
     ensures key { key_in result ≡ None }
 {
@@ -193,6 +214,7 @@ fn packet(config: &Config, peer: u32, hold: Hold) -> About<'_>
 // The settlement that was asked for under a number.
 fn asked(book: &Book, number: u32, amount: u64) -> About<'_>
     ensures amount { amount_in result ≡ pos amount }
+    ensures with { with_in result ≡ None }
     ensures condition { condition_in result ≡ None }
     ensures key { key_in result ≡ Some
         (settlement_key_at book.now.config book.now.period book.now.entries number) }
@@ -204,7 +226,10 @@ fn asked(book: &Book, number: u32, amount: u64) -> About<'_>
 }
 
 // Why an entry's packet was not fulfilled, or a balance was corrected.
-fn why_of(what: &What) -> Option<Why<'_>> {
+fn why_of(what: &What) -> Option<Why<'_>>
+    ensures cause { cause_in result ≡ cause_of what.now }
+    ensures reason { reason_in result ≡ reason_of what.now }
+{
     match what {
         What::Released { cause, .. } => Some(Why::Cause(*cause)),
         What::Credited(credited) => match &credited.kind {
@@ -218,7 +243,9 @@ fn why_of(what: &What) -> Option<Why<'_>> {
 }
 
 // The name of a peer, empty where there is no such peer.
-fn name_of(config: &Config, peer: u32) -> &str {
+fn name_of(config: &Config, peer: u32) -> &str
+    ensures { result.now ≡ (peer_at config.now peer).name }
+{
     if peer < config.peers() {
         config.name(peer)
     } else {
