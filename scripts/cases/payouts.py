@@ -12,7 +12,7 @@ from cases.messages import bearer, created, post, request, response, seconds_sin
 from cases.program import Program, Setup
 from cases.reloading import RELOADED, TAKEN, expect_taken, reload
 from cases.running_periods import expect_end_of, of_bob, report_of
-from cases.stand_ins import ACCEPTS, Received, StandIn, answers_packet, engine_of, free_port, status
+from cases.stand_ins import ACCEPTS, Received, StandIn, answers_packet, engine_of, free_port, in_turn, status
 from connections import TEXT, quantity
 from packets import reject
 
@@ -24,8 +24,8 @@ WAIT_MS, WAIT = 1500, 1.5
 LONGER_MS, LONGER = 3000, 3.0
 ENDLESS_MS = 604_800_000
 
-# In seconds: how old a wait is at least where it begins anew.
-BEFORE = 0.5
+# In seconds: how long a peer's turns rest behind the first refusal.
+FIRST_PAUSE = 1.0
 
 # In seconds: how long a balance is below the threshold, for many turns of the settler, and how far two programs'
 # clocks may differ.
@@ -150,18 +150,32 @@ def wait_that_begins_anew(laboratory: Laboratory) -> None:
 
 
 @case
-def wait_in_the_next_period(laboratory: Laboratory) -> None:
-    """The wait begins anew with a period, here for a reload, and so does one that the next configuration has alone."""
+def refused_settlement_that_waited(laboratory: Laboratory) -> None:
+    """The one that follows a refusal waits for as long as the line says, and not for `settle_after_ms` again."""
+    engines = Engines(laboratory, LONGER_MS)
+    engines.bob.behaviour = engine_of(in_turn(status(400), ACCEPTS))
+    program = engines.serve()
+    start = time.monotonic()
+    give(program, 1000)
+    asked = engines.bob.await_count(SETTLEMENTS, 2, LONGER + FIRST_PAUSE + AT_ONCE)
+    expect_waited(asked[0], start, LONGER)
+    expect_waited(asked[1], asked[0].came, FIRST_PAUSE)
+    program.await_told(r"warn settlement 1 with bob of 800: refused .*the next one waits 1 second")
+    await_confirmed(program, "bob", 800)
+    close(program, bob=200)
+
+
+@case
+def wait_over_periods(laboratory: Laboratory) -> None:
+    """A wait goes on over periods, here over reloads that end each long before it is over. One that the next
+    configuration alone has begins with that."""
     engines = Engines(laboratory, LONGER_MS)
     program = engines.serve()
     start = time.monotonic()
     give(program, 1000)
-    while seconds_since(start) < BEFORE:
+    while not engines.bob.of(SETTLEMENTS) and seconds_since(start) < LONGER + AT_ONCE:
         expect_taken(program, engines.setup)
-    begun = time.monotonic()
-    expect_taken(program, engines.setup)
-    asked = engines.bob.await_count(SETTLEMENTS, 1, LONGER + AT_ONCE)
-    expect_waited(asked[0], begun, LONGER, RELOADED + AT_ONCE)
+    expect_waited(engines.bob.await_count(SETTLEMENTS, 1)[0], start, LONGER, RELOADED)
     await_confirmed(program, "bob", 800)
     # Without a wait it is asked for as soon as the period has begun.
     expect_taken(program, replace(engines.setup, waits={"bob": ENDLESS_MS}))

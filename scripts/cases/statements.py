@@ -1,11 +1,14 @@
 """Statements of accounts, as `connector statement` prints them of a journal that a connector has, of one that was kept,
 and of a period, beside what scripts/statement.py reckons of the same files."""
+import os
 import re
 import subprocess
 import sys
+import time
 from pathlib import Path
 
 from cases.case import case, expect, expect_that
+from cases.disks import library_of
 from cases.journals import SETTLEMENTS, Kept
 from cases.laboratory import Laboratory, close, credit, expect_served
 from cases.messages import created
@@ -68,6 +71,8 @@ def statements_of_a_journal(laboratory: Laboratory) -> None:
     rows = expect_stated(program, kept.path, "bob")
     for words in ((BEFORE,), (BEHIND,), (BEFORE, BEHIND), (BEHIND, BEFORE), (BEFORE, BEFORE)):
         expect_stated(program, kept.path, "bob", *words)
+    last = expect_stated(program, kept.path, "bob", BEHIND, BEFORE)[-1].split(",")
+    expect("the end of a time that ends before it begins", (last[4], last[11]), ("2999-01-01T00:00:00.000Z", "2.00"))
     expect_ends(expect_stated(program, kept.path, "bob", BEHIND), "2.00", "2.00")
     expect_sought(program, kept, rows)
 
@@ -105,6 +110,45 @@ def statement_behind_a_sudden_stop(laboratory: Laboratory) -> None:
     expect("what alice's are", [row.split(",")[6] for row in rows],
            ["opening", "sent", "paid", "sent", "paid", "sent", "closing"])
     expect_ends(rows, "0.00", "-1.07")
+
+
+@case
+def statement_beside_a_close(laboratory: Laboratory) -> None:
+    """One that is taken while a connector closes has all that was booked, also where the log is gone by the time that
+    it would be read. This is left out where there is no C compiler."""
+    folder = laboratory.folder()
+    if (library := library_of("held_open.c", folder)) is None:
+        return
+    kept = Kept(laboratory)
+    close_behind_a_credit(kept, 100, 100)
+    program = kept.serve()
+    expect("a credit", credit(program, 900, key="more"), created(quantity(900, 2)))
+    held, told = folder / "held", folder / "told"
+    held.touch()
+    command = [str(program.binary), "statement", str(program.configuration), str(kept.path), "bob"]
+    with subprocess.Popen(command, stdout=subprocess.PIPE, stderr=subprocess.PIPE, text=True, env={
+            **os.environ, "LD_PRELOAD": str(library), "HELD_OPEN": str(held), "OPEN_TOLD": str(told)}) as child:
+        await_file(told)
+        close(program, bob=1000)
+        held.unlink()
+        text, errors = child.communicate(timeout=10.0)
+    expect("the status, and standard error", (child.returncode, errors), (0, ""))
+    expect("the last lines", text.splitlines()[-2:], ["closing 2 10.00", "total credited 2 10.00"])
+
+
+def close_behind_a_credit(kept: Kept, amount: int, bob: int) -> None:
+    """A run that books a credit of bob's, and closes."""
+    program = kept.serve()
+    expect("a credit", credit(program, amount), created(quantity(amount, 2)))
+    close(program, bob=bob)
+
+
+def await_file(path: Path, within: float = 5.0) -> None:
+    """Waits until a file is there."""
+    end = time.monotonic() + within
+    while not path.exists():
+        expect_that(f"{path.name} is not there within {within} seconds", time.monotonic() < end)
+        time.sleep(0.005)
 
 
 @case

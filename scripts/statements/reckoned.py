@@ -174,9 +174,11 @@ def edge_at(account: Account, moment: int | None, entry: int) -> Edge:
 
 
 def between(account: Account, since: int | None, until: int | None) -> Statement:
-    """The statement of the entries from a moment on and before another one. If that is earlier there are none."""
+    """The statement of the entries from a moment on and before another one; that counts as the first where it is earlier."""
+    if since is not None and until is not None:
+        until = max(since, until)
     first = 0 if since is None else sum(moment < since for moment in account.moments)
-    behind = account.count if until is None else max(sum(moment < until for moment in account.moments), first)
+    behind = account.count if until is None else sum(moment < until for moment in account.moments)
     listed = [row for row in account.rows if first <= row.entry < behind]
     return Statement(edge_at(account, since, first), listed, edge_at(account, until, behind))
 

@@ -30,7 +30,7 @@ connector statement CONFIG JOURNAL PEER [FROM [TO]] [OPTION ..]
                                   lists what moved a peer's balance from FROM on
                                   and before TO, days or moments in UTC; --csv
                                   for a spreadsheet, --packet HEX what is of one
-                                  condition, --key KEY what is of a settlement
+                                  condition, --key KEY what has that key
 connector packet HEX              says in words what a packet has
 connector help                    says this, as -h and --help do
 connector --version               says the versions of the program and of the kit

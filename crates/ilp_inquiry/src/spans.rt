@@ -16,16 +16,18 @@ pub(crate) struct Span {
 }
 
 impl Span {
-    /// The span that is asked for. Where a time is none, a line on standard error says which.
+    /// The span that is asked for; one that ends before it begins has nothing, and ends where it begins. Where a time
+    /// is none, a line on standard error says which.
     pub(crate) fn of<R: Eprint>(rt: &R, inquiry: &Inquiry<'_>) -> Result<Span, InquiryFault> {
-        Ok(Span {
-            from: moment_in(rt, inquiry.from)?,
-            to: moment_in(rt, inquiry.to)?,
-        })
+        let from = moment_in(rt, inquiry.from)?;
+        let to = match (from, moment_in(rt, inquiry.to)?) {
+            (Some(from), Some(to)) => Some(to.max(from)),
+            (_, to) => to,
+        };
+        Ok(Span { from, to })
     }
 
-    /// The entries of a book in it, of the first ones, which are so many. There are none where it ends before it
-    /// begins.
+    /// The entries of a book in it, of the first ones, which are so many.
     pub(crate) fn extent(self, book: &Book, written: u32) -> Extent
         requires { written ≤ length book.now.entries }
         ensures order { result.first ≤ result.behind }

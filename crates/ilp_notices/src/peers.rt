@@ -19,7 +19,8 @@ pub(crate) struct OfPeer {
     unreadable: Repeated,
     engine: Repeated,
     pub(crate) settlements: Repeated,
-    pub(crate) taken_keys: Repeated,
+    pub(crate) refused_credits: Repeated,
+    pub(crate) refused_corrections: Repeated,
     pub(crate) wait_for_peer: Waiters,
     pub(crate) wait_for_engine: Waiters,
 }
@@ -32,7 +33,8 @@ impl OfPeer {
             unreadable: Repeated::new(),
             engine: Repeated::new(),
             settlements: Repeated::new(),
-            taken_keys: Repeated::new(),
+            refused_credits: Repeated::new(),
+            refused_corrections: Repeated::new(),
             wait_for_peer: Waiters::new(),
             wait_for_engine: Waiters::new(),
         }

@@ -141,7 +141,12 @@ impl Notices {
         let Some(of_peer) = self.of_peer(config, peer) else {
             return;
         };
-        if let Some(left_out) = of_peer.taken_keys.failed(rt) {
+        // Apart, so that a correction which is refused hides no settlement that isn't credited.
+        let refusals = match told {
+            ToldPayment::Settlement(_) => &of_peer.refused_credits,
+            ToldPayment::Rise(_) | ToldPayment::Fall(_) => &of_peer.refused_corrections,
+        };
+        if let Some(left_out) = refusals.failed(rt) {
             let name = config.name(peer);
             let (refused, undone) = (told.refused(), told.undone());
             let (entry, advice) = (kept.entry(), told.advice());

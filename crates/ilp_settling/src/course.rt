@@ -25,11 +25,12 @@ pub(crate) struct PeerTurns {
     /// Since when its balance is seen at its threshold or above; none where it was below at the last look, and
     /// where there was none. Only the balance of a peer whose settlements wait is looked at.
     pub(crate) reached: Option<Duration>,
+    /// The same, when the settlement was asked for that this turn asks for anew.
+    pub(crate) reached_before: Option<Duration>,
 }
 
 impl PeerTurns {
-    /// The first turn begins at once. No look was had at the balance yet: with each period, and so with each
-    /// configuration, a settlement waits anew.
+    /// The first turn begins at once. No look was had at the balance yet.
     pub(crate) fn new() -> PeerTurns {
         PeerTurns {
             course: Course::Rests {
@@ -37,7 +38,20 @@ impl PeerTurns {
             },
             pause: 0,
             reached: None,
+            reached_before: None,
         }
+    }
+
+    /// A new settlement is asked for in this turn, or none.
+    pub(crate) fn note_asking(&mut self, asks: bool) {
+        self.reached_before = if asks { self.reached } else { None };
+    }
+
+    /// A settlement was refused, and the next one comes after this pause, in milliseconds. One that this turn asked
+    /// for has waited: its amount is back, so the next one waits for the pause alone.
+    pub(crate) fn note_refusal(&mut self, pause: u64) {
+        self.pause = pause;
+        self.reached = self.reached_before.or(self.reached);
     }
 }
 

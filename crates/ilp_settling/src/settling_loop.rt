@@ -71,6 +71,7 @@ impl<J: Naming, C: Clock + Drop, K: Keeper<J> + Drop> SettlingLoop<J, C, K> {
         shutdown: Shutdown,
     ) -> Option<End<J>> {
         let mut own = self;
+        own.turns.take_over(&shared);
         for _ in shared.rt.forever() {
             own.take_turns(&shared, &shutdown);
             if own.turns.are_over() {
@@ -78,6 +79,7 @@ impl<J: Naming, C: Clock + Drop, K: Keeper<J> + Drop> SettlingLoop<J, C, K> {
             }
         }
         let SettlingLoop { turns, .. } = own;
+        turns.leave(&shared);
         turns.into_end()
     }
 

@@ -63,6 +63,33 @@ impl<J: Naming, C: Clock + Drop, K: Keeper<J> + Drop> Turns<J, C, K> {
         due
     }
 
+    /// Has the waits of peers go on which the period before left: a period's end is none of theirs.
+    pub(crate) fn take_over<R: Wait>(&mut self, shared: &Shared<'_, J, R>) {
+        let config = shared.desk.config();
+        for peer in 0..config.peers() {
+            if config.settle_after_ms(peer) == 0 {
+                continue;
+            }
+            if let Some(turns) = self.peers.get_mut(peer as usize) {
+                turns.reached = shared.payouts.reached(shared.rt, config.name(peer));
+            }
+        }
+    }
+
+    /// Leaves the waits of peers to the next period.
+    pub(crate) fn leave<R: Wait>(&self, shared: &Shared<'_, J, R>) {
+        let config = shared.desk.config();
+        let payouts = shared.payouts;
+        payouts.forget_reached(shared.rt);
+        for peer in 0..config.peers() {
+            if let Some(turns) = self.peers.get(peer as usize)
+                && let Some(since) = turns.reached
+            {
+                payouts.leave_reached(shared.rt, config.allocator(), config.name(peer), since);
+            }
+        }
+    }
+
     /// The connector ends: no turn begins any more, and engines that are asked have little time left.
     pub(crate) fn hurry(&mut self, now: Duration) {
         if self.ends {
@@ -188,7 +215,11 @@ impl<J: Naming, C: Clock + Drop, K: Keeper<J> + Drop> Turns<J, C, K> {
     {
         let now = monotonic(shared.rt);
         self.look_at_balance(shared, peer, now);
-        if !self.may_ask(shared, peer, now) {
+        let may_ask = self.may_ask(shared, peer, now);
+        if let Some(turns) = self.peers.get_mut(peer as usize) {
+            turns.note_asking(may_ask);
+        }
+        if !may_ask {
             return self.settler.take_up(shared.rt, shared.desk, peer);
         }
         let begun = self.settler.begin(shared.rt, shared.desk, peer);
@@ -346,8 +377,12 @@ impl<J: Naming, C: Clock + Drop, K: Keeper<J> + Drop> Turns<J, C, K> {
             return rest(shared, 0);
         };
         match tell_turn(shared, peer, turn, turns.pause) {
+            Some(0) => {
+                turns.pause = 0;
+                rest(shared, 0)
+            }
             Some(pause) => {
-                turns.pause = pause;
+                turns.note_refusal(pause);
                 rest(shared, pause)
             }
             None => rest(shared, 0),

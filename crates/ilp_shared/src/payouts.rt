@@ -1,4 +1,4 @@
-//! Whose payouts are paused.
+//! Whose payouts are paused, and since when those wait that do.
 ghost use Rattle.std.specs.Prelude.{◌≡◌, ◌++◌, ◌∷◌, [], ◌<◌, ◌≤◌, ℕ, pos, List, map, codes, length, replicate, OnOk, OnErr, IfOk, string_bytes, if◌then◌else◌};
 ghost use Rattle.ilp_report.specs.Report.{line};
 ghost use Rattle.ilp_shared.specs.Payouts.{is_among, without, peer_line, paused_lines};
@@ -7,25 +7,36 @@ use ilp_accounts::Config;
 use std::alloc::{AllocError, Global};
 use std::sync::atomic::{AtomicBool, Ordering};
 use std::sync::{Mutex, Wait};
+use std::time::Duration;
 
 // How wide the report's column of names is.
 const NAME_WIDTH: usize = 20;
 
-/// The peers whose payouts are paused: their settlement engines are asked for no new settlement. It is
-/// by names, since a reload may change the places of peers. Threads share it by reference.
+/// The peers whose payouts are paused: their settlement engines are asked for no new settlement; and since when
+/// payouts wait, from one period to the next. It is by names, since a reload may change the places of peers.
+/// Threads share it by reference.
 #[derive(Drop)]
 pub struct Payouts {
     // Whether somebody is named. It is written under the lock.
     has_any: AtomicBool,
     named: Mutex<Vec<String>>,
+    reached: Mutex<Vec<Reached>>,
+}
+
+// Since when the balance of the peer of this name is seen at its threshold or above.
+#[derive(Drop)]
+struct Reached {
+    name: String,
+    since: Duration,
 }
 
 impl Payouts {
-    /// Nobody's are paused.
+    /// Nobody's are paused, and none wait.
     pub fn new(alloc: Global) -> Payouts {
         Payouts {
             has_any: AtomicBool::new(false),
             named: Mutex::new(Vec::new(alloc)),
+            reached: Mutex::new(Vec::new(alloc)),
         }
     }
 
@@ -59,6 +70,30 @@ impl Payouts {
             return lines_of(&self.named.lock(rt), config);
         }
         lines_of(&[], config)
+    }
+
+    /// Since when the balance of the peer of this name is seen at its threshold or above, by the clock that never
+    /// goes back, as the period before left it.
+    pub fn reached(&self, rt: &impl Wait, name: &str) -> Option<Duration> {
+        let reached = self.reached.lock(rt);
+        let found = reached
+            .iter()
+            .find(|of_peer| of_peer.name.as_str() == name)?;
+        Some(found.since)
+    }
+
+    /// Leaves to the next period that the balance of the peer of this name is seen so since then. Where memory is
+    /// denied its payouts wait anew.
+    pub fn leave_reached(&self, rt: &impl Wait, alloc: Global, name: &str, since: Duration) {
+        let mut reached = self.reached.lock(rt);
+        if let Ok(name) = String::from_str(alloc, name) {
+            let _ = reached.push(Reached { name, since });
+        }
+    }
+
+    /// Forgets what the period before left of all peers.
+    pub fn forget_reached(&self, rt: &impl Wait) {
+        self.reached.lock(rt).clear();
     }
 }
 

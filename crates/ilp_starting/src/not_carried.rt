@@ -130,7 +130,7 @@ fn unlawful(
 ) -> Result<String, AllocError> {
     let line = behind.saturating_add(1);
     format!(in alloc;
-        "{file:?} line {line}: the entry {entry} is not lawful: {rule}: where the configuration was changed, `connector new-period` brings the books forward to it"
+        "{file:?} line {line}: the entry {entry} is not lawful: {rule}: where the configuration was changed, `connector new-period` brings the books forward to it; a period that is kept has its own"
     )
 }
 

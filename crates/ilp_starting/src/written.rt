@@ -80,7 +80,7 @@ where
 {
     for _ in 1..READS {
         match files_at(rt, path) {
-            Ok(found) if are_of_one_moment(&found) => return Ok(found),
+            Ok(found) if is_of_one_moment(rt, path, &found) => return Ok(found),
             // A line has told of it.
             Err(refused) if refused.why.is_none() => return Err(refused),
             _ => {}
@@ -89,30 +89,48 @@ where
     files_at(rt, path)
 }
 
-// What is found of the journal now.
+// What is found of the journal now. The log comes first: a close saves the text with all that the log has, and removes
+// the log then, so a text that is read behind it lacks nothing.
 fn files_at<R>(rt: &R, path: &str) -> Result<Found, Refused>
 where
     R: AllocGlobal + Files<File = File> + Clock + Eprint,
 {
     let alloc = rt.alloc();
     let file = JournalFile::untaken(alloc, path)?;
+    let log = file.read_log(rt, alloc)?;
     let found = Found {
         text: file.read(rt, alloc)?,
-        log: file.read_log(rt, alloc)?,
+        log,
         remembered: file.remembered(rt, alloc)?,
     };
     behind_ended(rt, path, found)
 }
 
-// Whether the log goes on from the journal's text, or the journal has what it has. One that can't be read is told of
-// later.
-fn are_of_one_moment(found: &Found) -> bool {
+// Whether the log goes on from the journal's text, or the journal has what it has; where there was none, whether there
+// is none still, since a period that ends has its log set aside before there is the next one. One that can't be read
+// is told of later.
+fn is_of_one_moment<R>(rt: &R, path: &str, found: &Found) -> bool
+where
+    R: AllocGlobal + Files<File = File> + Clock + Eprint,
+{
     let Some(octets) = &found.log else {
-        return true;
+        return has_no_log(rt, path);
     };
     let text = octets_of(&found.text).unwrap_or(&[]);
     match LogText::read(octets) {
         Ok(log) => log.is_of(text) || log.is_in(text),
         Err(_) => true,
+    }
+}
+
+// Whether the journal at this path has no log now.
+fn has_no_log<R>(rt: &R, path: &str) -> bool
+where
+    R: AllocGlobal + Files<File = File> + Clock + Eprint,
+{
+    let alloc = rt.alloc();
+    match JournalFile::untaken(alloc, path) {
+        Ok(file) => matches!(file.read_log(rt, alloc), Ok(None)),
+        Err(_) => false,
     }
 }
