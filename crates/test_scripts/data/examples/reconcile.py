@@ -6,7 +6,8 @@
 
 Both are in CSV and of one asset. Of two codes or scales they are refused: a packet says units alone, so both connectors
 must count in the same ones. The first two lines say which accounts are held against each other. Statements that go on
-from each other, as of two periods, may stand in one file, one behind the other.
+from each other may stand in one file, one behind the other, as those of periods, of the same time and in order: a
+period that lies before that time or behind it is passed over (statement_reading.py has the rule).
 
 Their signs mirror ours, so the two balances come to 0 together; a sum above 0 says that by our book we owe them more
 than by theirs. Each sum is of both books, and the opening balances with the sums of all groups come to the closing
