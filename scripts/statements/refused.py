@@ -63,6 +63,8 @@ FAULTS = (
     (with_line(3, "bobs,", "bob,"), "line 3: it is of another account than the row before"),
     (with_line(3, "bobs,0,", "bobs,1,"), "line 3: it is of another period than the row before"),
     (with_line(3, "T20:00:00.110Z", " 20:00:00"), "line 3: its time is none of received"),
+    (with_line(3, "2026-11-26T20:00:00.110Z", "25340230079999"), "line 3: its time is none of received"),
+    (with_line(3, "2026-11-26T20:00:00.110Z", "253402300799999"), "line 4: its time is before the one before"),
     (with_line(4, ",200,300,", ",200,301,"), "line 4: its balance does not follow from the one before"),
     (with_line(4, ",sent,", ",kept,"), "line 4: it has an unknown what: 'kept'"),
     (with_line(4, ",bank,", ",,"), "line 4: its with is none of sent"),

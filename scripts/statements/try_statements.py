@@ -15,7 +15,7 @@ from statements import browsing, by_hand, disputed, joined, matched, pages, reco
 TRIES = (by_hand.try_rows, by_hand.try_moments, by_hand.try_texts, by_hand.try_files,
          reconciling.try_planted, reconciling.try_two_periods, reconciling.try_times_of_periods,
          reconciling.try_parts, reconciling.try_sums,
-         matched.try_matches, matched.try_ends, matched.try_joined, matched.try_refused,
+         matched.try_matches, matched.try_ends, matched.try_late, matched.try_joined, matched.try_refused,
          joined.try_times, joined.try_nothing, joined.try_gaps, joined.try_other_times, joined.try_unknown,
          disputed.try_dispute, disputed.try_documents, refused.try_bad_input,
          pages.try_examples, pages.try_small, pages.try_periods, pages.try_great, pages.try_many,

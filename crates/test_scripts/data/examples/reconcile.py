@@ -47,7 +47,7 @@ sys.dont_write_bytecode = True
 from amounts_and_times import decimal_of  # noqa: E402
 from statement_matching import DISPUTED, GROUPS, OPEN, Comparison, Item, Match, compare  # noqa: E402
 from statement_reading import read_statement  # noqa: E402
-from statement_rows import PACKETS, Edge, NoStatement, Statement  # noqa: E402
+from statement_rows import PACKETS, Edge, NoStatement, Statement, order_of  # noqa: E402
 
 AGREED, DIFFERED, BAD_INPUT = 0, 1, 2
 
@@ -87,7 +87,7 @@ def lines_of(comparison: Comparison, listed: Iterable[str]) -> list[str]:
     """What is told of a comparison: whose accounts they are, what is in the groups that are listed, and the sums."""
     scale, groups = comparison.scale, comparison.groups
     lines = [f"{group}: {told_of_match(match, scale)}" for group in listed
-             for match in sorted(groups[group], key=lambda match: match.items[0].last.time)]
+             for match in sorted(groups[group], key=lambda match: order_of(match.items[0].last.time))]
     sums = [("opening balances", "", comparison.opening),
             *((group, str(len(groups[group])), comparison.sum(group)) for group in GROUPS),
             ("come to", "", comparison.opening + sum(map(comparison.sum, GROUPS))),

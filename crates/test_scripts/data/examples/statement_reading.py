@@ -22,7 +22,7 @@ from contextlib import contextmanager
 from pathlib import Path
 
 from statement_rows import (BEGUN, HEADER, SETTLEMENTS, Account, Edge, Fields, NoStatement, Row, Statement, account_of,
-                            edge_of, expect, row_of)
+                            edge_of, expect, order_of, row_of)
 
 
 class Reader:
@@ -89,7 +89,7 @@ class Reader:
         """An entry's row."""
         expect(row.balance == self.edge.balance + row.moved, "its balance does not follow from the one before")
         expect(row.entry >= self.edge.entry, "its entry is not behind the one before")
-        expect(row.time >= self.edge.time, "its time is before the one before")
+        expect(order_of(row.time) >= order_of(self.edge.time), "its time is before the one before")
         goes_on = row.what == "opened" and self.begins_period
         if row.what == "opened":
             expect(not self.numbers and not self.first, "a balance was opened before it")
@@ -119,7 +119,8 @@ class Reader:
         """The statement ends. One of a next period that lies behind TO is passed over."""
         expect(edge.balance == self.edge.balance, "its balance is not that of the row before")
         expect(edge.entry >= self.edge.entry, "its entry is not behind the one before")
-        expect(not self.has_row or not edge.time or self.edge.time < edge.time, "its time is not behind the row before")
+        expect(not self.has_row or not edge.time or order_of(self.edge.time) < order_of(edge.time),
+               "its time is not behind the row before")
         is_behind = self.begins_period and edge.entry == 0 and edge.time != ""
         if is_behind or self.last is not self.closing:
             expect(self.closing and edge.time == self.closing.time, "its time is not that of the closing before")
