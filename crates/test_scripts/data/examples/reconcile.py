@@ -29,27 +29,27 @@ in order of time. A correction is one book's own, and matches nothing. Each is i
 Each of the last five groups is listed, and with --all each of all seven. What ends about the moment at which a
 statement is cut may be in one alone, so cut them where nothing is on its way.
 
-The exit status is 0 where both agree but for what is open, 1 where they differ, and 2 where an argument or a file is
-not understood: one line on standard error says why. It needs Python 3.11, and amounts_and_times.py,
-statement_matching.py, statement_reading.py and statement_rows.py beside it.
+The exit status is 0 where both agree but for what is open, 1 where they differ, 2 where an argument or a file is not
+understood, and 3 where standard output failed or was closed: of the last two one line on standard error says why. It
+needs Python 3.11, and amounts_and_times.py, command_line.py, statement_matching.py, statement_reading.py and
+statement_rows.py beside it.
 """
 from __future__ import annotations
 
-import argparse
 import sys
 from collections.abc import Iterable
 from pathlib import Path
-from typing import NoReturn
 
 # Tests read this folder, so nothing is left in it.
 sys.dont_write_bytecode = True
 
 from amounts_and_times import decimal_of  # noqa: E402
+from command_line import NoOutput, NotUnderstood, Parser, write_out  # noqa: E402
 from statement_matching import DISPUTED, GROUPS, OPEN, Comparison, Item, Match, compare  # noqa: E402
 from statement_reading import read_statement  # noqa: E402
 from statement_rows import PACKETS, Edge, NoStatement, Statement, order_of  # noqa: E402
 
-AGREED, DIFFERED, BAD_INPUT = 0, 1, 2
+AGREED, DIFFERED, BAD_INPUT, NO_OUTPUT = 0, 1, 2, 3
 
 
 # ---- what is told
@@ -111,13 +111,6 @@ def verdict_of(comparison: Comparison) -> str:
 
 # ---- the program
 
-class Parser(argparse.ArgumentParser):
-    """One that tells a fault in one line."""
-
-    def error(self, message: str) -> NoReturn:
-        raise NoStatement(f"{message}; {self.format_usage().strip()}")
-
-
 def main(words: list[str]) -> int:
     parser = Parser(prog="reconcile.py", description="Holds two statements of one peering against each other.")
     parser.add_argument("ours", type=Path, metavar="OURS", help="our statement of them, in CSV")
@@ -126,10 +119,11 @@ def main(words: list[str]) -> int:
     try:
         found = parser.parse_args(words)
         comparison = compare(read_statement(found.ours), read_statement(found.theirs))
-    except (NoStatement, OSError) as why:
+        lines = lines_of(comparison, GROUPS if found.all else (OPEN, *DISPUTED))
+        write_out("".join(f"{line}\n" for line in lines).encode())
+    except (NotUnderstood, NoStatement, OSError, NoOutput) as why:
         print(f"reconcile.py: {why}", file=sys.stderr)
-        return BAD_INPUT
-    print("\n".join(lines_of(comparison, GROUPS if found.all else (OPEN, *DISPUTED))))
+        return NO_OUTPUT if isinstance(why, NoOutput) else BAD_INPUT
     return AGREED if comparison.agrees else DIFFERED
 
 
