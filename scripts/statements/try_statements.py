@@ -20,7 +20,8 @@ TRIES = (by_hand.try_rows, by_hand.try_moments, by_hand.try_texts, by_hand.try_f
          joined.try_times, joined.try_nothing, joined.try_gaps, joined.try_other_times, joined.try_unknown,
          disputed.try_dispute, disputed.try_documents, refused.try_bad_input,
          outputs.try_outputs,
-         pages.try_examples, pages.try_small, pages.try_periods, pages.try_great, pages.try_many,
+         pages.try_examples, pages.try_small, pages.try_configurations, pages.try_places, pages.try_periods,
+         pages.try_great, pages.try_many,
          browsing.try_shown, browsing.try_picture)
 
 

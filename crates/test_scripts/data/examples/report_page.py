@@ -46,6 +46,9 @@ MOST_COLUMNS, ALL_COLUMNS = 800, 24_000
 # So many rows of a table are listed, the last ones.
 MOST_HOURS, MOST_PERIODS, MOST_SETTLEMENTS = 168, 100, 1000
 
+# What a scale may be, and a level.
+SCALES, LEVELS = range(256), range(-2**63, 2**63)
+
 STYLE = """
 body { font: 15px sans-serif; color: black; background: white; max-width: 62rem; margin: 2rem auto; padding: 0 1rem }
 svg { width: 100%; height: auto }
@@ -79,15 +82,28 @@ class NoConfiguration(Exception):
     """Why a file is no configuration."""
 
 
+def number_of(table: dict[str, object], field: str, allowed: range) -> int:
+    """A field that is a whole number; true and false are none."""
+    number = table[field]
+    if type(number) is not int or number not in allowed:
+        raise ValueError(f"{field} is no whole number from {allowed[0]} to {allowed[-1]}")
+    return number
+
+
+def peer_of(table: dict[str, object], assets: dict[object, tuple[str, int]]) -> Peer:
+    """A peer of a configuration with these assets."""
+    threshold = number_of(table, "threshold", LEVELS) if "threshold" in table else None
+    return Peer(str(table["name"]), *assets[table["asset"]], number_of(table, "least", LEVELS), threshold)
+
+
 def read_configuration(path: Path) -> tuple[str, list[Peer]]:
     """The name of the run, and the peers, of a configuration."""
     try:
         read = tomllib.loads(path.read_text(encoding="utf-8"))
-        assets = {f"{one['code']}/{one['scale']}": (str(one["code"]), int(one["scale"])) for one in read["asset"]}
-        peers = [Peer(str(one["name"]), *assets[one["asset"]], int(one["least"]), one.get("threshold"))
-                 for one in read["peer"]]
-        return str(read["run"]), peers
-    except (KeyError, TypeError, ValueError) as why:
+        assets = {f"{one['code']}/{one['scale']}": (str(one["code"]), number_of(one, "scale", SCALES))
+                  for one in read["asset"]}
+        return str(read["run"]), [peer_of(one, assets) for one in read["peer"]]
+    except (KeyError, TypeError, ValueError, RecursionError) as why:
         raise NoConfiguration(f"{path}: it is no configuration of a connector: {why!r}") from None
 
 
