@@ -153,7 +153,8 @@ def await_file(path: Path, within: float = 5.0) -> None:
 
 @case
 def statements_of_periods(laboratory: Laboratory) -> None:
-    """The statement of a period that has ended closes with what that of the next one opens with."""
+    """The statement of a period that has ended closes with what that of the next one opens with. Those of both peers
+    are joined for examples/reconcile.py, whatever the time."""
     kept = Kept(laboratory, Setup(bob=laboratory.stand_in(FULFILLS).port))
     program = kept.serve()
     expect_served(program, amount=5)
@@ -164,6 +165,21 @@ def statements_of_periods(laboratory: Laboratory) -> None:
     rows = expect_stated(program, kept.path, "bob")
     expect_ends(rows, "0.00", "0.05")
     expect("the row behind the opening", rows[1].split(",")[6:12], ["opened", "", "0.05", "0.05", "", "0.05"])
+    for words, balances in (((), "0.05 and -0.05"), ((BEFORE,), "0.05 and -0.05"), ((BEFORE, BEHIND), "0.05 and -0.05"),
+                            ((BEHIND,), "0.05 and -0.05"), ((BEFORE, BEFORE), "0.00 and 0.00")):
+        expect_reconciled(program, kept, words, f"the books agree: {balances} come to 0.00")
+
+
+def expect_reconciled(program: Program, kept: Kept, words: tuple[str, ...], says: str) -> None:
+    """What reconcile.py says of the accounts of bob and alice, which mirror each other, in both periods."""
+    paths = [kept.path.with_name(f"{peer}.csv") for peer in ("bob", "alice")]
+    for path in paths:
+        parts = [state(program, journal, path.stem, *words, "--csv") for journal in (kept.beside("0"), kept.path)]
+        path.write_bytes(b"".join(part.stdout for part in parts))
+    command = [sys.executable, "-B", str(TOP / "examples/reconcile.py"), *map(str, paths)]
+    done = subprocess.run(command, capture_output=True, timeout=20.0)
+    expect(f"what is said of {words}", (done.returncode, done.stdout.decode().splitlines()[-1:], done.stderr),
+           (0, [says], b""))
 
 
 @case

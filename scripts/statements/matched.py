@@ -1,8 +1,10 @@
 """What belongs together in two statements, by hand."""
 import csv
+import doctest
 from collections import defaultdict, deque
 
 import statement_matching as matching
+import statement_rows
 from cases.case import expect
 from reconcile import lines_of, verdict_of
 from statement_matching import compare, items_of
@@ -96,6 +98,16 @@ def try_ends() -> None:
         two = compare(told_in_short(f"sent 5 A, sent 5 A, returned 5 A {ends}"), told_in_short(""))
         expect(f"which is open where {ends} has ended", [match.items[0].last.entry for match in
                                                          two.groups[matching.OPEN]], [1 - ends])
+
+
+def try_late() -> None:
+    """Moments for which there is no date are in milliseconds, and come behind all others."""
+    expect("the examples of statement_rows that fail", doctest.testmod(statement_rows).failed, 0)
+    text = statement(CONFIGURATION, FIRST, ENDED_LOG, "bob")
+    late = text.replace("2026-11-26T20:00:01.003Z", "253402300799999").replace("26T20:00:01.00", "30T20:00:01.00")
+    read = statement_of(enumerate(csv.reader(late.replace("2026-11-30", "9999-12-30").splitlines()), 1))
+    expect("the times of the last rows", [row.time for row in read.rows[-3:]],
+           ["9999-12-30T20:00:01.000Z", "9999-12-30T20:00:01.002Z", "253402300799999"])
 
 
 def try_joined() -> None:

@@ -111,10 +111,12 @@ class Books:
 
     def texts_of_periods(self) -> Iterator[dict[str, str]]:
         """Both journals of what happened before the cut, and both of the next period. No hold may be open there."""
-        earlier = self.texts_of([one for one in self.happenings if one.moment < self.cut], 0,
-                                {book: [] for book in NAMES})
+        ended = [one for one in self.happenings if one.moment < self.cut]
+        earlier = self.texts_of(ended, 0, {book: [] for book in NAMES})
         yield earlier
-        heads = {book: book_of(text.encode()).head_behind(NAMES[book]) for book, text in earlier.items()}
+        last = {one.book: one.moment for one in sorted(ended, key=lambda one: one.moment)}
+        heads = {book: [f"{last[book]} 0 {line}" for line in book_of(text.encode()).head_behind(NAMES[book])]
+                 for book, text in earlier.items()}
         yield self.texts_of([one for one in self.happenings if one.moment >= self.cut], 1, heads)
 
     def texts_of(self, happenings: list[Happening], period: int, heads: dict[str, list[str]]) -> dict[str, str]:
@@ -128,7 +130,7 @@ class Books:
                 keys[happening.thread] = f"{RUNS[book]}{f'.{period}' if period else ''}-{number}".encode().hex()
             entries.append((number, happening))
         first = f"ilp-journal 2 {period}" if period else "ilp-journal 1"
-        return {book: "\n".join([first, *(f"{self.cut} 0 {line}" for line in heads[book]), *lines_of(entries, keys),
+        return {book: "\n".join([first, *heads[book], *lines_of(entries, keys),
                                  f"end {len(heads[book]) + len(entries)}\n"]) for book, entries in numbered.items()}
 
 

@@ -116,15 +116,56 @@ def try_small() -> None:
 
 def expect_refused(config: str, text: str, why: str) -> None:
     """A page can't be made, for this reason."""
-    errors = io.StringIO()
-    with tempfile.TemporaryDirectory() as folder, contextlib.redirect_stderr(errors):
+    with tempfile.TemporaryDirectory() as folder:
         paths = [Path(folder, name) for name in ("hub.toml", "journal")]
         for path, octets in zip(paths, (config, text)):
             path.write_text(octets)
-        status = report_page.main([str(path) for path in paths])
+        expect_told(why, *map(str, paths))
+
+
+def expect_told(why: str, *words: str) -> None:
+    """With these arguments a page can't be made, which one line says, and why."""
+    errors = io.StringIO()
+    with contextlib.redirect_stderr(errors):
+        status = report_page.main(list(words))
     said = errors.getvalue()
     expect(f"the status of what is refused as {why!r}, and its lines", (status, said.count("\n")), (2, 1))
     expect_that(f"{said!r} does not say {why!r}", why in said)
+
+
+def try_configurations() -> None:
+    """Levels and scales are whole numbers that a connector may have, and tables are nested as deep as one may read."""
+    peer, none = CONFIGURATION + "threshold = ", "it is no configuration"
+    deep, great = "[" * 9999 + "]" * 9999, f"0x1{'0' * 9999}"
+    for value in ('"5"', "[5]", "{}", "5.0", "true", "2026-11-26", str(2**63), great, deep):
+        expect_refused(f"{peer}{value}\n", FIRST, none)
+        expect_refused(CONFIGURATION.replace("least = -1000", f"least = {value}", 1), FIRST, none)
+        expect_refused(CONFIGURATION.replace("scale = 2", f"scale = {value}"), FIRST, none)
+    for table in ("asset", "peer"):
+        for value in ("1", '"USD"', "[1]", "[[]]", "{ name = 1 }", "true"):
+            whole = CONFIGURATION.replace(f"[[{table}]]", "[[other]]")
+            expect_refused(f"{table} = {value}\n{whole}", FIRST, none)
+    expect_that("a level of a peer can't be the least", text_of(f"{peer}{-2**63}\n", journal=FIRST))
+
+
+def try_places() -> None:
+    """A journal that is not there, be it that its periods are, and one whose name is none, is told in one line."""
+    kept = journal(FIRST.splitlines()[1:-1] + ENDED_LOG.splitlines()[2:])
+    begun = f"ilp-log 1 0 {hashlib.sha256().hexdigest()}\nrun hub; peer alice USD 2; peer bob USD 2\n"
+    with tempfile.TemporaryDirectory() as folder:
+        config, path = Path(folder, "hub.toml"), Path(folder, "journal")
+        config.write_text(CONFIGURATION)
+        for kind, text in ((None, ""), ("0", kept), ("log", begun.replace("log 1 0 ", "log 1 0 0"))):
+            if kind is not None:
+                path.with_name(f"journal.{kind}").write_text(text)
+            expect_told(f"{path} is not there", str(config), str(path))
+        for name in (".", "/", ""):
+            expect_told("is the name of a folder", str(config), name)
+        expect_told("Is a directory", str(config), folder)
+        expect_told("required: CONFIG, JOURNAL; usage: report_page.py [-h] CONFIG JOURNAL")
+        path.with_name("journal.log").write_text(f"{begun}{FIRST.splitlines()[1]}\n")
+        path.with_name("journal.0").unlink()
+        expect_that("a log alone has no page", report_page.make_page(config, path))
 
 
 def try_periods() -> None:

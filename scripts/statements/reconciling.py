@@ -13,7 +13,7 @@ from statement_matching import Comparison, compare
 from statement_reading import read_statement
 from statement_rows import MOVES, Row, Statement
 from statements.by_hand import statement
-from statements.mirrored import NAMES, RUNS, Books, books_by_chance, configuration
+from statements.mirrored import BEGIN, NAMES, RUNS, Books, books_by_chance, configuration
 
 # How many books are made by chance.
 MANY = 200
@@ -78,6 +78,27 @@ def try_two_periods() -> None:
             expect_planted(f"books {seed} in two periods", books, compare(*read_both(joined)))
             tried += 1
     expect_that(f"only {tried} books have two periods", tried > MANY // 4)
+
+
+def told_of(one: Statement) -> list[object]:
+    """What a statement tells that is the same in one period and in several."""
+    moved = [(row.time, row.what, row.amount, row.balance) for row in one.rows if row.what != "opened"]
+    return [one.opening.time, matching.opening_of(one), *moved, one.closing.time, one.closing.balance]
+
+
+def try_times_of_periods() -> None:
+    """Two periods tell of any time what one would that has all of both."""
+    for seed in range(2 * MANY):
+        books, chance = books_by_chance(seed, faults=seed % 2 == 1), random.Random(f"times {seed}")
+        periods = list(books.texts_of_periods())
+        if not any(book_of(text.encode()).holds for text in periods[0].values()):
+            times = sorted(chance.choice((books.cut, chance.randrange(BEGIN - 10, books.moment + 99)))
+                           for _ in range(chance.randrange(3)))
+            parts = [csv_of(texts, books.scale, *times) for texts in periods]
+            joined = read_both({book: parts[0][book] + parts[1][book] for book in NAMES})
+            expect(f"books {seed} at {times}", [told_of(one) for one in joined],
+                   [told_of(one) for one in read_both(csv_of(books.texts(), books.scale, *times))])
+            expect_explained(matching.matched(*joined))
 
 
 def try_parts() -> None:

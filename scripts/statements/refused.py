@@ -63,6 +63,8 @@ FAULTS = (
     (with_line(3, "bobs,", "bob,"), "line 3: it is of another account than the row before"),
     (with_line(3, "bobs,0,", "bobs,1,"), "line 3: it is of another period than the row before"),
     (with_line(3, "T20:00:00.110Z", " 20:00:00"), "line 3: its time is none of received"),
+    (with_line(3, "2026-11-26T20:00:00.110Z", "25340230079999"), "line 3: its time is none of received"),
+    (with_line(3, "2026-11-26T20:00:00.110Z", "253402300799999"), "line 4: its time is before the one before"),
     (with_line(4, ",200,300,", ",200,301,"), "line 4: its balance does not follow from the one before"),
     (with_line(4, ",sent,", ",kept,"), "line 4: it has an unknown what: 'kept'"),
     (with_line(4, ",bank,", ",,"), "line 4: its with is none of sent"),
@@ -100,14 +102,14 @@ FAULTS = (
 
 def run_on(ours: str, theirs: str, *words: str) -> tuple[int, str, str]:
     """The exit status of reconcile.py, and what it prints."""
-    output, errors = io.StringIO(), io.StringIO()
+    output, errors = io.TextIOWrapper(io.BytesIO()), io.StringIO()
     with (tempfile.TemporaryDirectory() as folder, contextlib.redirect_stdout(output),
           contextlib.redirect_stderr(errors)):
         paths = [Path(folder, name) for name in ("ours", "theirs")]
         for path, text in zip(paths, (ours, theirs)):
             path.write_bytes(text.encode())
         status = reconcile.main([*map(str, paths), *words])
-        return status, output.getvalue(), errors.getvalue().replace(folder, "FOLDER")
+        return status, output.buffer.getvalue().decode(), errors.getvalue().replace(folder, "FOLDER")
 
 
 def expect_refused(what: str, found: tuple[int, str, str], why: str) -> None:
@@ -129,3 +131,4 @@ def try_bad_input() -> None:
     expect_refused("another code", run_on(OURS, euros), "ours is in USD/0, and theirs in EUR/0: ")
     expect_refused("one statement twice", run_on(OURS, OURS), "both are one statement: ")
     expect_refused("three files", run_on(OURS, GOOD, "third"), "unrecognized arguments: third; usage: ")
+    expect_refused("an argument of two lines", run_on(OURS, GOOD, "a\nb"), "unrecognized arguments: a b; usage: ")

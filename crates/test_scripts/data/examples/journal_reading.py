@@ -80,19 +80,22 @@ def standing_parts(journal: Path) -> list[Part]:
     log, ended, following = (beside(journal, kind) for kind in ("log", "ended", "next"))
     period = period_in(text)
     if (ended := going_on(ended, text)) is None:
-        return [Part(period, text, going_on(log, text))] if text is not None or log is not None else []
+        log = going_on(log, text)
+        if text is None and log is None:
+            raise NoJournal(f"{journal} is not there")
+        return [Part(period, text, log)]
     next_one = [Part(period + 1, following, going_on(log, following))] if following is not None else []
     return [Part(period, text, ended), *next_one]
 
 
 def parts_of(journal: Path) -> list[Part]:
-    """All periods whose texts lie beside a journal, in order, and at last its own."""
+    """All periods whose texts lie beside a journal, in order, and at last its own, which has to be there."""
+    if not journal.name:
+        raise NoJournal(f"{journal} is the name of a folder")
     begins = re.escape(journal.name)
     kept = [path for path in journal.parent.glob("*") if re.fullmatch(begins + KEPT.pattern, path.name)]
     parts = {part.period: part for part in (Part(period_in(path), path, None) for path in kept)}
     parts |= {part.period: part for part in standing_parts(journal)}
-    if not parts:
-        raise NoJournal(f"{journal} is not there")
     return [parts[period] for period in sorted(parts)]
 
 

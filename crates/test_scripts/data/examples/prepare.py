@@ -9,7 +9,8 @@
 The packet goes to standard output, raw or, with --hex, in hexadecimal digits. With --reply a Fulfill or a
 Reject is read from standard input instead, in the same form; the exit status is 0 for a Fulfill whose
 preimage is the right one, 1 for any other reply, and 2 where none came or the arguments are not
-understood. It needs Python 3.9, and ilp_packets.py beside it.
+understood. It is 3 where standard output failed or was closed. It needs Python 3.9, and command_line.py and
+ilp_packets.py beside it.
 """
 from __future__ import annotations
 
@@ -21,9 +22,10 @@ import time
 # Tests read this folder, so nothing is left in it.
 sys.dont_write_bytecode = True
 
+from command_line import NoOutput, NotUnderstood, Parser, write_out  # noqa: E402
 from ilp_packets import BadPacket, Fulfill, Prepare, Reject, digest, preimage_of, read_packet  # noqa: E402
 
-FULFILLED, NOT_FULFILLED, NOT_UNDERSTOOD = 0, 1, 2
+FULFILLED, NOT_FULFILLED, NOT_UNDERSTOOD, NO_OUTPUT = 0, 1, 2, 3
 
 
 def seconds_of(text: str) -> float:
@@ -41,7 +43,7 @@ def arguments_of(words: list[str]) -> argparse.Namespace:
     """What was asked for."""
     usage = ("%(prog)s AMOUNT DESTINATION [--seconds N] [--preimage HEX] [--data TEXT] [--hex], or "
              "%(prog)s --reply [--preimage HEX] [--hex]")
-    parser = argparse.ArgumentParser(description="Makes an ILPv4 Prepare, or says what came back.", usage=usage)
+    parser = Parser(prog="prepare.py", description="Makes an ILPv4 Prepare, or says what came back.", usage=usage)
     parser.add_argument("amount", nargs="?", type=int, help="in units of the account's asset")
     parser.add_argument("destination", nargs="?", help="an ILP address, such as test.bob.shop")
     parser.add_argument("--seconds", type=seconds_of, default=30.0, metavar="N", help="until it expires (30)")
@@ -63,12 +65,6 @@ def made(found: argparse.Namespace) -> bytes:
     expires = time.time_ns() // 1_000_000 + round(found.seconds * 1000)
     condition = digest(found.preimage)
     return Prepare(found.amount, expires, condition, found.destination, found.data.encode()).octets()
-
-
-def write(octets: bytes, in_digits: bool) -> None:
-    """Hands the octets to standard output."""
-    sys.stdout.buffer.write(octets.hex().encode() + b"\n" if in_digits else octets)
-    sys.stdout.buffer.flush()
 
 
 def read(in_digits: bool) -> bytes:
@@ -107,17 +103,18 @@ def told(octets: bytes, preimage: bytes) -> tuple[str, int]:
 
 
 def main(words: list[str]) -> int:
-    found = arguments_of(words)
     try:
+        found = arguments_of(words)
         if not found.reply:
-            write(made(found), found.hex)
+            packet = made(found)
+            write_out(packet.hex().encode() + b"\n" if found.hex else packet)
             return 0
         text, status = told(read(found.hex), found.preimage)
-        print(text)
+        write_out(f"{text}\n".encode())
         return status
-    except BadPacket as fault:
+    except (NotUnderstood, BadPacket, NoOutput) as fault:
         print(f"prepare.py: {fault}", file=sys.stderr)
-        return NOT_UNDERSTOOD
+        return NO_OUTPUT if isinstance(fault, NoOutput) else NOT_UNDERSTOOD
 
 
 if __name__ == "__main__":

@@ -6,7 +6,8 @@
 
 Both are in CSV and of one asset. Of two codes or scales they are refused: a packet says units alone, so both connectors
 must count in the same ones. The first two lines say which accounts are held against each other. Statements that go on
-from each other, as of two periods, may stand in one file, one behind the other.
+from each other may stand in one file, one behind the other, as those of periods, of the same time and in order: a
+period that lies before that time or behind it is passed over (statement_reading.py has the rule).
 
 Their signs mirror ours, so the two balances come to 0 together; a sum above 0 says that by our book we owe them more
 than by theirs. Each sum is of both books, and the opening balances with the sums of all groups come to the closing
@@ -28,27 +29,27 @@ in order of time. A correction is one book's own, and matches nothing. Each is i
 Each of the last five groups is listed, and with --all each of all seven. What ends about the moment at which a
 statement is cut may be in one alone, so cut them where nothing is on its way.
 
-The exit status is 0 where both agree but for what is open, 1 where they differ, and 2 where an argument or a file is
-not understood: one line on standard error says why. It needs Python 3.11, and amounts_and_times.py,
-statement_matching.py, statement_reading.py and statement_rows.py beside it.
+The exit status is 0 where both agree but for what is open, 1 where they differ, 2 where an argument or a file is not
+understood, and 3 where standard output failed or was closed: of the last two one line on standard error says why. It
+needs Python 3.11, and amounts_and_times.py, command_line.py, statement_matching.py, statement_reading.py and
+statement_rows.py beside it.
 """
 from __future__ import annotations
 
-import argparse
 import sys
 from collections.abc import Iterable
 from pathlib import Path
-from typing import NoReturn
 
 # Tests read this folder, so nothing is left in it.
 sys.dont_write_bytecode = True
 
 from amounts_and_times import decimal_of  # noqa: E402
+from command_line import NoOutput, NotUnderstood, Parser, write_out  # noqa: E402
 from statement_matching import DISPUTED, GROUPS, OPEN, Comparison, Item, Match, compare  # noqa: E402
 from statement_reading import read_statement  # noqa: E402
-from statement_rows import PACKETS, Edge, NoStatement, Statement  # noqa: E402
+from statement_rows import PACKETS, Edge, NoStatement, Statement, order_of  # noqa: E402
 
-AGREED, DIFFERED, BAD_INPUT = 0, 1, 2
+AGREED, DIFFERED, BAD_INPUT, NO_OUTPUT = 0, 1, 2, 3
 
 
 # ---- what is told
@@ -86,7 +87,7 @@ def lines_of(comparison: Comparison, listed: Iterable[str]) -> list[str]:
     """What is told of a comparison: whose accounts they are, what is in the groups that are listed, and the sums."""
     scale, groups = comparison.scale, comparison.groups
     lines = [f"{group}: {told_of_match(match, scale)}" for group in listed
-             for match in sorted(groups[group], key=lambda match: match.items[0].last.time)]
+             for match in sorted(groups[group], key=lambda match: order_of(match.items[0].last.time))]
     sums = [("opening balances", "", comparison.opening),
             *((group, str(len(groups[group])), comparison.sum(group)) for group in GROUPS),
             ("come to", "", comparison.opening + sum(map(comparison.sum, GROUPS))),
@@ -110,13 +111,6 @@ def verdict_of(comparison: Comparison) -> str:
 
 # ---- the program
 
-class Parser(argparse.ArgumentParser):
-    """One that tells a fault in one line."""
-
-    def error(self, message: str) -> NoReturn:
-        raise NoStatement(f"{message}; {self.format_usage().strip()}")
-
-
 def main(words: list[str]) -> int:
     parser = Parser(prog="reconcile.py", description="Holds two statements of one peering against each other.")
     parser.add_argument("ours", type=Path, metavar="OURS", help="our statement of them, in CSV")
@@ -125,10 +119,11 @@ def main(words: list[str]) -> int:
     try:
         found = parser.parse_args(words)
         comparison = compare(read_statement(found.ours), read_statement(found.theirs))
-    except (NoStatement, OSError) as why:
+        lines = lines_of(comparison, GROUPS if found.all else (OPEN, *DISPUTED))
+        write_out("".join(f"{line}\n" for line in lines).encode())
+    except (NotUnderstood, NoStatement, OSError, NoOutput) as why:
         print(f"reconcile.py: {why}", file=sys.stderr)
-        return BAD_INPUT
-    print("\n".join(lines_of(comparison, GROUPS if found.all else (OPEN, *DISPUTED))))
+        return NO_OUTPUT if isinstance(why, NoOutput) else BAD_INPUT
     return AGREED if comparison.agrees else DIFFERED
 
 

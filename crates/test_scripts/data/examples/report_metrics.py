@@ -11,9 +11,9 @@ file behind --output, which is either replaced as a whole or left as it is. With
 how many requests of peers got 401, by the connector's standard error, which is in LOG.
 
 What is no whole report by docs/PROTOCOL.md is refused: the exit status is 1, one line on standard
-error says why, and nothing is written. It is 1 as well where a file can't be read or written, and 2
-where the arguments are not understood. Numbers are whole ones, and are handed on as they came. It
-needs Python 3.11 and nothing else.
+error says why, and nothing is written. It is 1 as well where a file can't be read or written, 2
+where the arguments are not understood, and 3 where standard output failed or was closed. Numbers are
+whole ones, and are handed on as they came. It needs Python 3.11 and nothing else.
 """
 import argparse
 import contextlib
@@ -90,6 +90,10 @@ WRONG_TOKENS = re.compile(rb"\S+ warn wrong tokens: ([1-9][0-9]*) requests? got 
 
 class NoReport(Exception):
     """Why octets are no report."""
+
+
+class NoOutput(Exception):
+    """Why standard output can't be written."""
 
 
 @dataclass(frozen=True)
@@ -327,6 +331,20 @@ def metrics_of(report: Report, unauthorized: int | None = None) -> str:
 # ---- the program
 
 
+def write_out(text: str) -> None:
+    """Hands the text to standard output, all of it."""
+    if sys.stdout is None:
+        raise NoOutput("standard output is closed")
+    try:
+        sys.stdout.write(text)
+        sys.stdout.flush()
+    except OSError as why:
+        # Else what is left would be tried once more at the end, and told by a traceback.
+        with contextlib.suppress(OSError):
+            sys.stdout.close()
+        raise NoOutput(f"standard output failed: {why.strerror}") from None
+
+
 def replace(path: Path, text: str) -> None:
     """Puts the text in the place of the file. It is written beside it first, under a name that the
     collector passes over, so that the collector finds the old text or the new one, whole."""
@@ -366,8 +384,7 @@ def run(source: Path | None, output: Path | None, log: Path | None = None) -> No
     """Reads the report and writes its metrics."""
     text = metrics_of(read_report(read_octets(source)), read_unauthorized(log))
     if output is None:
-        sys.stdout.write(text)
-        sys.stdout.flush()
+        write_out(text)
     else:
         replace(output, text)
 
@@ -545,9 +562,9 @@ def main() -> int:
         return 1 if differs else 0
     try:
         run(given.report, given.output, given.lines)
-    except (NoReport, OSError) as why:
+    except (NoReport, OSError, NoOutput) as why:
         print(f"report_metrics: {why}", file=sys.stderr)
-        return 1
+        return 3 if isinstance(why, NoOutput) else 1
     return 0
 
 

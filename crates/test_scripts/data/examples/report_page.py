@@ -15,13 +15,13 @@ has, in whole units of each asset and with times in UTC,
 JOURNAL's log counts where it goes on from JOURNAL, so both may be copies. Beside a connector that runs the page may
 lack what was booked last. Long journals are drawn by their extremes: a page of a million entries has less than 2 MB.
 
-The exit status is 2 where the arguments or the configuration are not understood, or the journal can't be read: one
-line on standard error says why, and nothing is written. It needs Python 3.11, and amounts_and_times.py, charts.py,
+The exit status is 2 where the arguments or the configuration are not understood, or the journal can't be read: then
+nothing is written. It is 3 where standard output failed or was closed, which has a part of the page at most. One line
+on standard error says why. It needs Python 3.11, and amounts_and_times.py, charts.py, command_line.py,
 journal_figures.py, journal_reading.py and markup.py beside it.
 """
 from __future__ import annotations
 
-import argparse
 import sys
 import tomllib
 from collections import Counter
@@ -34,16 +34,20 @@ sys.dont_write_bytecode = True
 
 from amounts_and_times import shown, time_of  # noqa: E402
 from charts import Chart, Columns, drawing_of  # noqa: E402
+from command_line import NoOutput, NotUnderstood, Parser, write_out  # noqa: E402
 from journal_figures import FULFILLED, HOUR, PACKETS, Figures  # noqa: E402
 from journal_reading import NoJournal, parts_of  # noqa: E402
 from markup import element, escaped  # noqa: E402
 
-DONE, BAD_INPUT = 0, 2
+DONE, BAD_INPUT, NO_OUTPUT = 0, 2, 3
 
 # A drawing has at most so many columns, and all drawings of balances together.
 MOST_COLUMNS, ALL_COLUMNS = 800, 24_000
 # So many rows of a table are listed, the last ones.
 MOST_HOURS, MOST_PERIODS, MOST_SETTLEMENTS = 168, 100, 1000
+
+# What a scale may be, and a level.
+SCALES, LEVELS = range(256), range(-2**63, 2**63)
 
 STYLE = """
 body { font: 15px sans-serif; color: black; background: white; max-width: 62rem; margin: 2rem auto; padding: 0 1rem }
@@ -78,15 +82,28 @@ class NoConfiguration(Exception):
     """Why a file is no configuration."""
 
 
+def number_of(table: dict[str, object], field: str, allowed: range) -> int:
+    """A field that is a whole number; true and false are none."""
+    number = table[field]
+    if type(number) is not int or number not in allowed:
+        raise ValueError(f"{field} is no whole number from {allowed[0]} to {allowed[-1]}")
+    return number
+
+
+def peer_of(table: dict[str, object], assets: dict[object, tuple[str, int]]) -> Peer:
+    """A peer of a configuration with these assets."""
+    threshold = number_of(table, "threshold", LEVELS) if "threshold" in table else None
+    return Peer(str(table["name"]), *assets[table["asset"]], number_of(table, "least", LEVELS), threshold)
+
+
 def read_configuration(path: Path) -> tuple[str, list[Peer]]:
     """The name of the run, and the peers, of a configuration."""
     try:
         read = tomllib.loads(path.read_text(encoding="utf-8"))
-        assets = {f"{one['code']}/{one['scale']}": (str(one["code"]), int(one["scale"])) for one in read["asset"]}
-        peers = [Peer(str(one["name"]), *assets[one["asset"]], int(one["least"]), one.get("threshold"))
-                 for one in read["peer"]]
-        return str(read["run"]), peers
-    except (KeyError, TypeError, ValueError) as why:
+        assets = {f"{one['code']}/{one['scale']}": (str(one["code"]), number_of(one, "scale", SCALES))
+                  for one in read["asset"]}
+        return str(read["run"]), [peer_of(one, assets) for one in read["peer"]]
+    except (KeyError, TypeError, ValueError, RecursionError) as why:
         raise NoConfiguration(f"{path}: it is no configuration of a connector: {why!r}") from None
 
 
@@ -220,16 +237,16 @@ def make_page(config: Path, journal: Path) -> str:
 
 
 def main(words: list[str]) -> int:
-    parser = argparse.ArgumentParser(description="Makes a page of a connector's journal and of the periods before it.")
+    parser = Parser(prog="report_page.py",
+                    description="Makes a page of a connector's journal and of the periods before it.")
     parser.add_argument("config", type=Path, metavar="CONFIG", help="the connector's configuration")
     parser.add_argument("journal", type=Path, metavar="JOURNAL", help="its journal; the periods lie beside it")
-    found = parser.parse_args(words)
     try:
-        page = make_page(found.config, found.journal)
-    except (NoConfiguration, NoJournal, OSError) as why:
+        found = parser.parse_args(words)
+        write_out(make_page(found.config, found.journal).encode("ascii", "xmlcharrefreplace"))
+    except (NotUnderstood, NoConfiguration, NoJournal, OSError, NoOutput) as why:
         print(f"report_page.py: {why}", file=sys.stderr)
-        return BAD_INPUT
-    sys.stdout.buffer.write(page.encode("ascii", "xmlcharrefreplace"))
+        return NO_OUTPUT if isinstance(why, NoOutput) else BAD_INPUT
     return DONE
 
 

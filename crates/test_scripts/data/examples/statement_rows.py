@@ -25,7 +25,8 @@ SIGNED = ("opened", CORRECTED)
 ENDING = ("paid", "returned", "received", "refused", "confirmed", "undone")
 BEGUN = {"paid": "sent", "returned": "sent", "confirmed": "asked", "undone": "asked"}
 
-TIME = re.compile(r"[0-9]{4}-[0-9]{2}-[0-9]{2}T[0-9]{2}:[0-9]{2}:[0-9]{2}\.[0-9]{3}Z")
+# A moment about the end of the year 9999, for which the connector has no date, is in milliseconds since 1970.
+TIME = re.compile(r"[0-9]{4}-[0-9]{2}-[0-9]{2}T[0-9]{2}:[0-9]{2}:[0-9]{2}\.[0-9]{3}Z|[1-9][0-9]{14}")
 NUMBER = re.compile(r"0|[1-9][0-9]{0,9}")
 DECIMAL = re.compile(r"(-?)(0|[1-9][0-9]{0,59})(?:\.([0-9]{1,255}))?")
 # A name or a key has an escape in place of a first octet that a spreadsheet would take for a formula.
@@ -107,6 +108,15 @@ def expect(holds: object, why: str) -> None:
     """Refuses what does not hold."""
     if not holds:
         raise NoStatement(why)
+
+
+def order_of(time: str) -> tuple[bool, str]:
+    """Where a time is in order: those in milliseconds come last.
+
+    >>> sorted(["253402300799999", "9999-12-30T20:00:00.000Z", "", "253402207201000"], key=order_of)
+    ['', '9999-12-30T20:00:00.000Z', '253402207201000', '253402300799999']
+    """
+    return time.isdecimal(), time
 
 
 # ---- a row
