@@ -174,7 +174,7 @@ def edge_at(account: Account, moment: int | None, entry: int) -> Edge:
 
 
 def between(account: Account, since: int | None, until: int | None) -> Statement:
-    """The statement of the entries from a moment on and before another one; that counts as the first where it is earlier."""
+    """The statement of the entries from a moment on and before another one, which is the same where it is earlier."""
     if since is not None and until is not None:
         until = max(since, until)
     first = 0 if since is None else sum(moment < since for moment in account.moments)
