@@ -186,7 +186,7 @@ def try_moments() -> None:
     expect("bob behind all", statement(CONFIGURATION, FIRST, LOG, "bob", 1895723200000),
            empty("2030-01-27T05:46:40.000Z,16,opening,,,,,-0.06,,,,", ",16,closing,,,,,-0.06,,,,"))
     expect("bob from the second one to the first", statement(CONFIGURATION, FIRST, LOG, "bob", *reversed(cut)),
-           empty("2026-11-26T20:00:00.700Z,7,opening,,,,,4.95,,,,", "2026-11-26T20:00:00.400Z,7,closing,,,,,4.95,,,,"))
+           empty("2026-11-26T20:00:00.700Z,7,opening,,,,,4.95,,,,", "2026-11-26T20:00:00.700Z,7,closing,,,,,4.95,,,,"))
     for text, moment in {"1970-01-01": 0, "2026-11-26": 1795651200000, "2026-11-26T20:00:00Z": 1795723200000,
                          "2026-11-26T20:00:00.5Z": 1795723200500, "2026-11-26T20:00:00.040Z": 1795723200040}.items():
         expect(f"the moment {text}", moment_in(text), moment)

@@ -12,6 +12,7 @@ from xml.etree import ElementTree
 import amounts_and_times
 import charts
 import journal_figures
+import journal_reading
 import markup
 import report_page
 from cases.case import expect, expect_that
@@ -202,6 +203,48 @@ def try_odd_texts(kept: str, begun: str, log: str) -> None:
         expect("balances without the log's entry", [row[2] for row in rows_of(page, "Balances")], ["15.95", "-0.05"])
     gap = page_of(CONFIGURATION, kept_0=kept, journal=journal([f"{EVENING + HOUR} 0 credited bob 00 9 2 9"], 2))
     expect("balances behind a period that is missing", [row[2] for row in rows_of(gap, "Balances")], ["0.00", "0.09"])
+
+
+def try_ends_meanwhile() -> None:
+    """A period that ends, or a close, while the periods before are read: what is read of that period is whole."""
+    forward, entry = (f"{EVENING + 9} 0 {what} bob {rest}" for what, rest in (("opened", "5"), ("credited", "00 7 2 7")))
+    texts = {".0": journal([f"{EVENING} 0 credited bob ff 5 2 5"]), "": journal([forward], 1)}
+    texts[".log"] = log_behind(texts[""], entry)
+    for ends in (end_period, close):
+        with tempfile.TemporaryDirectory() as folder:
+            files = Path(folder, "journal")
+            for kind, text in texts.items():
+                Path(f"{files}{kind}").write_text(text)
+            found = []
+            for part in journal_reading.parts_of(files):
+                if part.period == 0:
+                    ends(files, journal([forward, entry], 1))
+                found.append((part.period, [one.what for one in journal_reading.entries_of(part)]))
+        expect(f"the periods beside {ends.__name__}", found, [(0, ["credited"]), (1, ["opened", "credited"])])
+
+
+def log_behind(text: str, *entries: str) -> str:
+    """The log of these entries behind a text of one."""
+    digest = hashlib.sha256(text.encode()).hexdigest()
+    return "".join(f"{line}\n" for line in (f"ilp-log 1 1 {digest}", "run hub; peer bob USD 2", *entries))
+
+
+def end_period(files: Path, whole: str) -> None:
+    """The files of a connector that ends the period 1: its whole text is kept, and the next one's is the journal."""
+    following = journal([f"{EVENING + 9} 0 opened bob 12"], 2)
+    Path(f"{files}.next").write_text(following)
+    Path(f"{files}.log").rename(f"{files}.ended")
+    Path(f"{files}.log").write_text(log_behind(following))
+    Path(f"{files}.1").write_text(whole)
+    Path(f"{files}.next").rename(files)
+    Path(f"{files}.ended").unlink()
+
+
+def close(files: Path, whole: str) -> None:
+    """Those of one that closes: the whole text is the journal, and the log goes."""
+    Path(f"{files}.new").write_text(whole)
+    Path(f"{files}.new").rename(files)
+    Path(f"{files}.log").unlink()
 
 
 def try_great() -> None:

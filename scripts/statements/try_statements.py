@@ -21,7 +21,7 @@ TRIES = (by_hand.try_rows, by_hand.try_moments, by_hand.try_texts, by_hand.try_f
          disputed.try_dispute, disputed.try_documents, refused.try_bad_input,
          outputs.try_outputs,
          pages.try_examples, pages.try_small, pages.try_configurations, pages.try_places, pages.try_periods,
-         pages.try_great, pages.try_many,
+         pages.try_ends_meanwhile, pages.try_great, pages.try_many,
          browsing.try_shown, browsing.try_picture)
 
 
