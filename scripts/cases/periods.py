@@ -7,7 +7,7 @@ from dataclasses import replace
 from pathlib import Path
 
 from cases.case import case, expect, expect_that
-from cases.journals import SETTLEMENTS, Kept, keys_of
+from cases.journals import SETTLEMENTS, Kept, expect_lines, keys_of
 from cases.laboratory import END, Laboratory, close, credit, expect_served, post_close
 from cases.lines import ENDED_OF_ANOTHER_TEXT
 from cases.messages import created, response
@@ -112,6 +112,30 @@ def periods_one_after_the_other(laboratory: Laboratory) -> None:
     expect("the exit status", program.end(END), 0)
     closing.expect_closed("peer alice balance -35", "peer bob balance 1035", period=2)
     expect("the files", kept.files(), ["journal", "journal.0", "journal.1", "journal.lock"])
+
+
+@case
+def kept_period_given_as_a_journal(laboratory: Laboratory) -> None:
+    """No connector begins with the text of a period that is kept beside a later one, and no next period does. Elsewhere,
+    and beside a journal of that period, it is one."""
+    kept = closed_book(laboratory)
+    closing = Closing(kept, kept.setup)
+    closing.expect_closed("peer alice balance -30", "peer bob balance 1030")
+    ended = kept.beside("0")
+    line = f"error can't use \"{ended}\": it is kept of a period that has ended, behind which \"{kept.path}\" goes on"
+    before = kept.contents()
+    for words in (("check", closing.before, ended), ("new-period", closing.before, ended),
+                  ("serve", closing.before, ended)):
+        status, text, errors = closing.run(*words)
+        expect(f"what {words[0]} says", (status, text), (1, "refused 73 JournalUnread\n"))
+        expect_lines(f"standard error of {words[0]}", errors, (re.escape(line),))
+    expect("the files", kept.contents(), before)
+    valid = (0, "ok 2 peers 1 assets 2 routes\n4 entries\n")
+    elsewhere = Path(shutil.copy(ended, laboratory.folder() / ended.name))
+    elsewhere.with_name(kept.path.name).mkdir()
+    expect("what check says beside a folder", closing.run("check", closing.before, elsewhere)[:2], valid)
+    shutil.copy(ended, kept.path)
+    expect("what it says beside a journal of that period", closing.run("check", closing.before, ended)[:2], valid)
 
 
 @case

@@ -29,6 +29,7 @@
 mod comparing;
 mod fault;
 mod given;
+mod kept_text;
 mod limited;
 mod locking;
 mod log_device;

@@ -35,6 +35,7 @@ where
     let names = Names::of(alloc, path)?;
     names.expect_named(rt)?;
     names.expect_fit(rt, alloc)?;
+    names.expect_not_kept(rt)?;
     if let Err(error) = fs::metadata(rt, names.folder()) {
         not_made(rt, names.lock.as_str(), &error);
         return Err(FileFault::Unwritten);

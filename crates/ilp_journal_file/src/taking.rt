@@ -31,8 +31,8 @@ impl<F: LockFile> JournalFile<F> {
     /// there, and stays.
     ///
     /// Refusals: `Unwritten` where the path is empty, or `J.lock` can't be made; `Unread` where what stands
-    /// at the journal's path or beside it is no plain file with one name, or is a mount point, another
-    /// connector has the journal, or `J.running` is there; `Memory`.
+    /// at the journal's path or beside it is no plain file with one name, or is a mount point, the journal is
+    /// the kept text of a period that has ended, another connector has it, or `J.running` is there; `Memory`.
     pub fn take<R>(rt: &R, alloc: Global, path: &str) -> Result<JournalFile<F>, FileFault>
     where
         R: Files<File = F> + Clock + Eprint,
@@ -40,6 +40,7 @@ impl<F: LockFile> JournalFile<F> {
         let names = Names::of(alloc, path)?;
         names.expect_named(rt)?;
         names.expect_fit(rt, alloc)?;
+        names.expect_not_kept(rt)?;
         let lock = match open_lock(rt, names.lock.as_str()) {
             Ok(lock) => lock,
             Err(error) => {

@@ -25,7 +25,7 @@ pub(crate) struct PeerTurns {
     /// Since when its balance is seen at its threshold or above; none where it was below at the last look, and
     /// where there was none. Only the balance of a peer whose settlements wait is looked at.
     pub(crate) reached: Option<Duration>,
-    /// The same, when the settlement was asked for that this turn asks for anew.
+    /// What that was as this turn asked for a new settlement, which has waited since then; none where it asks for none.
     pub(crate) reached_before: Option<Duration>,
 }
 
