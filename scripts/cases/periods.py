@@ -130,7 +130,7 @@ def kept_period_given_as_a_journal(laboratory: Laboratory) -> None:
         expect(f"what {words[0]} says", (status, text), (1, "refused 73 JournalUnread\n"))
         expect_lines(f"standard error of {words[0]}", errors, (re.escape(line),))
     expect("the files", kept.contents(), before)
-    valid = (0, "ok 2 peers 1 assets 2 routes\n4 entries\n")
+    valid = (0, "ok 2 peers 1 assets 2 routes 3 entries\n")
     elsewhere = Path(shutil.copy(ended, laboratory.folder() / ended.name))
     elsewhere.with_name(kept.path.name).mkdir()
     expect("what check says beside a folder", closing.run("check", closing.before, elsewhere)[:2], valid)

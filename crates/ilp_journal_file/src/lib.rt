@@ -13,7 +13,8 @@
 //! - `J.ended` and `J.next` for a moment behind a period that ended in a running connector: the log of that,
 //!   and what the next one begins with. Where both are there, the journal is `J.next` with `J.log`, and `J` and
 //!   `J.ended` are the period before, which is still to be kept as a whole.
-//! - `J.P` for the number P of each period that has ended: its whole text, which is never written again.
+//! - `J.P` for the number P of each period that has ended: its whole text, which is never written again. Beside the
+//!   `J` of a later period it is refused as a journal.
 //!
 //! None of them may be a link or have a second name: else two connectors would have one journal. Where
 //! `J.running` lies there, the mark of an earlier version that kept no log, the journal is refused.
