@@ -5,7 +5,7 @@
 #     scripts/build.sh
 #     scripts/build.sh ~/.local/bin
 #
-# It needs rt and python3. In a fresh clone the proofs take minutes; building/prove.py has them run
+# It needs rt and python3. In a fresh clone the proofs take an hour; building/prove.py has them run
 # side by side. What was proved is kept in crates/*/out, so that a second build takes a minute or two. Where a
 # proof fails, no program is built or installed, and one of an earlier build stays as it was.
 set -eu

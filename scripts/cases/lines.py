@@ -93,8 +93,8 @@ FORMS = [re.compile(form) for form in (
     rf"warn settlement \d+ with {NAME} of \d+: refused with the status 4\d\d, and the amount is back; "
     rf"the next one waits {SECONDS}",
     rf"warn settlement \d+ with {NAME}: {KEPT_OPEN}{MORE}",
-    rf"(info|warn) {PAUSED.format(name=NAME)}",
-    rf"(info|warn) {GO_ON.format(name=NAME)}",
+    rf"info {PAUSED.format(name=NAME)}",
+    rf"info {GO_ON.format(name=NAME)}",
     rf"info credit \d+ of {NAME}: \d+, key {KEY}",
     rf"info correction \d+ of {NAME}: -?\d+, key {KEY}: {REASON}",
     rf"error settlement of {NAME} refused, and not credited: {QUANTITY} under the key {KEY}, {STANDING}: see which one "
@@ -140,7 +140,8 @@ FORMS = [re.compile(form) for form in (
     rf"warn journal {PATH}: it begins with \d+ entries that were brought forward, so a new period begins only behind .+",
     r"info configuration: read again, and in force: ok \d+ peers \d+ assets \d+ routes",
     rf"error can't write {PATH}: .+: make room for it, and give the command again: nothing is lost",
-    r"error clock: \d+\.\d{3} seconds behind the last moment of the book, so that packets come too late",
+    rf"error clock: \d+\.\d{{3}} seconds behind the last moment of the book, so that packets come too late{MORE}",
+    r"info clock: no longer behind the last moment of the book",
 )]
 
 

@@ -83,7 +83,7 @@ def expect_answer(program: Program, name: str, what: str) -> None:
     """A peer's settlements are paused, or go on, and a line says so."""
     octets = post(program.setup.engines_port, request(f"/accounts/{name}/{what}"))
     expect(f"the answer to a {what}", octets, response(200))
-    program.await_told(f"(info|warn) {(PAUSED if what == 'pause' else GO_ON).format(name=name)}")
+    program.await_told(f"info {(PAUSED if what == 'pause' else GO_ON).format(name=name)}")
 
 
 def paused_in(program: Program) -> tuple[list[str], str]:

@@ -69,7 +69,7 @@ METRICS = {
     ),
     "settled": (
         "ilp_settled",
-        "Credited settlements, less asked ones, plus undone ones, in units of the asset.",
+        "Opened balances, credits and corrections, less asked settlements, plus undone ones, in units of the asset.",
     ),
     "entries": ("ilp_entries", "How many entries the journal has."),
     "fulfilled": ("ilp_fulfilled", "How many holds are fulfilled."),
