@@ -11,8 +11,8 @@ from cases.stand_ins import ACCEPTS, FULFILLS, engine_of
 from connections import quantity
 
 # What is told behind the rule that an entry breaks.
-HELPS = (": where the configuration was changed, `connector new-period` brings the books forward to it; a period that is "
-         "kept has its own")
+HELPS = (": where the configuration was changed, `connector new-period` brings the books forward to it; a period that "
+         "is kept has its own")
 
 
 # ---- a text that was changed

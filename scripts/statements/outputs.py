@@ -49,4 +49,7 @@ def try_outputs() -> None:
             program = str(command[0]).replace("metrics.py", "metrics")
             expect(f"{command} {output}", told_by(command, folder, output, writer),
                    (NO_OUTPUT, f"{program}: standard output {outputs[output]}\n"))
+            expect(f"the status of {command} {output}, without errors",
+                   [told_by(command, folder, f"{output} {errors}", writer)[0] for errors in ("2>/dev/full", "2>&-")],
+                   [NO_OUTPUT, NO_OUTPUT])
     os.close(writer)

@@ -111,6 +111,7 @@ def try_small() -> None:
                               ("run = 1", FIRST, "it is no configuration"), (CONFIGURATION, "", "its first line"),
                               (CONFIGURATION, FIRST.replace("released 2", "released 1"), "the entry 4 of the period 0"),
                               (CONFIGURATION, FIRST.replace("asked", "taken"), "the entry 7 of the period 0"),
+                              (CONFIGURATION, FIRST.replace("asked bob ", f"asked bob {'9' * 257}"), "the entry 7 of"),
                               (CONFIGURATION, CORRECTED.replace("rises c", "raises c"), "the entry 4 of the period 1")):
         expect_refused(config, text, why)
 
@@ -207,7 +208,8 @@ def try_odd_texts(kept: str, begun: str, log: str) -> None:
 
 def try_ends_meanwhile() -> None:
     """A period that ends, or a close, while the periods before are read: what is read of that period is whole."""
-    forward, entry = (f"{EVENING + 9} 0 {what} bob {rest}" for what, rest in (("opened", "5"), ("credited", "00 7 2 7")))
+    forward, entry = (f"{EVENING + 9} 0 {what} bob {rest}"
+                      for what, rest in (("opened", "5"), ("credited", "00 7 2 7")))
     texts = {".0": journal([f"{EVENING} 0 credited bob ff 5 2 5"]), "": journal([forward], 1)}
     texts[".log"] = log_behind(texts[""], entry)
     for ends in (end_period, close):

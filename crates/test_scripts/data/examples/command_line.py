@@ -1,4 +1,4 @@
-"""The arguments and the standard output of the programs beside it. It needs Python 3.9 and nothing else."""
+"""The arguments and the standard streams of the programs beside it. It needs Python 3.9 and nothing else."""
 from __future__ import annotations
 
 import argparse
@@ -23,6 +23,18 @@ class Parser(argparse.ArgumentParser):
 
     def print_help(self, file: object = None) -> None:
         write_out(self.format_help().encode())
+
+
+def tell_why(line: str) -> None:
+    """A line on standard error. Where that fails, the exit status is all that tells."""
+    if sys.stderr is None:
+        return
+    try:
+        print(line, file=sys.stderr, flush=True)
+    except OSError:
+        # Else what is left would be tried once more at the program's end, which has another status then.
+        with contextlib.suppress(OSError):
+            sys.stderr.close()
 
 
 def write_out(octets: bytes) -> None:

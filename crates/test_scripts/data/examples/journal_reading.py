@@ -18,6 +18,8 @@ from typing import BinaryIO
 
 FORM = re.compile(rb"ilp-journal (?:1|2 ([1-9][0-9]{0,9}))\n")
 KEPT = re.compile(r"\.(?:0|[1-9][0-9]{0,9})")
+# Of the longest key, and of the longest reason, in hexadecimal.
+LONGEST_FIELD = 256
 
 
 class NoJournal(Exception):
@@ -203,6 +205,9 @@ def entries_of(part: Part) -> Iterator[Entry]:
     for number, line in enumerate(lines_of(part)):
         try:
             moment, _actor, what, *fields = line.decode("ascii").split()
-            yield Entry(number, int(moment), what, fields)
+            if max(map(len, fields), default=0) > LONGEST_FIELD:
+                raise ValueError
+            entry = Entry(number, int(moment), what, fields)
         except ValueError:
             raise NoJournal(f"the entry {number} of the period {part.period} can't be read") from None
+        yield entry

@@ -22,7 +22,7 @@ import time
 # Tests read this folder, so nothing is left in it.
 sys.dont_write_bytecode = True
 
-from command_line import NoOutput, NotUnderstood, Parser, write_out  # noqa: E402
+from command_line import NoOutput, NotUnderstood, Parser, tell_why, write_out  # noqa: E402
 from ilp_packets import BadPacket, Fulfill, Prepare, Reject, digest, preimage_of, read_packet  # noqa: E402
 
 FULFILLED, NOT_FULFILLED, NOT_UNDERSTOOD, NO_OUTPUT = 0, 1, 2, 3
@@ -113,7 +113,7 @@ def main(words: list[str]) -> int:
         write_out(f"{text}\n".encode())
         return status
     except (NotUnderstood, BadPacket, NoOutput) as fault:
-        print(f"prepare.py: {fault}", file=sys.stderr)
+        tell_why(f"prepare.py: {fault}")
         return NO_OUTPUT if isinstance(fault, NoOutput) else NOT_UNDERSTOOD
 
 

@@ -44,7 +44,7 @@ from pathlib import Path
 sys.dont_write_bytecode = True
 
 from amounts_and_times import decimal_of  # noqa: E402
-from command_line import NoOutput, NotUnderstood, Parser, write_out  # noqa: E402
+from command_line import NoOutput, NotUnderstood, Parser, tell_why, write_out  # noqa: E402
 from statement_matching import DISPUTED, GROUPS, OPEN, Comparison, Item, Match, compare  # noqa: E402
 from statement_reading import read_statement  # noqa: E402
 from statement_rows import PACKETS, Edge, NoStatement, Statement, order_of  # noqa: E402
@@ -122,7 +122,7 @@ def main(words: list[str]) -> int:
         lines = lines_of(comparison, GROUPS if found.all else (OPEN, *DISPUTED))
         write_out("".join(f"{line}\n" for line in lines).encode())
     except (NotUnderstood, NoStatement, OSError, NoOutput) as why:
-        print(f"reconcile.py: {why}", file=sys.stderr)
+        tell_why(f"reconcile.py: {why}")
         return NO_OUTPUT if isinstance(why, NoOutput) else BAD_INPUT
     return AGREED if comparison.agrees else DIFFERED
 

@@ -549,6 +549,18 @@ def differs_in() -> list[str]:
     return differs
 
 
+def tell_why(line: str) -> None:
+    """A line on standard error. Where that fails, the exit status is all that tells."""
+    if sys.stderr is None:
+        return
+    try:
+        print(line, file=sys.stderr, flush=True)
+    except OSError:
+        # Else what is left would be tried once more at the program's end, which has another status then.
+        with contextlib.suppress(OSError):
+            sys.stderr.close()
+
+
 def main() -> int:
     parser = argparse.ArgumentParser(description="Turns the connector's report into metrics.")
     parser.add_argument("report", nargs="?", type=Path, help="the report; standard input if left out")
@@ -563,7 +575,7 @@ def main() -> int:
     try:
         run(given.report, given.output, given.lines)
     except (NoReport, OSError, NoOutput) as why:
-        print(f"report_metrics: {why}", file=sys.stderr)
+        tell_why(f"report_metrics: {why}")
         return 3 if isinstance(why, NoOutput) else 1
     return 0
 

@@ -34,7 +34,7 @@ sys.dont_write_bytecode = True
 
 from amounts_and_times import shown, time_of  # noqa: E402
 from charts import Chart, Columns, drawing_of  # noqa: E402
-from command_line import NoOutput, NotUnderstood, Parser, write_out  # noqa: E402
+from command_line import NoOutput, NotUnderstood, Parser, tell_why, write_out  # noqa: E402
 from journal_figures import FULFILLED, HOUR, PACKETS, Figures  # noqa: E402
 from journal_reading import NoJournal, parts_of  # noqa: E402
 from markup import element, escaped  # noqa: E402
@@ -245,7 +245,7 @@ def main(words: list[str]) -> int:
         found = parser.parse_args(words)
         write_out(make_page(found.config, found.journal).encode("ascii", "xmlcharrefreplace"))
     except (NotUnderstood, NoConfiguration, NoJournal, OSError, NoOutput) as why:
-        print(f"report_page.py: {why}", file=sys.stderr)
+        tell_why(f"report_page.py: {why}")
         return NO_OUTPUT if isinstance(why, NoOutput) else BAD_INPUT
     return DONE
 
