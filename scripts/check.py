@@ -14,6 +14,7 @@ understood. Without names all cases are played, which takes some ten minutes. It
 a C compiler, and shares nothing with the crates.
 """
 import signal
+import subprocess
 import sys
 import time
 from pathlib import Path
@@ -49,6 +50,8 @@ def play(binary: Path, case: Case) -> tuple[str | None, list[str]]:
         except (Differs, OSError) as differs:
             what = str(differs) if isinstance(differs, Differs) else f"a connection: {differs!r}"
             return what, laboratory.told()
+        except subprocess.TimeoutExpired as late:
+            return str(late), laboratory.told()
         finally:
             signal.alarm(0)
 

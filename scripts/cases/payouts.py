@@ -166,6 +166,27 @@ def refused_settlement_that_waited(laboratory: Laboratory) -> None:
 
 
 @case
+def rest_over_periods(laboratory: Laboratory) -> None:
+    """A rest behind a refusal goes on over periods, here over reloads, for as long as the line says, and the one behind
+    the next refusal is twice as long."""
+    engines = Engines(laboratory)
+    engines.bob.behaviour = engine_of(in_turn(status(400), status(400), ACCEPTS))
+    program = engines.serve()
+    give(program, 1000)
+    for count, rest in ((1, FIRST_PAUSE), (2, 2 * FIRST_PAUSE)):
+        refused = engines.bob.await_count(SETTLEMENTS, count)[count - 1]
+        while len(engines.bob.of(SETTLEMENTS)) == count and seconds_since(refused.came) < rest + AT_ONCE:
+            expect_taken(program, engines.setup)
+        asked = engines.bob.await_count(SETTLEMENTS, count + 1)
+        expect_waited(asked[count], refused.came, rest, RELOADED)
+    program.await_told(r"warn settlement \d+ with bob of 800: refused .*the next one waits 2 seconds")
+    await_confirmed(program, "bob", 800)
+    post_close(program)
+    expect("the exit status", program.end(AT_ONCE), 0)
+    expect("the balances", report_of(program.output())[0][:2], [0, 200])
+
+
+@case
 def wait_over_periods(laboratory: Laboratory) -> None:
     """A wait goes on over periods, here over reloads that end each long before it is over. One that the next
     configuration alone has begins with that."""

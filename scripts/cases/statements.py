@@ -2,9 +2,11 @@
 and of a period, beside what scripts/statement.py reckons of the same files."""
 import os
 import re
+import shutil
 import subprocess
 import sys
 import time
+from dataclasses import replace
 from pathlib import Path
 
 from cases.case import case, expect, expect_that
@@ -20,6 +22,9 @@ TOP = Path(__file__).resolve().parent.parent.parent
 
 # A day before each entry of a test, and one behind them.
 BEFORE, BEHIND = "2020-01-01", "2999-01-01T00:00:00Z"
+
+OTHER_RUN = ('the journal was last begun with another `run`, or another asset of "bob": keys and amounts are shown as this '
+             "configuration has them\n")
 
 NO_TIME = '"{}" is no time: 2026-11-26 is one, and 2026-11-26T20:00:00Z\n'
 
@@ -180,6 +185,72 @@ def expect_reconciled(program: Program, kept: Kept, words: tuple[str, ...], says
     done = subprocess.run(command, capture_output=True, timeout=20.0)
     expect(f"what is said of {words}", (done.returncode, done.stdout.decode().splitlines()[-1:], done.stderr),
            (0, [says], b""))
+
+
+@case
+def statement_by_another_run(laboratory: Laboratory) -> None:
+    """Keys and amounts are those of the configuration. Where the journal was last begun with another run a line says
+    so, of one in use too, and of a period that is kept none does."""
+    kept = Kept(laboratory)
+    program = kept.serve()
+    other = kept.laboratory.folder() / "other.toml"
+    other.write_text(replace(kept.setup, top={"run": "r2"}).text())
+    expect("a credit", credit(program, 7), created(quantity(7, 2)))
+    expect_told(program, other, kept.path, OTHER_RUN)
+    close(program, bob=7)
+    expect_told(program, other, kept.path, OTHER_RUN)
+    expect_told(program, program.configuration, kept.path, "")
+    expect_told(program, other, Path(shutil.copy(kept.path, kept.laboratory.folder() / "journal.0")), "")
+
+
+def expect_told(program: Program, config: Path, journal: Path, line: str) -> None:
+    """What a statement of bob's tells beside its rows."""
+    command = [str(program.binary), "statement", str(config), str(journal), "bob"]
+    done = subprocess.run(command, capture_output=True, text=True, timeout=10.0)
+    expect(f"what is told by {config.name} of {journal.name}", (done.returncode, done.stderr), (0, line))
+
+
+@case
+def statement_of_a_peer_that_is_named_as_an_option(laboratory: Laboratory) -> None:
+    """Behind `--` no word is an option. A first `-` of a name is escaped, so that none reads as nothing."""
+    kept = Kept(laboratory)
+    program = kept.serve()
+    close(program)
+    program.configuration.write_text(kept.setup.text().replace('"bob"', '"--csv"'))
+    expect("the status without it", state(program, kept.path, "--csv").returncode, 2)
+    for words in ((kept.path, "--", "--csv"), ("--", kept.path, "--csv")):
+        done = state(program, *words)
+        expect("the status, and what is told", (done.returncode, done.stderr), (0, b""))
+        expect("the first words", done.stdout.split()[:3], [b"statement", rb"\x2d-csv", b"USD/2"])
+    first = state(program, "--csv", "--", kept.path, "--csv").stdout.splitlines()[1]
+    expect("the first fields", first.split(b",")[:4], [b"r1", b"0", rb"\x2d-csv", b"USD/2"])
+
+
+@case
+def statement_of_pipes(laboratory: Laboratory) -> None:
+    """A named pipe in place of a file that is read, or behind a link to it, is refused, and not waited for."""
+    kept = Kept(laboratory)
+    program = kept.serve()
+    expect("a credit", credit(program, 7), created(quantity(7, 2)))
+    close(program, bob=7)
+    pipe = kept.folder / "pipe"
+    os.mkfifo(pipe)
+    for path in (kept.beside("log"), kept.beside("lock"), kept.beside("ended"), kept.path):
+        path.unlink(missing_ok=True)
+        os.mkfifo(path)
+        expect_unread(program, kept.path, path)
+        path.unlink()
+        path.symlink_to(pipe)
+        expect_unread(program, kept.path, path)
+        path.unlink()
+
+
+def expect_unread(program: Program, journal: Path, path: Path) -> None:
+    """No statement is printed of a journal, since a pipe lies at this path."""
+    done = state(program, journal, "bob")
+    expect(f"what is printed with a pipe at {path.name}", (done.returncode, done.stdout), (1, b"refused 73 JournalUnread\n"))
+    told = f'error can\'t use "{path}": it is a named pipe: move it away\n'
+    expect_that(f"it tells of no pipe: {done.stderr!r}", done.stderr.decode().endswith(told))
 
 
 @case

@@ -148,6 +148,8 @@ def try_configurations() -> None:
             whole = CONFIGURATION.replace(f"[[{table}]]", "[[other]]")
             expect_refused(f"{table} = {value}\n{whole}", FIRST, none)
     expect_that("a level of a peer can't be the least", text_of(f"{peer}{-2**63}\n", journal=FIRST))
+    expect_that("a mark of the order of octets is no configuration",
+                text_of(f"\ufeff{CONFIGURATION}", journal=FIRST) == text_of(CONFIGURATION, journal=FIRST))
 
 
 def try_places() -> None:

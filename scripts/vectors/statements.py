@@ -166,7 +166,8 @@ def statement(book, asked):
         balances[number + 1] = balance
     at = lambda given: "" if given is None else moment(given)
     opening, closing = amount(balances[first], scale), amount(balances[behind], scale)
-    print(f"statement {peer} {asset} run {book.run} period {book.period} from {at(since) or '-'} to {at(until) or '-'}")
+    names = f"statement {name_text(peer)} {asset} run {name_text(book.run)}"
+    print(f"{names} period {book.period} from {at(since) or '-'} to {at(until) or '-'}")
     print(f"opening {first} {opening}")
     for row in shown:
         print(" ".join(field or "-" for field in fields(row, scale, False)))
@@ -179,14 +180,14 @@ def statement(book, asked):
     record(account + [at(since), str(first), "opening", "", "", "", "", opening, "", "", "", ""])
     for row in shown:
         time, number, kind, other, units, rise, fall, left, ends, condition, key, cause = fields(row, scale, True)
-        record(account + [time, number, kind, name_text(other), units, rise, fall, left, ends, cause, condition, key])
+        record(account + [time, number, kind, other, units, rise, fall, left, ends, cause, condition, key])
     record(account + [at(until), str(behind), "closing", "", "", "", "", closing, "", "", "", ""])
 
 
 def fields(row, scale, with_spaces):
     moved = lambda units: amount(units, scale) if units else ""
     return [
-        moment(row["moment"]), str(row["number"]), row["kind"], row["other"] or "",
+        moment(row["moment"]), str(row["number"]), row["kind"], name_text(row["other"] or ""),
         amount(row["amount"], scale), moved(row["rise"]), moved(row["fall"]), amount(row["balance"], scale),
         "" if row["ends"] is None else str(row["ends"]), row["condition"] or "",
         octets_text(row["key"] or b"", with_spaces), row["cause"] or octets_text(row["reason"] or b"", with_spaces),

@@ -9,18 +9,20 @@ use std::rt::{Files, Runtime};
 const PLACES: usize = 5;
 
 /// What these words ask of a peer's account; none where they are no such inquiry. Options stand anywhere among
-/// them, and one that is given again counts as it was given last.
+/// them but behind `--`, and one that is given again counts as it was given last.
 pub(crate) fn inquiry_of(words: &[String]) -> Option<Inquiry<'_>> {
     let mut places = [None; PLACES];
     let mut packet = None;
     let mut key = None;
     let mut form = Form::Lines;
+    let mut has_options = true;
     let mut words = words.iter();
     while let Some(word) = words.next() {
         match word.as_str() {
-            "--csv" => form = Form::Records,
-            "--packet" => packet = Some(words.next()?.as_bytes()),
-            "--key" => key = Some(words.next()?.as_bytes()),
+            "--" if has_options => has_options = false,
+            "--csv" if has_options => form = Form::Records,
+            "--packet" if has_options => packet = Some(words.next()?.as_bytes()),
+            "--key" if has_options => key = Some(words.next()?.as_bytes()),
             word => take(&mut places, word)?,
         }
     }

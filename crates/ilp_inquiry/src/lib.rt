@@ -6,7 +6,12 @@
 //!
 //! # What is proved
 //!
-//! All is proved safe, and no more: what a statement has is promised by `ilp_statement`.
+//! - Of private functions: which peer a name means, of which entries a statement is by two moments, and what a
+//!   condition may begin with (`specs/Asked.antt`). Where a time or a condition is refused, that is `Misused`; where a
+//!   name is, `Misused` or lack of memory.
+//! - Why a statement was not written whole is told as it is: lack of memory, or standard output that failed
+//!   (`specs/Faults.antt`).
+//! - All else is proved safe, and no more: what a statement has is promised by `ilp_statement`.
 #![tactic(auto)]
 
 mod fault;

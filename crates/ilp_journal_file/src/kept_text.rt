@@ -52,7 +52,18 @@ fn period_at<R: Files>(rt: &R, path: &str) -> Option<u32> {
     }
     let mut file = fs::open(rt, path).ok()?;
     let mut room = [0u8; FIRST_LINE];
-    let count = file.read(&mut room).ok()?;
-    let text = JournalText::begin(&room[..count]).ok()?;
+    let text = JournalText::begin(front_of(&mut file, &mut room)?).ok()?;
     Some(text.period())
+}
+
+// What comes first in a file, as far as there is room for it. A read may bring less, so it is read on.
+fn front_of<'r, F: Read>(file: &mut F, room: &'r mut [u8; FIRST_LINE]) -> Option<&'r [u8]> {
+    let mut count = 0;
+    for _ in 0..FIRST_LINE {
+        match file.read(&mut room[count..]).ok()? {
+            0 => break,
+            more => count += more,
+        }
+    }
+    Some(&room[..count])
 }

@@ -2,6 +2,7 @@
 
 use crate::fault::FileFault;
 use crate::noting::Noting;
+use crate::standing::expect_no_pipe;
 use crate::taking::JournalFile;
 use ilp_io::{ReadFault, read_to_limit};
 use ilp_notices::{journal_too_long, journal_unread};
@@ -53,13 +54,14 @@ where
     }
 }
 
-/// The text at this path, or nothing where there is no file.
+/// The text at this path, or nothing where there is no file. A named pipe is not waited for.
 ///
 /// Refusals: those of `JournalFile::read`.
 pub(crate) fn read<R>(rt: &R, alloc: Global, path: &str) -> Result<Option<Vec<u8>>, FileFault>
 where
     R: Files + Clock + Eprint,
 {
+    expect_no_pipe(rt, path)?;
     let file = match fs::open(rt, path) {
         Ok(file) => file,
         Err(error) if error.kind() == ErrorKind::NotFound => return Ok(None),

@@ -4,6 +4,7 @@ use crate::fault::FileFault;
 use crate::limited::Limited;
 use crate::names::Names;
 use crate::noting::Noting;
+use crate::standing::expect_no_pipe;
 use crate::taking::JournalFile;
 use ilp_io::{ReadFault, WriteFault, put_all, read_to_limit};
 use ilp_notices::{journal_unread, not_made};
@@ -57,6 +58,7 @@ impl Names {
         R: Files + Clock + Eprint,
     {
         let path = self.lock.as_str();
+        expect_no_pipe(rt, path)?;
         let file = match fs::open(rt, path) {
             Ok(file) => file,
             Err(error) if error.kind() == ErrorKind::NotFound => return Ok(Vec::new(alloc)),

@@ -91,6 +91,22 @@ pub(crate) fn expect_plain<R: Files + Clock + Eprint>(rt: &R, path: &str) -> Res
     }
 }
 
+/// Finds no named pipe at the path, nor behind a link there.
+///
+/// It is refused as `Unread`.
+pub(crate) fn expect_no_pipe<R>(rt: &R, path: &str) -> Result<(), FileFault>
+where
+    R: Files + Clock + Eprint,
+{
+    match fs::metadata(rt, path) {
+        Ok(metadata) if metadata.file_type().is_fifo() => {
+            journal_unfit(rt, path, Unfit::Pipe);
+            Err(FileFault::Unread)
+        }
+        _ => Ok(()),
+    }
+}
+
 // What is in the way of what stands there, as the system tells it.
 fn why_unfit(metadata: &Metadata) -> Option<Unfit> {
     let kind = metadata.file_type();

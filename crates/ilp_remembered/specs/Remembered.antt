@@ -1,5 +1,5 @@
 -- What is kept beside a journal of the configuration by which it was run: the run, and the asset of each peer.
-use Rattle.std.specs.Prelude.{◌≡◌, ◌≢◌, ◌⊎◌, ◌<◌, ℕ, pos, Bool, true, false, not, ◌==◌, ◌&&◌, List, ◌++◌, length, codes, Option, Some, None, slice_get, unwrap_or, bytes_eq, nat_eq}
+use Rattle.std.specs.Prelude.{◌≡◌, ◌≢◌, ◌⊎◌, ◌<◌, ℕ, pos, Bool, true, false, not, ◌==◌, ◌&&◌, ◌||◌, List, ◌++◌, length, codes, Option, Some, None, slice_get, unwrap_or, bytes_eq, nat_eq}
 use Rattle.std.specs.List.{find, flat_map, slice_split, starts_with, ends_with}
 use Rattle.std.specs.Fmt.{decimal}
 use Rattle.ilp_assets.specs.Assets.{PlainAsset, no_asset}
@@ -73,6 +73,10 @@ has_other_run C text = is_other (run_line C.settings.run) (told_line text run_fr
 
 abbrev pub has_other_asset : Configuration → List ℕ → ℕ → Bool
 has_other_asset C text peer = is_other (peer_line (peer_at C peer).name (asset_of C (peer_at C peer))) (told_line text (peer_front (peer_at C peer).name))
+
+-- whether a text that is whole names another run, or another asset of the peer
+abbrev pub is_of_another : Configuration → List ℕ → ℕ → Bool
+is_of_another C text peer = is_whole text && (has_other_run C text || has_other_asset C text peer)
 
 -- ---- what a change would make false
 

@@ -1,7 +1,7 @@
 //! What a start would change of what is remembered.
 ghost use Rattle.std.specs.Prelude.{◌≡◌, ◌<◌, length, IfOk};
 ghost use Rattle.ilp_remembered.specs.Remembered as remembered;
-ghost use Rattle.ilp_remembered.specs.Remembered.{FindsChange, FindsRun, FirstOf, IsChanged};
+ghost use Rattle.ilp_remembered.specs.Remembered.{FindsChange, FindsRun, FirstOf, IsChanged, is_of_another};
 
 use crate::hanging::{is_counted, is_unsettled};
 use crate::lines::{is_other, is_whole};
@@ -38,6 +38,25 @@ pub fn change_of(alloc: Global, book: &Book, text: &[u8]) -> Result<Option<Chang
             None => Ok(None),
         },
     }
+}
+
+/// Whether a text that is whole names another run than this configuration, or another asset of the peer, be it that
+/// nothing hangs on them: keys and amounts would be told otherwise.
+///
+/// It is refused where memory is short alone.
+pub fn is_of_another(
+    alloc: Global,
+    config: &Config,
+    text: &[u8],
+    peer: u32,
+) -> Result<bool, AllocError>
+    requires { peer < length config.now.peers }
+    ensures { IfOk result (λ other. other ≡ is_of_another config.now text.now peer) }
+{
+    Ok(
+        is_whole(text)
+            && (has_other_run(alloc, config, text)? || has_other_asset(alloc, config, text, peer)?),
+    )
 }
 
 // The first peer with which a settlement is open, where a text names another run.

@@ -9,6 +9,7 @@
 //! - `change_of` finds, of a text that is whole, another run where a settlement is open, or a peer with
 //!   another asset where something is counted in it; and it finds nothing only where there is neither
 //!   (`FindsChange`).
+//! - `is_of_another`: whether a text that is whole names another run, or another asset of a peer.
 #![tactic(auto)]
 
 mod change;
@@ -16,5 +17,5 @@ mod hanging;
 mod lines;
 mod text;
 
-pub use change::{Change, change_of};
+pub use change::{Change, change_of, is_of_another};
 pub use text::{peer_line, remembered_text, run_line};

@@ -1,2 +1,3 @@
 pub mod Pauses
+pub mod Rests
 pub mod Waiting

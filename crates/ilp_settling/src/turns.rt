@@ -63,29 +63,31 @@ impl<J: Naming, C: Clock + Drop, K: Keeper<J> + Drop> Turns<J, C, K> {
         due
     }
 
-    /// Has the waits of peers go on which the period before left: a period's end is none of theirs.
+    /// Has the turns go on which the period before left: its end is none of a wait, and none of a rest behind a refusal.
     pub(crate) fn take_over<R: Wait>(&mut self, shared: &Shared<'_, J, R>) {
         let config = shared.desk.config();
         for peer in 0..config.peers() {
-            if config.settle_after_ms(peer) == 0 {
-                continue;
-            }
-            if let Some(turns) = self.peers.get_mut(peer as usize) {
-                turns.reached = shared.payouts.reached(shared.rt, config.name(peer));
+            if let Some(turns) = self.peers.get_mut(peer as usize)
+                && let Some(left) = shared.payouts.left(shared.rt, config.name(peer))
+            {
+                turns.take_over(left, config.settle_after_ms(peer) > 0);
             }
         }
     }
 
-    /// Leaves the waits of peers to the next period.
+    /// Leaves the turns of peers to the next period.
     pub(crate) fn leave<R: Wait>(&self, shared: &Shared<'_, J, R>) {
         let config = shared.desk.config();
         let payouts = shared.payouts;
-        payouts.forget_reached(shared.rt);
+        payouts.forget_left(shared.rt);
         for peer in 0..config.peers() {
-            if let Some(turns) = self.peers.get(peer as usize)
-                && let Some(since) = turns.reached
-            {
-                payouts.leave_reached(shared.rt, config.allocator(), config.name(peer), since);
+            if let Some(turns) = self.peers.get(peer as usize) {
+                payouts.leave(
+                    shared.rt,
+                    config.allocator(),
+                    config.name(peer),
+                    turns.left(),
+                );
             }
         }
     }

@@ -36,7 +36,7 @@ pub use jobs::{Job, LOCAL_AT_ONCE};
 pub use keeping::{KeepingAsker, KeepingAsks, KeptJournal, keep_for_loops, keeping_pair};
 pub use moment::monotonic;
 pub use nobody::Nobody;
-pub use payouts::Payouts;
+pub use payouts::{LeftTurns, Payouts};
 pub use period_due::PeriodDue;
 pub use places::{HeldBack, Places};
 pub use reloading::{Configurations, NextConfig, Reloading};

@@ -1,4 +1,4 @@
-//! Whose payouts are paused, and since when those wait that do.
+//! Whose payouts are paused, and what a period leaves of the turns with settlement engines to the next one.
 ghost use Rattle.std.specs.Prelude.{◌≡◌, ◌++◌, ◌∷◌, [], ◌<◌, ◌≤◌, ℕ, pos, List, map, codes, length, replicate, OnOk, OnErr, IfOk, string_bytes, if◌then◌else◌};
 ghost use Rattle.ilp_report.specs.Report.{line};
 ghost use Rattle.ilp_shared.specs.Payouts.{is_among, without, peer_line, paused_lines};
@@ -12,31 +12,42 @@ use std::time::Duration;
 // How wide the report's column of names is.
 const NAME_WIDTH: usize = 20;
 
-/// The peers whose payouts are paused: their settlement engines are asked for no new settlement; and since when
-/// payouts wait, from one period to the next. It is by names, since a reload may change the places of peers.
-/// Threads share it by reference.
+/// The peers whose payouts are paused: their settlement engines are asked for no new settlement; and what is left of
+/// peers' turns from one period to the next. It is by names, since a reload may change the places of peers. Threads
+/// share it by reference.
 #[derive(Drop)]
 pub struct Payouts {
     // Whether somebody is named. It is written under the lock.
     has_any: AtomicBool,
     named: Mutex<Vec<String>>,
-    reached: Mutex<Vec<Reached>>,
+    left: Mutex<Vec<LeftOfPeer>>,
 }
 
-// Since when the balance of the peer of this name is seen at its threshold or above.
+/// What a period leaves of a peer's turns to the next one. Times are by the clock that never goes back.
+#[derive(Clone, Copy, Debug, PartialEq, Eq)]
+pub struct LeftTurns {
+    /// Since when the peer's balance is seen at its threshold or above, if it is.
+    pub reached: Option<Duration>,
+    /// How long the last pause was after a refusal, in milliseconds; 0 where none was since a settlement was accepted.
+    pub pause: u64,
+    /// Behind a pause, when the next turn begins.
+    pub until: Duration,
+}
+
+// What is left of the turns of the peer of this name.
 #[derive(Drop)]
-struct Reached {
+struct LeftOfPeer {
     name: String,
-    since: Duration,
+    turns: LeftTurns,
 }
 
 impl Payouts {
-    /// Nobody's are paused, and none wait.
+    /// Nobody's are paused, and no period was before.
     pub fn new(alloc: Global) -> Payouts {
         Payouts {
             has_any: AtomicBool::new(false),
             named: Mutex::new(Vec::new(alloc)),
-            reached: Mutex::new(Vec::new(alloc)),
+            left: Mutex::new(Vec::new(alloc)),
         }
     }
 
@@ -72,28 +83,25 @@ impl Payouts {
         lines_of(&[], config)
     }
 
-    /// Since when the balance of the peer of this name is seen at its threshold or above, by the clock that never
-    /// goes back, as the period before left it.
-    pub fn reached(&self, rt: &impl Wait, name: &str) -> Option<Duration> {
-        let reached = self.reached.lock(rt);
-        let found = reached
-            .iter()
-            .find(|of_peer| of_peer.name.as_str() == name)?;
-        Some(found.since)
+    /// What the period before left of the turns of the peer of this name.
+    pub fn left(&self, rt: &impl Wait, name: &str) -> Option<LeftTurns> {
+        let left = self.left.lock(rt);
+        let found = left.iter().find(|of_peer| of_peer.name.as_str() == name)?;
+        Some(found.turns)
     }
 
-    /// Leaves to the next period that the balance of the peer of this name is seen so since then. Where memory is
-    /// denied its payouts wait anew.
-    pub fn leave_reached(&self, rt: &impl Wait, alloc: Global, name: &str, since: Duration) {
-        let mut reached = self.reached.lock(rt);
+    /// Leaves the turns of the peer of this name to the next period. Where memory is denied they begin anew there: at
+    /// once, and its payouts wait anew.
+    pub fn leave(&self, rt: &impl Wait, alloc: Global, name: &str, turns: LeftTurns) {
+        let mut left = self.left.lock(rt);
         if let Ok(name) = String::from_str(alloc, name) {
-            let _ = reached.push(Reached { name, since });
+            let _ = left.push(LeftOfPeer { name, turns });
         }
     }
 
     /// Forgets what the period before left of all peers.
-    pub fn forget_reached(&self, rt: &impl Wait) {
-        self.reached.lock(rt).clear();
+    pub fn forget_left(&self, rt: &impl Wait) {
+        self.left.lock(rt).clear();
     }
 }
 

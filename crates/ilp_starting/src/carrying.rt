@@ -8,6 +8,7 @@ ghost use Rattle.ilp_refusals.specs.declared.refusal.Refusal.TheVariants as refu
 ghost use Rattle.ilp_starting.specs.Beginning.{BeginsBy, BeginsWith, BeginsWithLog, IsWhyNotBegun};
 ghost use Rattle.ilp_starting.specs.Beginning.{IsWhyNotBegunBy, IsWhyNotBegunWithLog};
 ghost use Rattle.ilp_starting.specs.Beginning.{IsWhyNotRecoveredBy, line_count};
+ghost use Rattle.ilp_starting.specs.Sources.{IsSource, IsSourceBeside, logged_by};
 
 use crate::not_carried::{bad_head, not_carried, not_recovered, of_another_text};
 use crate::refused::Refused;
@@ -58,6 +59,8 @@ pub fn book_of(
         (option_map (λ t. t.now) log.entry) r.refusal) }
     ensures config { IfOk result (λ c. c.book.config ≡ config.now) }
     ensures opening { IfOk result (λ c. length c.book.entries ≡ c.book.base) }
+    ensures source { IfOk result (λ c. IsSource (option_map (λ t. t.now) text.entry)
+        (option_map (λ t. t.now) log.entry) c.source) }
 {
     let Some(octets) = log else {
         return saved_book(alloc, config, path, text, now);
@@ -82,6 +85,7 @@ fn saved_book(
         r.refusal) }
     ensures config { IfOk result (λ c. c.book.config ≡ config.now) }
     ensures opening { IfOk result (λ c. length c.book.entries ≡ c.book.base) }
+    ensures source { IfOk result (λ c. c.source ≡ Source.Saved) }
 {
     if let Some(text) = text {
         return carried_book(alloc, config, path, text, Source::Saved, now);
@@ -110,6 +114,8 @@ fn logged_book(
         (option_map (λ t. t.now) text.entry) log.now r.refusal) }
     ensures config { IfOk result (λ c. c.book.config ≡ config.now) }
     ensures opening { IfOk result (λ c. length c.book.entries ≡ c.book.base) }
+    ensures source { IfOk result (λ c. IsSourceBeside (option_map (λ t. t.now) text.entry)
+        log.now c.source) }
 {
     match text {
         Some(text) => book_beside(alloc, config, path, text, log, now),
@@ -131,6 +137,7 @@ fn book_beside(
         (λ r. IsWhyNotBegunWithLog config.now (Some text.now) log.now r.refusal) }
     ensures config { IfOk result (λ c. c.book.config ≡ config.now) }
     ensures opening { IfOk result (λ c. length c.book.entries ≡ c.book.base) }
+    ensures source { IfOk result (λ c. IsSourceBeside (Some text.now) log.now c.source) }
 {
     if log.is_of(text) {
         recovered_book(alloc, config, path, text, log, now)
@@ -154,6 +161,7 @@ fn book_without(
         (λ r. IsWhyNotBegunWithLog config.now None log.now r.refusal) }
     ensures config { IfOk result (λ c. c.book.config ≡ config.now) }
     ensures opening { IfOk result (λ c. length c.book.entries ≡ c.book.base) }
+    ensures source { IfOk result (λ c. IsSourceBeside None log.now c.source) }
 {
     if log.is_of(&[]) {
         recovered_book(alloc, config, path, NO_ENTRIES, log, now)
@@ -176,6 +184,7 @@ fn carried_book(
         (λ r. IsWhyNotBegun config.now (Some text.now) r.refusal) }
     ensures config { IfOk result (λ c. c.book.config ≡ config.now) }
     ensures opening { IfOk result (λ c. length c.book.entries ≡ c.book.base) }
+    ensures source { IfOk result (λ c. c.source ≡ source) }
 {
     match Book::carry_over(alloc, config, text, now) {
         Ok(book) => Ok(Carried { book, source }),
@@ -198,6 +207,7 @@ fn recovered_book(
         (λ r. IsWhyNotRecoveredBy config.now saved.now (text_of log.now.lines) r.refusal) }
     ensures config { IfOk result (λ c. c.book.config ≡ config.now) }
     ensures opening { IfOk result (λ c. length c.book.entries ≡ c.book.base) }
+    ensures source { IfOk result (λ c. c.source ≡ logged_by log.now) }
 {
     match Book::recover(alloc, config, saved, log.lines(), now) {
         Ok(book) => {

@@ -1,6 +1,8 @@
 //! A period that ended while a connector ran: its log was set aside, and its text may not be kept yet.
-ghost use Rattle.std.specs.Prelude.{◌≡◌, option_map, IfOk};
-ghost use Rattle.ilp_starting.specs.Beginning.{GoesOn};
+ghost use Rattle.std.specs.Prelude.{◌≡◌, ◌↔◌, [], option_map, IfOk, IsSomeAnd, IsTrue};
+ghost use Rattle.ilp_log_text.specs.Text.{IsIn};
+ghost use Rattle.ilp_starting.specs.Beginning.{GoesOn, text_or_nothing};
+ghost use Rattle.ilp_starting.specs.Ended.{IsOver, IsPeriodOf};
 ghost use Rattle.ilp_starting.specs.declared.ended.Aside.TheVariants as asides;
 
 use crate::finding::octets_of;
@@ -52,7 +54,7 @@ where
             let Some(whole) = WholePeriod::of(alloc, text, &log)? else {
                 return Err(ended_of_another_text(alloc, path));
             };
-            keep_whole(rt, file, period_of(text), &whole)?;
+            keep_whole(rt, file, period_of(or_nothing(text)), &whole)?;
         }
         Aside::InForce => file.take_back(rt)?,
         Aside::Over => file.remove_ended(rt)?,
@@ -89,7 +91,7 @@ where
     R: AllocGlobal + Files + Clock + Eprint,
 {
     match file.read_next(rt, rt.alloc())? {
-        Some(text) if period_of(Some(text.as_slice())) > period => file.forget_next(rt),
+        Some(text) if period_of(text.as_slice()) > period => file.forget_next(rt),
         _ => Ok(()),
     }
 }
@@ -122,20 +124,34 @@ where
         → GoesOn log.now (option_map (λ t. t.now) text.entry)) }
     ensures in_force { IfOk result (λ aside. aside ≡ asides.InForce
         → GoesOn log.now (option_map (λ t. t.now) text.entry)) }
+    ensures over { IfOk result (λ aside. aside ≡ asides.Over
+        → IsOver log.now (option_map (λ t. t.now) text.entry)) }
 {
-    let octets = text.unwrap_or(&[]);
+    let octets = or_nothing(text);
     if log.is_of(octets) {
         return beside_own_text(rt, file, log);
     }
     if log.is_in(octets) {
         return Ok(Aside::Over);
     }
-    let Some(before) = period_of(text).checked_sub(1) else {
+    let Some(before) = period_of(octets).checked_sub(1) else {
         return Ok(Aside::Strange);
     };
-    match file.read_period(rt, rt.alloc(), before)? {
-        Some(kept) if log.is_in(&kept) => Ok(Aside::Over),
-        _ => Ok(Aside::Strange),
+    let kept = file.read_period(rt, rt.alloc(), before)?;
+    if is_kept_in(octets_of(&kept), log) {
+        Ok(Aside::Over)
+    } else {
+        Ok(Aside::Strange)
+    }
+}
+
+// Whether a text is kept, and has all that the log has.
+fn is_kept_in(kept: Option<&[u8]>, log: &LogText<'_>) -> bool
+    ensures { IsTrue result ↔ IsSomeAnd kept.entry (λ text. IsIn log.now text.now) }
+{
+    match kept {
+        Some(text) => log.is_in(text),
+        None => false,
     }
 }
 
@@ -147,6 +163,7 @@ fn beside_own_text<R, F>(
 ) -> Result<Aside, FileFault>
 where
     R: AllocGlobal + Files + Clock + Eprint,
+    ensures over { IfOk result (λ aside. aside ≡ asides.Over → log.now.lines ≡ []) }
 {
     let alloc = rt.alloc();
     if file.read_next(rt, alloc)?.is_some() {
@@ -161,9 +178,18 @@ where
     }
 }
 
+// The octets of a text, and none where there is no text.
+fn or_nothing(text: Option<&[u8]>) -> &[u8]
+    ensures { result.now ≡ text_or_nothing (option_map (λ t. t.now) text.entry) }
+{
+    text.unwrap_or(&[])
+}
+
 // The number of the period that a text is of, or that of the first one.
-fn period_of(text: Option<&[u8]>) -> u32 {
-    match JournalText::begin(text.unwrap_or(&[])) {
+fn period_of(text: &[u8]) -> u32
+    ensures { IsPeriodOf text.now result }
+{
+    match JournalText::begin(text) {
         Ok(text) => text.period(),
         Err(_) => 0,
     }

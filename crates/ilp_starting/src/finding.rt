@@ -1,5 +1,9 @@
 //! The book of what a start finds.
-ghost use Rattle.std.specs.Prelude.{◌≡◌, length, IfOk};
+ghost use Rattle.std.specs.Prelude.{◌≡◌, length, option_map, IfErr, IfOk, OnOk};
+ghost use Rattle.ilp_starting.specs.Finding.{BeginsOnce, IsWhyNotFound};
+ghost use Rattle.ilp_starting.specs.Remembering.{IsRemembered, IsRememberedBy, IsWhyNotKept};
+ghost use Rattle.ilp_starting.specs.Remembering.{KeepsRemembered};
+ghost use Rattle.ilp_starting.specs.Sources.{IsSource};
 
 use crate::carrying::{Carried, Source, book_of};
 use crate::ended::{Aside, aside_of};
@@ -69,6 +73,15 @@ where
     R: AllocGlobal + time::Clock + Eprint + Copy,
     ensures config { IfOk result (λ c. c.book.config ≡ config.now) }
     ensures opening { IfOk result (λ c. length c.book.entries ≡ c.book.base) }
+    ensures unchanged { IfOk result (λ c. KeepsRemembered c.book.config c.book.entries c.source
+        (option_map (λ t. t.items) found.now.log) found.now.remembered.items) }
+    ensures begins { IfOk result (λ c. BeginsOnce config.now
+        (option_map (λ t. t.items) found.now.text) (option_map (λ t. t.items) found.now.log) c.book) }
+    ensures source { IfOk result (λ c. IsSource (option_map (λ t. t.items) found.now.text)
+        (option_map (λ t. t.items) found.now.log) c.source) }
+    ensures refused { IfErr result (λ r. IsWhyNotFound config.now
+        (option_map (λ t. t.items) found.now.text) (option_map (λ t. t.items) found.now.log)
+        found.now.remembered.items r.refusal) }
 {
     let now = SystemClock::new(*rt).now();
     let (text, log) = (octets_of(&found.text), octets_of(&found.log));
@@ -83,25 +96,52 @@ where
 fn expect_remembered<R>(rt: &R, path: &str, carried: &Carried, found: &Found) -> Result<(), Refused>
 where
     R: AllocGlobal + time::Clock + Eprint,
+    ensures ok { OnOk result (KeepsRemembered carried.now.book.config carried.now.book.entries
+        carried.now.source (option_map (λ t. t.items) found.now.log) found.now.remembered.items) }
+    ensures err { IfErr result (λ r. IsWhyNotKept carried.now.book.config carried.now.book.entries
+        carried.now.source (option_map (λ t. t.items) found.now.log) found.now.remembered.items
+        r.refusal) }
 {
     let remembered = remembered_of(rt.alloc(), found, carried.source)?;
     expect_unchanged(rt, path, &carried.book, &remembered)
 }
 
 /// The octets of what was found.
-pub(crate) fn octets_of(text: &Option<Vec<u8>>) -> Option<&[u8]> {
+pub(crate) fn octets_of(text: &Option<Vec<u8>>) -> Option<&[u8]>
+    ensures { option_map (λ t. t.now) result ≡ option_map (λ t. t.items) text.now }
+{
     match text {
         Some(octets) => Some(octets.as_slice()),
         None => None,
     }
 }
 
-// What is remembered of the run whose entries these are: behind a sudden stop the log says it.
-fn remembered_of(alloc: Global, found: &Found, source: Source) -> Result<Vec<u8>, AllocError> {
-    if let (Source::Logged { .. }, Some(octets)) = (source, &found.log) {
-        if let Ok(log) = LogText::read(octets) {
-            return remembered_in(alloc, log.remembered());
-        }
+/// What is remembered of the run whose entries these are: behind a sudden stop the log says it.
+pub(crate) fn remembered_of(
+    alloc: Global,
+    found: &Found,
+    source: Source,
+) -> Result<Vec<u8>, AllocError>
+    ensures { IfOk result (λ text. IsRemembered source (option_map (λ t. t.items) found.now.log)
+        found.now.remembered.items text.items) }
+{
+    match source {
+        Source::Saved => Vec::from_slice(alloc, &found.remembered),
+        Source::OlderLog => Vec::from_slice(alloc, &found.remembered),
+        Source::Logged { .. } => remembered_by(alloc, octets_of(&found.log), &found.remembered),
     }
-    Vec::from_slice(alloc, &found.remembered)
+}
+
+// What the head of a log says, and what is kept where there is none that can be read.
+fn remembered_by(alloc: Global, log: Option<&[u8]>, kept: &[u8]) -> Result<Vec<u8>, AllocError>
+    ensures { IfOk result (λ text. IsRememberedBy (option_map (λ t. t.now) log.entry) kept.now
+        text.items) }
+{
+    let Some(octets) = log else {
+        return Vec::from_slice(alloc, kept);
+    };
+    match LogText::read(octets) {
+        Ok(log) => remembered_in(alloc, log.remembered()),
+        Err(_) => Vec::from_slice(alloc, kept),
+    }
 }

@@ -10,12 +10,20 @@
 //!   the one as which that text is carried over at a time. Behind a text that a log beside it goes on
 //!   from, the log's lines are recovered with it; a log of another text is passed over only where the
 //!   journal has all that it has. Where it is refused, the refusal names why
-//!   (`specs/Beginning.antt`, `BeginsBy`, `IsWhyNotBegunBy`).
+//!   (`specs/Beginning.antt`, `BeginsBy`, `IsWhyNotBegunBy`). It tells where the entries come from
+//!   (`specs/Sources.antt`).
+//! - Of the private `found_book`: of what is found it is the book of `book_of` at some time, and none is taken by
+//!   another run or asset than is remembered, as far as something hangs on them; behind a sudden stop the log's head
+//!   says what is (`specs/Finding.antt`, `specs/Remembering.antt`). That all is found which the files have, no clause
+//!   says.
 //! - The text that `keep_ended` keeps of a period has the journal's entries and behind them the log's lines
 //!   (`specs/Ended.antt`, `IsWholeText`), of a log that goes on from that text. By `whole_text` it is the text of all
-//!   these entries. `Saved`, as which `keep_set_aside` writes a period, puts the text of its book.
+//!   these entries. `Saved`, as which `keep_set_aside` writes a period, puts the text of its book. A log that was set
+//!   aside is over only where the journal's text has what it has, a text of an earlier period does, or it has nothing
+//!   (`IsOver`); which file that text is of, no clause says.
 //! - `config_of`: the configuration of the octets, or the refusal by their first fault or for want of
 //!   memory (`specs/Configuring.antt`).
+//! - Of private functions: how many entries of a written book stand in the files.
 //! - All else is proved safe, and no more.
 #![tactic(auto)]
 

@@ -1,4 +1,6 @@
 //! What a journal remembers of the configuration by which it was last run.
+ghost use Rattle.std.specs.Prelude.{IfErr, OnOk};
+ghost use Rattle.ilp_starting.specs.Remembering.{IsUnchanged, IsWhyNotUnchanged};
 
 use crate::refused::Refused;
 use ilp_book::Book;
@@ -21,11 +23,16 @@ pub(crate) fn expect_unchanged<R>(
 ) -> Result<(), Refused>
 where
     R: AllocGlobal + Clock + Eprint,
+    ensures ok { OnOk result (IsUnchanged book.now.config book.now.entries text.now) }
+    ensures err { IfErr result
+        (λ r. IsWhyNotUnchanged book.now.config book.now.entries text.now r.refusal) }
 {
-    match change_of(rt.alloc(), book, text)? {
-        None => return Ok(()),
-        Some(Change::Run { peer }) => journal_of_another_run(rt, path, book.config(), peer),
-        Some(Change::Asset { peer }) => journal_of_another_asset(rt, path, book.config(), peer),
+    let Some(change) = change_of(rt.alloc(), book, text)? else {
+        return Ok(());
+    };
+    match change {
+        Change::Run { peer } => journal_of_another_run(rt, path, book.config(), peer),
+        Change::Asset { peer } => journal_of_another_asset(rt, path, book.config(), peer),
     }
     Err(Refused::from(Refusal::JournalUnread))
 }

@@ -1,8 +1,9 @@
 //! The book of a journal that is only looked at, though a connector may have it.
-ghost use Rattle.std.specs.Prelude.{◌≡◌, ◌≤◌, length, IfOk};
+ghost use Rattle.std.specs.Prelude.{◌≡◌, ◌≤◌, length, min, option_map, IfOk};
+ghost use Rattle.ilp_starting.specs.Sources.{entries_in, written_by};
 
 use crate::carrying::{Carried, Source, line_count};
-use crate::finding::{behind_ended, found_book, octets_of};
+use crate::finding::{behind_ended, found_book, octets_of, remembered_of};
 use crate::refused::Refused;
 use ilp_accounts::Config;
 use ilp_book::Book;
@@ -26,6 +27,8 @@ pub struct WrittenBook {
     /// How many of its entries stand in the files. Those behind them are the ends that a start would book now of the
     /// holds that are open.
     pub written: u32,
+    /// What is remembered of the configuration by which it was last begun.
+    pub remembered: Vec<u8>,
 }
 
 /// The book of what stands in the files of the journal at this path, which a connector may have, or in the file of a
@@ -45,23 +48,36 @@ where
         return Err(Refused::from(Refusal::JournalUnread));
     }
     match found_book(rt, config, path, &found) {
-        Ok(carried) => Ok(written_book(carried, &found)),
+        Ok(carried) => {
+            let remembered = remembered_of(rt.alloc(), &found, carried.source)?;
+            Ok(written_book(carried, &found, remembered))
+        }
         Err(refused) => Err(refused),
     }
 }
 
 // The book that was carried over from what was found.
-fn written_book(carried: Carried, found: &Found) -> WrittenBook
+fn written_book(carried: Carried, found: &Found, remembered: Vec<u8>) -> WrittenBook
     ensures config { result.book ≡ carried.book }
     ensures within { result.written ≤ length result.book.entries }
+    ensures written { result.written
+        ≡ min (written_by carried.source (option_map (λ t. t.items) found.now.text))
+        (length carried.book.entries) }
+    ensures remembered { result.remembered.items ≡ remembered.items }
 {
     let Carried { book, source } = carried;
     let written = written_entries(found, source).min(book.len());
-    WrittenBook { book, written }
+    WrittenBook {
+        book,
+        written,
+        remembered,
+    }
 }
 
 // How many entries stand in the files.
-fn written_entries(found: &Found, source: Source) -> u32 {
+fn written_entries(found: &Found, source: Source) -> u32
+    ensures { result ≡ written_by source (option_map (λ t. t.items) found.now.text) }
+{
     match source {
         Source::Logged { saved, logged } => saved.saturating_add(logged),
         Source::Saved | Source::OlderLog => entries_of(octets_of(&found.text).unwrap_or(&[])),
@@ -69,7 +85,9 @@ fn written_entries(found: &Found, source: Source) -> u32 {
 }
 
 // How many entries a journal's text has, beside its first line and its last.
-fn entries_of(text: &[u8]) -> u32 {
+fn entries_of(text: &[u8]) -> u32
+    ensures { result ≡ entries_in text.now }
+{
     u32::try_from(line_count(text).saturating_sub(2)).unwrap_or(u32::MAX)
 }
 

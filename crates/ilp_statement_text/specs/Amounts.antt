@@ -1,5 +1,5 @@
 -- What an entry is about, in units of the asset of the peer whose it is.
-use Rattle.std.specs.Prelude.{ℕ, ℤ, pos, ◌-ℤ◌, Option, Some, None, option_map, option_and_then, slice_get, if◌then◌else◌, ◌==◌}
+use Rattle.std.specs.Prelude.{ℕ, ℤ, pos, ◌-ℤ◌, Bool, true, false, Option, Some, None, option_map, option_and_then, slice_get, if◌then◌else◌, ◌==◌}
 use Rattle.ilp_journal.specs.declared.credit_kind.CreditKind.{CreditKind}
 use Rattle.ilp_journal.specs.declared.credit_kind.CreditKind.TheVariants.{Settled, Raised, Lowered}
 use Rattle.ilp_journal.specs.declared.entry.Ask.{Ask}
@@ -44,3 +44,27 @@ amount_in (about.Balance balance) = balance
 amount_in (about.Packet other amount condition) = pos amount
 amount_in (about.Settlement amount key) = pos amount
 amount_in (about.Correction change key) = change
+
+-- ---- whether it is a correction
+
+-- whether a credit corrects the balance, which a settlement doesn't
+abbrev pub corrects_by : CreditKind → Bool
+corrects_by Settled = false
+corrects_by (Raised reason) = true
+corrects_by (Lowered reason) = true
+
+-- whether an entry corrects it
+abbrev pub corrects : What → Bool
+corrects (what.Credited c) = corrects_by c.kind
+corrects _ = false
+
+-- whether that of a number does
+abbrev pub corrects_at : Entries → ℕ → Option Bool
+corrects_at j n = option_map (λ (e : Entry). corrects e.what) (slice_get j n)
+
+-- what a row says of that
+abbrev pub is_correction : About → Bool
+is_correction (about.Balance balance) = false
+is_correction (about.Packet other amount condition) = false
+is_correction (about.Settlement amount key) = false
+is_correction (about.Correction change key) = true

@@ -33,7 +33,7 @@ condition_of j (what.Opened peer balance) = None
 condition_of j (what.Known c) = None
 condition_of j (what.Pending peer amount key) = None
 
--- the key of the settlement that the entry n is of
+-- the key of the settlement or the correction that the entry n is of
 abbrev pub key_of : Configuration → ℕ → Entries → ℕ → What → Option (List ℕ)
 key_of C period j n (what.Hold h) = None
 key_of C period j n (what.Fulfilled hold preimage) = None
@@ -79,15 +79,15 @@ is_packet (Some digits) (Some condition) = begins_with condition digits.now
 is_packet (Some digits) None = false
 is_packet None condition = false
 
--- a settlement is looked for under this key
-abbrev pub is_settlement : Option (Bor (List ℕ)) → Option (List ℕ) → Bool
-is_settlement (Some octets) (Some key) = bytes_eq octets.now key
-is_settlement (Some octets) None = false
-is_settlement None key = false
+-- a settlement or a correction is looked for under this key
+abbrev pub is_under_key : Option (Bor (List ℕ)) → Option (List ℕ) → Bool
+is_under_key (Some octets) (Some key) = bytes_eq octets.now key
+is_under_key (Some octets) None = false
+is_under_key None key = false
 
 -- what is known by this condition or this key is looked for: all is where nothing is said
 abbrev pub is_sought : Sought → Option (List ℕ) → Option (List ℕ) → Bool
-is_sought s condition key = (is_none s.packet && is_none s.key) || (is_packet s.packet condition || is_settlement s.key key)
+is_sought s condition key = (is_none s.packet && is_none s.key) || (is_packet s.packet condition || is_under_key s.key key)
 
 -- the entry of a number is listed in a peer's statement where it is the peer's and is looked for
 abbrev pub is_listed : PlainBook → ℕ → Sought → ℕ → Bool

@@ -6,7 +6,7 @@ use crate::extent::Extent;
 use crate::key::Spaces;
 use crate::moment::Moment;
 use crate::row::Row;
-use crate::shown::{Hexadecimal, OrDash, WhyText};
+use crate::shown::{Hexadecimal, OrDash, WhyText, name_text};
 use crate::totals::Total;
 use std::fmt;
 use std::fmt::Display;
@@ -26,6 +26,7 @@ impl Display for Head<'_> {
             peer,
             asset,
         } = self.account;
+        let (peer, run) = (name_text(peer), name_text(run));
         write!(f, "statement {peer} {asset} run {run} period {period}")?;
         let from = OrDash(self.extent.from.map(Moment));
         let to = OrDash(self.extent.to.map(Moment));
@@ -65,7 +66,7 @@ impl EntryLine<'_> {
         let moment = Moment(self.row.moment);
         let number = self.row.line.number;
         let word = self.row.kind.word();
-        let with = OrDash(self.row.with());
+        let with = OrDash(self.row.with().map(|name| name_text(name)));
         write!(f, "{moment} {number} {word} {with}")
     }
 

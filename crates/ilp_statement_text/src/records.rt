@@ -4,11 +4,11 @@ ghost use Rattle.std.specs.Prelude.{◌<◌, ◌≤◌, length};
 use crate::account::Account;
 use crate::extent::Extent;
 use crate::fault::StatementFault;
-use crate::key::{OctetsText, Spaces};
+use crate::key::Spaces;
 use crate::listing::listed;
 use crate::moment::Moment;
 use crate::row::Row;
-use crate::shown::{Hexadecimal, WhyText};
+use crate::shown::{Hexadecimal, WhyText, name_text};
 use crate::sought::Sought;
 use csv::{Terminator, Writer, WriterBuilder};
 use ilp_book::Book;
@@ -136,24 +136,16 @@ impl<'s, W: Sink> Records<'s, W> {
     // What stands in every row.
     fn put_account(&mut self) -> Result<(), StatementFault> {
         let account = self.account;
-        self.put_name(account.run)?;
+        self.put(name_text(account.run))?;
         self.put(account.period)?;
-        self.put_name(account.peer)?;
+        self.put(name_text(account.peer))?;
         self.put(account.asset)
-    }
-
-    // A name, of which a spreadsheet takes no octet for the beginning of a formula.
-    fn put_name(&mut self, name: &str) -> Result<(), StatementFault> {
-        self.put(OctetsText {
-            octets: name.as_bytes(),
-            spaces: Spaces::Stand,
-        })
     }
 
     // With whom, and what of it is in the balance.
     fn put_moves(&mut self, row: &Row<'_>) -> Result<(), StatementFault> {
         let account = self.account;
-        self.put_name(row.with().unwrap_or(""))?;
+        self.put_if(row.with().map(|name| name_text(name)))?;
         self.put(account.amount(row.amount()))?;
         self.put_if(account.amount_above_0(row.line.rise))?;
         self.put_if(account.amount_above_0(row.line.fall))?;

@@ -1,11 +1,11 @@
 //! A line of a statement with what its entry is about.
-ghost use Rattle.std.specs.Prelude.{◌≡◌, pos, Some, None, IfNone, IfSome, option_map, option_and_then, slice_get};
+ghost use Rattle.std.specs.Prelude.{◌≡◌, false, pos, Some, None, IfNone, IfSome, option_map, option_and_then, slice_get};
 ghost use Rattle.ilp_accounts.specs.Configuration.{peer_at};
 ghost use Rattle.ilp_journal.specs.declared.entry.Entry.{Entry};
 ghost use Rattle.ilp_journal.specs.Journal.{ended};
 ghost use Rattle.ilp_rules.specs.SettlementKeys.{settlement_key_at};
 ghost use Rattle.ilp_statement.specs.Statement.{kind_at, kind_of};
-ghost use Rattle.ilp_statement_text.specs.Amounts.{amount_at, amount_in, amount_of, change_by, side_amount};
+ghost use Rattle.ilp_statement_text.specs.Amounts.{amount_at, amount_in, amount_of, change_by, corrects, corrects_at, corrects_by, is_correction, side_amount};
 ghost use Rattle.ilp_statement_text.specs.Keys.{octets_of};
 ghost use Rattle.ilp_statement_text.specs.Sought.{condition_at, condition_in, condition_of, key_at, key_in, key_of};
 ghost use Rattle.ilp_statement_text.specs.Why.{cause_at, cause_in, cause_of, other_name, reason_at, reason_in, reason_by, reason_of, with_at, with_in, with_of};
@@ -73,6 +73,8 @@ impl<'b> Row<'b> {
             (slice_get book.now.entries line.number) ≡ Some row.moment) }
         ensures amount { IfSome result (λ row.
             amount_at book.now.entries peer line.number ≡ Some (amount_in row.about)) }
+        ensures correction { IfSome result (λ row.
+            corrects_at book.now.entries line.number ≡ Some (is_correction row.about)) }
         ensures with { IfSome result (λ row. with_in row.about
             ≡ with_at book.now.config book.now.entries peer line.number) }
         ensures condition { IfSome result (λ row.
@@ -146,6 +148,7 @@ impl<'b> About<'b> {
         ensures none { IfNone result (kind_of book.now.entries peer what.now ≡ None) }
         ensures amount { IfSome result (λ about.
             amount_of book.now.entries peer what.now ≡ Some (amount_in about)) }
+        ensures correction { IfSome result (λ about. is_correction about ≡ corrects what.now) }
         ensures with { IfSome result (λ about.
             with_in about ≡ with_of book.now.config book.now.entries peer what.now) }
         ensures condition { IfSome result (λ about.
@@ -172,6 +175,7 @@ impl<'b> About<'b> {
 // A settlement from a peer, or a correction of its balance.
 fn credit(credited: &Credited) -> About<'_>
     ensures amount { amount_in result ≡ change_by credited.now.kind credited.now.credited }
+    ensures correction { is_correction result ≡ corrects_by credited.now.kind }
     ensures with { with_in result ≡ None }
     ensures condition { condition_in result ≡ None }
     ensures key { key_in result ≡ Some credited.now.key }
@@ -194,6 +198,7 @@ fn credit(credited: &Credited) -> About<'_>
 // The packet of a hold, at the side of a peer.
 fn packet(config: &Config, peer: u32, hold: Hold) -> About<'_>
     ensures amount { amount_in result ≡ side_amount peer hold }
+    ensures correction { is_correction result ≡ false }
     ensures with { with_in result ≡ Some (other_name config.now peer hold) }
     ensures condition { condition_in result ≡ Some hold.condition }
     ensures key { key_in result ≡ None }
@@ -214,6 +219,7 @@ fn packet(config: &Config, peer: u32, hold: Hold) -> About<'_>
 // The settlement that was asked for under a number.
 fn asked(book: &Book, number: u32, amount: u64) -> About<'_>
     ensures amount { amount_in result ≡ pos amount }
+    ensures correction { is_correction result ≡ false }
     ensures with { with_in result ≡ None }
     ensures condition { condition_in result ≡ None }
     ensures key { key_in result ≡ Some

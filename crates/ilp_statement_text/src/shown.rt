@@ -19,6 +19,15 @@ impl<T: Display> Display for OrDash<T> {
     }
 }
 
+/// A name, as it is printed: as a key is. A spreadsheet takes no octet of it for the beginning of a formula, and
+/// nobody a peer that is named `-` for none.
+pub(crate) fn name_text(name: &str) -> OctetsText<'_> {
+    OctetsText {
+        octets: name.as_bytes(),
+        spaces: Spaces::Stand,
+    }
+}
+
 /// Octets in hexadecimal.
 #[derive(Clone, Copy)]
 pub(crate) struct Hexadecimal<'o>(pub(crate) &'o [u8]);

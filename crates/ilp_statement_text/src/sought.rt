@@ -8,7 +8,7 @@ use ilp_book::Book;
 use ilp_statement::Line;
 
 /// Which rows are looked for: those of a packet whose condition begins with these hexadecimal digits, of either
-/// case, and those of a settlement under a key of just these octets. All where neither is given.
+/// case, and those of a settlement or a correction under a key of just these octets. All where neither is given.
 #[derive(Clone, Copy, Debug)]
 pub struct Sought<'w> {
     pub packet: Option<&'w [u8]>,

@@ -1,6 +1,6 @@
 //! What the rows of a statement come to.
-ghost use Rattle.std.specs.Prelude.{◌≡◌, ◌+◌, ◌-◌, ◌^◌, ◌+ℤ◌, min, FitsSigned};
-ghost use Rattle.std.specs.Int.{w128};
+ghost use Rattle.std.specs.Prelude.{◌≡◌, ◌≢◌, ℕ, map, Some, slice_get};
+ghost use Rattle.ilp_statement_text.specs.Totals.{Counts, every_kind, no_rows_of};
 
 use ilp_statement::Kind;
 
@@ -14,7 +14,10 @@ pub(crate) struct Total {
 }
 
 impl Total {
-    fn of(kind: Kind) -> Total {
+    // That of no rows.
+    fn of(kind: Kind) -> Total
+        ensures { result ≡ no_rows_of kind }
+    {
         Total {
             kind,
             count: 0,
@@ -22,11 +25,19 @@ impl Total {
         }
     }
 
+    // Counts a row of a kind and an amount, where it is of this kind.
+    fn count(&mut self, kind: Kind, amount: i128)
+        ensures counted { self.old.kind ≡ kind → Counts amount self.old self.new }
+        ensures other { self.old.kind ≢ kind → self.new ≡ self.old }
+    {
+        if self.kind == kind {
+            self.add(amount);
+        }
+    }
+
     // Counts one more, of this amount.
     fn add(&mut self, amount: i128)
-        ensures kind { self.new.kind ≡ self.old.kind }
-        ensures count { self.new.count ≡ min (self.old.count + 1) (2 ^ 32 - 1) }
-        ensures sum { FitsSigned w128 (self.old.sum +ℤ amount) → self.new.sum ≡ self.old.sum +ℤ amount }
+        ensures { Counts amount self.old self.new }
     {
         self.count = self.count.saturating_add(1);
         self.sum = self.sum.saturating_add(amount);
@@ -39,7 +50,9 @@ pub(crate) struct Totals(pub(crate) [Total; 11]);
 
 impl Totals {
     /// Those of no rows.
-    pub(crate) fn new() -> Totals {
+    pub(crate) fn new() -> Totals
+        ensures { result.0 ≡ map no_rows_of every_kind }
+    {
         Totals([
             Total::of(Kind::Opened),
             Total::of(Kind::Sent),
@@ -56,11 +69,14 @@ impl Totals {
     }
 
     /// Counts a row of a kind and an amount.
-    pub(crate) fn add(&mut self, kind: Kind, amount: i128) {
-        for total in &mut self.0 {
-            if total.kind == kind {
-                total.add(amount);
-            }
+    pub(crate) fn add(&mut self, kind: Kind, amount: i128)
+        ensures counted { (n : ℕ) (old new : Total) → slice_get self.old.0 n ≡ Some old
+            → slice_get self.new.0 n ≡ Some new → old.kind ≡ kind → Counts amount old new }
+        ensures others { (n : ℕ) (old : Total) → slice_get self.old.0 n ≡ Some old
+            → old.kind ≢ kind → slice_get self.new.0 n ≡ Some old }
+    {
+        for total in self.0.iter_mut() {
+            total.count(kind, amount);
         }
     }
 }

@@ -2,7 +2,7 @@
 //! Both are made by `scripts/vectors/http.py`, from the standards and the rules and never from what
 //! the program prints, and the stored run compares them.
 //!
-//! 206 requests and 65 responses are read, in one piece and in pieces of several sizes, and 92
+//! 206 requests and 65 responses are read, in one piece and in pieces of several sizes, and 98
 //! messages are written, each also by a writer that stops at each octet. They show which of 400 and
 //! 431 a head gets where both have a reason. `cuts` has each proper prefix of a request with a
 //! packet, of a response with a length, of one to the end of the input and of none, and 4,096 reads

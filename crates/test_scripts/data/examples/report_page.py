@@ -99,7 +99,7 @@ def peer_of(table: dict[str, object], assets: dict[object, tuple[str, int]]) -> 
 def read_configuration(path: Path) -> tuple[str, list[Peer]]:
     """The name of the run, and the peers, of a configuration."""
     try:
-        read = tomllib.loads(path.read_text(encoding="utf-8"))
+        read = tomllib.loads(path.read_text(encoding="utf-8-sig"))
         assets = {f"{one['code']}/{one['scale']}": (str(one["code"]), number_of(one, "scale", SCALES))
                   for one in read["asset"]}
         return str(read["run"]), [peer_of(one, assets) for one in read["peer"]]

@@ -1,0 +1,23 @@
+-- What book begins of all that a start finds, and why none does.
+use Rattle.std.specs.Prelude.{◌⊎◌, ℕ, ℤ, List, Option}
+use Rattle.ilp_accounts.specs.Configuration.{Configuration}
+use Rattle.ilp_book.specs.Book.{PlainBook}
+use Rattle.ilp_refusals.specs.declared.refusal.Refusal.{Refusal}
+use Rattle.ilp_starting.specs.Beginning.{BeginsBy, IsWhyNotBegunBy}
+use Rattle.ilp_starting.specs.Remembering.{IsWhyNotKept}
+use Rattle.ilp_starting.specs.Sources.{IsSource}
+use Rattle.ilp_starting.specs.declared.carrying.Source.{Source}
+
+-- The book of a journal's text and of the octets of a log, where there are such, at some time.
+abbrev pub BeginsOnce : Configuration → Option (List ℕ) → Option (List ℕ) → PlainBook → Type 0
+BeginsOnce C text log book = (now : ℤ) × BeginsBy C text log now book
+
+-- There is one, but a start by it is refused: of what is remembered of the run something was changed, or memory was short.
+abbrev pub IsWhyNotTaken : Configuration → Option (List ℕ) → Option (List ℕ) → List ℕ → Refusal → Type 0
+IsWhyNotTaken C text log kept refusal =
+    (book : PlainBook) × (source : Source) × BeginsOnce C text log book × IsSource text log source ×
+    IsWhyNotKept book.config book.entries source log kept refusal
+
+-- Why no book begins: there is none; or there is one that isn't taken.
+abbrev pub IsWhyNotFound : Configuration → Option (List ℕ) → Option (List ℕ) → List ℕ → Refusal → Type 0
+IsWhyNotFound C text log kept refusal = IsWhyNotBegunBy C text log refusal ⊎ IsWhyNotTaken C text log kept refusal
