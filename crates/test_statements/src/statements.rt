@@ -72,7 +72,7 @@ fn print_rows<R: Runtime + AllocGlobal>(rt: &R, book: &Book, rows: &str) -> io::
 // not given.
 fn print_row<R: Runtime + AllocGlobal>(rt: &R, book: &Book, row: &str) -> io::Result<()> {
     let (row, digits) = row.rsplit_once(' ').unwrap_or((row, ""));
-    let Ok(key) = hex::decode(rt.alloc(), digits.strip_prefix('-').unwrap_or(digits)) else {
+    let Ok(key) = hex::decode(rt.alloc(), field_of(digits)) else {
         return println!(rt; "row not understood");
     };
     match question_in(book, row, &key) {
@@ -94,7 +94,7 @@ fn question_in<'q>(book: &Book, row: &'q str, key: &'q [u8]) -> Option<Question<
         to: moment_of(fields.next()?),
     };
     let sought = Sought {
-        packet: given(fields.next()?.as_bytes()),
+        packet: given(field_of(fields.next()?).as_bytes()),
         key: given(key),
     };
     Some(Question {
@@ -104,11 +104,16 @@ fn question_in<'q>(book: &Book, row: &'q str, key: &'q [u8]) -> Option<Question<
     })
 }
 
-fn given(field: &[u8]) -> Option<&[u8]> {
-    if field.is_empty() || field == b"-".as_slice() {
+// What a field of a row says, with nothing for `-`. (A key may be that octet: it is decoded behind this.)
+fn field_of(text: &str) -> &str {
+    text.strip_prefix('-').unwrap_or(text)
+}
+
+fn given(octets: &[u8]) -> Option<&[u8]> {
+    if octets.is_empty() {
         return None;
     }
-    Some(field)
+    Some(octets)
 }
 
 // Prints a statement, with its CRs as words, and into how little room it was written.
