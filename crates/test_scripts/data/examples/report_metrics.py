@@ -85,7 +85,7 @@ UNAUTHORIZED = {
 
 
 # A line on requests that got 401. Their numbers add up.
-WRONG_TOKENS = re.compile(rb"\S+ warn wrong tokens: ([1-9][0-9]*) requests? got 401\b.*")
+WRONG_TOKENS = re.compile(rb"\S+ warn wrong tokens: ([1-9][0-9]{0,19}) requests? got 401\b.*")
 
 
 class NoReport(Exception):
@@ -300,11 +300,13 @@ def of_asset(name: str) -> str:
 
 
 def unauthorized_in(lines: Iterable[bytes]) -> int:
-    """How many requests got 401, by the lines on standard error.
+    """How many requests got 401, by the lines on standard error. The connector writes no number of
+    more than 20 digits.
 
     >>> unauthorized_in([b"TIME warn wrong tokens: 12 requests got 401, 9 from 192.0.2.7\\n",
     ...                  b"TIME info credit 2 of bob: 1, key \\"1 requests got 401\\"\\n",
-    ...                  b"TIME warn wrong tokens: 1 request got 401\\n"])
+    ...                  b"TIME warn wrong tokens: 1 request got 401\\n",
+    ...                  b"TIME warn wrong tokens: " + b"9" * 5000 + b" requests got 401\\n"])
     13
     """
     found = (WRONG_TOKENS.match(line) for line in lines)
