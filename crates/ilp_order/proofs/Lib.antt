@@ -3,3 +3,4 @@ pub mod CheckLemmas
 pub mod Sums
 pub mod PlaceLemmas
 pub mod DigitLemmas
+pub mod Written

@@ -5,5 +5,6 @@
 //! refused, `Checks` for a list of checks, of which the first that fails counts: both say in which
 //! order refusals come. `Places` has sums, first places and facts of each element over a list whose
 //! elements are named by their places, as a journal's are, and `Found` says what an answer of a
-//! search means. `proofs/` has what follows of these, and what texts of decimal digits are read as.
+//! search means. `proofs/` has what follows of these, what texts of decimal digits are read as, and what
+//! stands in a list of which one place was written.
 #![tactic(auto)]

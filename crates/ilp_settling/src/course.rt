@@ -68,6 +68,7 @@ impl PeerTurns {
     pub(crate) fn left(&self) -> LeftTurns
         ensures rests { (until : Duration) → RestsUntil self.now.course until
             → 0 < self.now.pause → result.until ≡ until }
+        ensures anew { self.now.pause ≡ 0 → result.until ≡ Duration.ZERO }
         ensures pause { result.pause ≡ self.now.pause }
         ensures reached { result.reached ≡ self.now.reached }
     {

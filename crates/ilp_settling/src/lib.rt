@@ -8,7 +8,8 @@
 //!
 //! - Of private functions: how long a peer's turns rest (twice as long as the last time, up to five
 //!   minutes); whether a peer's balance is at its threshold in a book, since when it is by all looks at it,
-//!   and behind a refusal, and whether a settlement that waits may be asked for by then (`specs/Waiting.antt`).
+//!   and behind a refusal, and whether a settlement that waits may be asked for by then
+//!   (`specs/Waiting.antt`); what a period leaves of its turns to the next one (`specs/Rests.antt`).
 //! - All else is proved safe, and the settler ends only where no settlement is pending. That each is finished
 //!   which it gives out, no clause says.
 #![tactic(auto)]

@@ -58,7 +58,7 @@ where
 
 // The book that was carried over from what was found.
 fn written_book(carried: Carried, found: &Found, remembered: Vec<u8>) -> WrittenBook
-    ensures config { result.book ≡ carried.book }
+    ensures book { result.book ≡ carried.book }
     ensures within { result.written ≤ length result.book.entries }
     ensures written { result.written
         ≡ min (written_by carried.source (option_map (λ t. t.items) found.now.text))

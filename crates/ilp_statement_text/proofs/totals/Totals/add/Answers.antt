@@ -4,7 +4,7 @@ use Rattle.std.proofs.lemmas.Bool.{cases_eq}
 use Rattle.std.proofs.lemmas.Int.{to_z-of_z}
 use Rattle.std.proofs.lemmas.Option.{gets, slice_get_within}
 use Rattle.ilp_statement_text.specs.Totals.{Counts}
-use Rattle.ilp_statement_text.proofs.Written.{at_written, beside_written}
+use Rattle.ilp_order.proofs.Written.{at_written, beside_written}
 use Rattle.ilp_statement_text.proofs.totals.Totals.add.Goals as goal
 
 pub loop-total-preserved : goal.loop-total-preserved
