@@ -42,8 +42,11 @@ def entries_kept(journal: bytes | None, log: bytes | None) -> bytes:
     whole = log.partition(b"\0")[0]
     lines = whole[:whole.rfind(b"\n") + 1].split(b"\n", 2)
     expect("how many lines of its head a log has", len(lines), 3)
-    # A log of an older text has nothing that the journal has not.
-    return entries + lines[2] if goes_on_from(log, journal) else entries
+    if goes_on_from(log, journal):
+        return entries + lines[2]
+    # One of an older text has nothing that the journal has not.
+    expect_that("a log is of another journal, which is not there", journal is not None)
+    return entries
 
 
 def goes_on_from(log: bytes, journal: bytes | None) -> bool:

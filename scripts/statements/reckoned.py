@@ -164,7 +164,10 @@ def account_of(configuration: Configuration, journal: bytes | None, log: bytes |
     if peer not in configuration.assets:
         raise Differs(f"the configuration has no peer {peer}")
     account = Account(peer, configuration.run, period_in(journal) if journal is not None else 0)
-    account.extend(entries_kept(journal, log))
+    try:
+        account.extend(entries_kept(journal, log))
+    except (IndexError, KeyError, TypeError, ValueError) as why:
+        raise Differs(f"the entry {account.count} can't be read: {why!r}") from None
     return account
 
 

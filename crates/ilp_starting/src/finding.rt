@@ -1,6 +1,6 @@
 //! The book of what a start finds.
 ghost use Rattle.std.specs.Prelude.{◌≡◌, length, option_map, IfErr, IfOk, OnOk};
-ghost use Rattle.ilp_starting.specs.Finding.{BeginsOnce, IsWhyNotFound};
+ghost use Rattle.ilp_starting.specs.Finding.{BeginsOfSome, BeginsOnce, IsWhyNotFound};
 ghost use Rattle.ilp_starting.specs.Remembering.{IsRemembered, IsRememberedBy, IsWhyNotKept};
 ghost use Rattle.ilp_starting.specs.Remembering.{KeepsRemembered};
 ghost use Rattle.ilp_starting.specs.Sources.{IsSource};
@@ -30,6 +30,7 @@ use std::time;
 pub fn book_at<R>(rt: &R, config: &Config, path: &str) -> Result<Carried, Refused>
 where
     R: Runtime + AllocGlobal + Files<File = File> + Copy,
+    ensures begins { IfOk result (λ c. BeginsOfSome config.now c.book c.source) }
     ensures config { IfOk result (λ c. c.book.config ≡ config.now) }
     ensures opening { IfOk result (λ c. length c.book.entries ≡ c.book.base) }
 {

@@ -1,5 +1,6 @@
 //! The book of a journal that is only looked at, though a connector may have it.
 ghost use Rattle.std.specs.Prelude.{◌≡◌, ◌≤◌, length, min, option_map, IfOk};
+ghost use Rattle.ilp_starting.specs.Finding.{IsWritten};
 ghost use Rattle.ilp_starting.specs.Sources.{entries_in, written_by};
 
 use crate::carrying::{Carried, Source, line_count};
@@ -39,6 +40,7 @@ pub struct WrittenBook {
 pub fn written_book_at<R>(rt: &R, config: &Config, path: &str) -> Result<WrittenBook, Refused>
 where
     R: AllocGlobal + Files<File = File> + Clock + Eprint + Copy,
+    ensures begins { IfOk result (λ w. IsWritten config.now w.book w.written) }
     ensures config { IfOk result (λ w. w.book.config ≡ config.now) }
     ensures within { IfOk result (λ w. w.written ≤ length w.book.entries) }
 {
