@@ -222,6 +222,11 @@ def statement_of_a_peer_that_is_named_as_an_option(laboratory: Laboratory) -> No
         done = state(program, *words)
         expect("the status, and what is told", (done.returncode, done.stderr), (0, b""))
         expect("the first words", done.stdout.split()[:3], [b"statement", rb"\x2d-csv", b"USD/2"])
+    for word in ("-h", "--help"):
+        done = state(program, kept.path, "bob", word)
+        expect(f"what {word} prints", (done.returncode, done.stdout[:31]), (0, b"A connector of the Interledger "))
+        done = state(program, kept.path, "--", word)
+        expect(f"{word} behind --", (done.returncode, done.stderr), (2, f'no peer is named "{word}"\n'.encode()))
     first = state(program, "--csv", "--", kept.path, "--csv").stdout.splitlines()[1]
     expect("the first fields", first.split(b",")[:4], [b"r1", b"0", rb"\x2d-csv", b"USD/2"])
 

@@ -1,7 +1,7 @@
 //! What the program is asked for.
 
 use crate::helping::is_help;
-use crate::inquiring::inquiry_of;
+use crate::inquiring::asked_of_account;
 use ilp_inquiry::Inquiry;
 
 /// The words that the program is started with: a command, and what it is about.
@@ -38,7 +38,7 @@ impl Words {
     pub(crate) fn asked(&self) -> Option<Asked<'_>> {
         let command = self.command.as_str();
         if command == "statement" && self.about.len() > 1 {
-            return Some(Asked::Statement(inquiry_of(&self.about)?));
+            return asked_of_account(&self.about);
         }
         match (
             self.about(0),

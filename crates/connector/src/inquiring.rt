@@ -1,5 +1,7 @@
 //! The command `statement`.
 
+use crate::asking::Asked;
+use crate::helping::is_help;
 use crate::{Exit, ended};
 use ilp_inquiry::{Form, Inquiry, InquiryFault, Sought, print_statement};
 use std::fs::File;
@@ -8,9 +10,9 @@ use std::rt::{Files, Runtime};
 // The words that stand by their places: the paths of a configuration and of a journal, a peer's name, and two times.
 const PLACES: usize = 5;
 
-/// What these words ask of a peer's account; none where they are no such inquiry. Options stand anywhere among
-/// them but behind `--`, and one that is given again counts as it was given last.
-pub(crate) fn inquiry_of(words: &[String]) -> Option<Inquiry<'_>> {
+/// What these words ask of a peer's account, or for help; none where they are no such inquiry. Options stand anywhere
+/// among them but behind `--`, and one that is given again counts as it was given last.
+pub(crate) fn asked_of_account(words: &[String]) -> Option<Asked<'_>> {
     let mut places = [None; PLACES];
     let mut packet = None;
     let mut key = None;
@@ -23,11 +25,12 @@ pub(crate) fn inquiry_of(words: &[String]) -> Option<Inquiry<'_>> {
             "--csv" if has_options => form = Form::Records,
             "--packet" if has_options => packet = Some(words.next()?.as_bytes()),
             "--key" if has_options => key = Some(words.next()?.as_bytes()),
+            word if has_options && is_help(word) => return Some(Asked::Help),
             word => take(&mut places, word)?,
         }
     }
     let [config, journal, peer, from, to] = places;
-    Some(Inquiry {
+    Some(Asked::Statement(Inquiry {
         config: config?,
         journal: journal?,
         peer: peer?,
@@ -35,7 +38,7 @@ pub(crate) fn inquiry_of(words: &[String]) -> Option<Inquiry<'_>> {
         to,
         sought: Sought { packet, key },
         form,
-    })
+    }))
 }
 
 // Takes a word into the first place that is free; none where all are taken.
