@@ -23,7 +23,8 @@
 //!   (`IsOver`); which file that text is of, no clause says.
 //! - `config_of`: the configuration of the octets, or the refusal by their first fault or for want of
 //!   memory (`specs/Configuring.antt`).
-//! - Of private functions: how many entries of a written book stand in the files.
+//! - `book_at` and `written_book_at` have such a book of some text and some log, and tell where its entries come from, or
+//!   how many of them stand there.
 //! - All else is proved safe, and no more.
 #![tactic(auto)]
 
