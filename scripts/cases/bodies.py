@@ -1,5 +1,4 @@
-"""Requests that are refused while they are still coming: their clients get the status, and are closed
-soon after it."""
+"""Clients that send on behind what is answered: they get the answer whole, and are closed soon after it."""
 import socket
 import threading
 import time
@@ -8,10 +7,11 @@ from dataclasses import dataclass
 
 from cases.case import Differs, case, expect, expect_that
 from cases.laboratory import (END, Laboratory, close, expect_end, expect_report_at_once, expect_served,
-                              post_close)
-from cases.messages import bearer, connect, read_to_end, request, response, seconds_since
+                              packet_request, post_close)
+from cases.messages import HERE, bearer, connect, read_to_end, request, response, seconds_since, soon
 from cases.program import secret
-from cases.stand_ins import FULFILLS
+from cases.stand_ins import FULFILLS, answers_packet
+from packets import fulfill, string
 
 TEN_MILLION = 10_000_000
 LONGEST_BODY = 65_536
@@ -172,3 +172,39 @@ def end_beside_clients_that_go_on(laboratory: Laboratory) -> None:
         expect_end(program, alice=0, bob=0, within=LINGERS + END)
         for pace, one in zip(PACES * 2, told):
             expect(f"{pace}: what is answered", one.result()[0], response(413))
+
+
+# ---- octets behind a body
+
+# A Fulfill that doesn't fit into what a client takes at once who has room for so many octets.
+LONG_FULFILL = fulfill(string(bytes(30_000)))
+ROOM = 2_048
+
+
+def narrow(laboratory: Laboratory, port: int) -> socket.socket:
+    """A connection of a client that has little room for what it doesn't read."""
+    link = laboratory.keep(socket.socket())
+    link.setsockopt(socket.SOL_SOCKET, socket.SO_RCVBUF, ROOM)
+    link.settimeout(TRIES)
+    link.connect((HERE, port))
+    return link
+
+
+@case
+def octets_behind_a_body(laboratory: Laboratory) -> None:
+    """Octets behind a body are ignored: a client with little room gets its answer whole, whether they come before
+    the answer or while it is on its way, and however many do."""
+    program = laboratory.serve(answers_packet(LONG_FULFILL, after=0.2))
+    whole = packet_request(program, soon(5))
+    for count, behind in enumerate([b"\r\n", bytes(200_000)], start=1):
+        early, late = (narrow(laboratory, program.setup.peers_port) for _ in range(2))
+        for link in (early, late):
+            link.sendall(whole)
+        laboratory.bob.await_count("/ilp", 2 * count)
+        early.sendall(behind)
+        late.recv(1, socket.MSG_PEEK)
+        late.sendall(behind)
+        for what, link in (("before", early), ("behind", late)):
+            expect_that(f"{len(behind)} octets {what} the answer's beginning: it does not come whole",
+                        read_to_end(link) == response(200, LONG_FULFILL))
+    close(program, alice=-20, bob=20)

@@ -11,7 +11,7 @@ from cases.laboratory import (AT_ONCE, Laboratory, close, credit, expect_end, ex
 from cases.messages import (connect, created, post, read_to_end, request, response,
                             seconds_since, soon)
 from cases.program import Program
-from cases.stand_ins import FULFILLS, answers_packet
+from cases.stand_ins import FULFILLS, Received, answers_packet
 from connections import quantity
 from scenes import FULFILL
 
@@ -19,6 +19,9 @@ from scenes import FULFILL
 # was dropped.
 LEAST_WAIT, MOST_WAIT = 9.5, 12.5
 THOUSAND = 1000
+
+# In seconds: for how long a packet's turn may be held up.
+TURN = 10.0
 
 
 # ---- slow ones
@@ -232,6 +235,31 @@ def client_that_goes_away(laboratory: Laboratory) -> None:
     expect_served(program)
     program.expect_running()
     close(program, alice=-150, bob=150)
+
+
+@case
+def reset_before_its_turn(laboratory: Laboratory) -> None:
+    """A packet whose client has reset its connection while it waited for its turn is not begun."""
+    goes_on = threading.Event()
+
+    def behave(received: Received, link: socket.socket, stop: threading.Event) -> None:
+        goes_on.wait(TURN)
+        FULFILLS(received, link, stop)
+    program = laboratory.serve(behave, in_flight=1)
+    port = program.setup.peers_port
+    links = []
+    for amount in (1, 10, 100):
+        links.append(laboratory.connect(port))
+        links[-1].sendall(packet_request(program, soon(amount)))
+        laboratory.bob.await_count("/ilp", 1)
+        # Answered behind the packet, and behind a reset before it, which have been seen by then.
+        expect("a refused request", post(port, request("/nowhere")), response(404))
+        if amount == 10:
+            reset(links.pop())
+    goes_on.set()
+    expect("the others", [read_to_end(link) for link in links], [response(200, FULFILL)] * 2)
+    expect("how many packets bob has", len(laboratory.bob.of("/ilp")), 2)
+    close(program, alice=-101, bob=101)
 
 
 @case

@@ -94,6 +94,15 @@ class Crowd:
                         time.monotonic() < end)
             self.look(0.05)
 
+    def await_any(self, clients: list[Client], within: float) -> Client:
+        """The first of these that the other side has closed, once there is one."""
+        end = time.monotonic() + within
+        while (first := next((client for client in clients if client.ended is not None), None)) is None:
+            expect_that(f"within {within} seconds none of {len(clients)} connections had an end",
+                        time.monotonic() < end)
+            self.look(0.05)
+        return first
+
 
 # ---- a peer's server
 

@@ -1,7 +1,11 @@
 """The end: what was accepted is answered or closed in time, nobody is accepted any more, and the
 program exits."""
+import errno
 import os
+import select
 import socket
+import struct
+import threading
 import time
 from concurrent.futures import ThreadPoolExecutor
 
@@ -203,6 +207,50 @@ def end_beside_a_client_that_does_not_read(laboratory: Laboratory) -> None:
     expect("the report to who reads late", late, response(200, text.encode(), TEXT))
 
 
+# How many clients knock at each side, and how often each does behind the close's answer.
+KNOCKING, KNOCKS = 4, 20
+
+
+def knock(port: int, answered: threading.Event) -> list[str]:
+    """Connects one time after the other, and so often behind the close's answer: what came of those then."""
+    late = []
+    while len(late) < KNOCKS:
+        is_late = answered.is_set()
+        try:
+            link = connect(port)
+            # Without a trace, so that there are ports for the next.
+            link.setsockopt(socket.SOL_SOCKET, socket.SO_LINGER, struct.pack("ii", 1, 0))
+            link.close()
+            came = "accepted"
+        except OSError as fault:
+            came = errno.errorcode.get(fault.errno or 0, repr(fault))
+        if is_late:
+            late.append(came)
+    return late
+
+
+@case
+def nobody_behind_the_close(laboratory: Laboratory) -> None:
+    """Once a close is answered both sides refuse who connects, though many do all the time; so it is behind each answer
+    of two that close at once."""
+    for count in (1, 2, 1, 2):
+        program, answered = laboratory.serve(FULFILLS), threading.Event()
+        ports = [program.setup.peers_port, program.setup.engines_port]
+        with ThreadPoolExecutor(2 * KNOCKING + count) as pool:
+            knocking = [pool.submit(knock, port, answered) for port in ports * KNOCKING]
+            links = [laboratory.connect(program.setup.engines_port) for _ in range(count)]
+            for link in links:
+                link.sendall(request("/close"))
+            # The first that is answered.
+            select.select(links, [], [], END)
+            answered.set()
+            expect("what comes of who connects then", [one.result() for one in knocking],
+                   [["ECONNREFUSED"] * KNOCKS] * len(knocking))
+            for link in links:
+                expect("/close", read_to_end(link), response(200))
+        expect_end(program, alice=0, bob=0)
+
+
 def answer_if_any(port: int, octets: bytes) -> bytes:
     """What a port answers, if it takes a connection at all."""
     try:
@@ -226,7 +274,7 @@ def two_closes(laboratory: Laboratory) -> None:
 @case
 def end_beside_a_slow_worker(laboratory: Laboratory) -> None:
     """A worker that is busy while the last connections are taken in hears of the end all the same, here one that
-    takes two seconds to close the connection of the close. This is left out where there is no C compiler."""
+    takes two seconds to close the connection of a half closed client. This is left out where there is no C compiler."""
     folder = laboratory.folder()
     if (library := library_of("slow_close.c", folder)) is None:
         return
@@ -234,8 +282,11 @@ def end_beside_a_slow_worker(laboratory: Laboratory) -> None:
     program = laboratory.run(Program(laboratory.binary, laboratory.folder(), Setup(),
                                      environment={"LD_PRELOAD": str(library), "SLOW_CLOSE": str(slow)}))
     program.await_listening()
-    link = laboratory.connect(program.setup.engines_port)
+    busy, link = (laboratory.connect(program.setup.engines_port) for _ in range(2))
     slow.touch()
+    busy.sendall(request("/report"))
+    busy.shutdown(socket.SHUT_WR)
+    expect_that("no report came", read_to_end(busy).startswith(b"HTTP/1.1 200 OK"))
     link.sendall(request("/close"))
     start = time.monotonic()
     expect("/close", read_to_end(link, SLOW + END), response(200))

@@ -132,6 +132,32 @@ def octets_of_a_slow_peer(laboratory: Laboratory) -> None:
 
 
 @case
+def responses_of_a_slow_peer(laboratory: Laboratory) -> None:
+    """Responses of each form that come octet by octet are whole with the same octet as at once: nothing waits for the
+    connection's end but what lasts until then."""
+    bodies = [fulfill(data=octets * 20) for octets in (b"\0\0", b"\1\1", b"\0\1", b"\1\0", b"\r\n")]
+    length = f"Content-Length: {len(bodies[0])}"
+    heads = [f"HTTP/1.1 200 OK\r\n{length}\r\n\r\n", f"\r\n\nHTTP/1.1 200 OK\n{length}\n\n"]
+    rows = [(head.encode() + body, False, body) for head in heads for body in bodies]
+    rows += [(b"HTTP/1.1 200 OK\r\nTransfer-Encoding: chunked\r\n\r\n", False, T01),
+             (b"HTTP/1.1 200 OK\r\nX: y\r\n\r\n" + bodies[0], True, bodies[0])]
+
+    def behave(octets: bytes) -> Answer:
+        told, lasts, _ = rows[int(octets[-2:])]
+        return [*octet_by_octet(told, 0.005), (0.6 if lasts else 20.0, b"")]
+
+    bob = Hall(laboratory, behave)
+    program, crowd = start(laboratory, beside(laboratory, bob, workers=1)), Crowd(laboratory)
+    clients = [crowd.send(program.setup.peers_port, packet_request(program, soon(1, b"%02d" % number)))
+               for number in range(len(rows))]
+    crowd.await_ended(clients, 5.0)
+    for (told, _, answer), client in zip(rows, clients):
+        expect(f"what is answered behind {told!r}", client.answer, response(200, answer))
+    fulfilled = len(rows) - 1
+    close(program, alice=-fulfilled, bob=fulfilled)
+
+
+@case
 def killed_peer(laboratory: Laboratory) -> None:
     """Where a peer's server is killed that has 2,000 packets, their senders are told within a second that it is not
     reached, and nothing moved."""

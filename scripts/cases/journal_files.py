@@ -3,6 +3,7 @@ streams that are closed."""
 import fcntl
 import os
 import shlex
+import shutil
 import stat
 import subprocess
 import threading
@@ -12,8 +13,8 @@ from cases.case import case, expect, expect_that
 from cases.journals import START, Kept
 from cases.laboratory import (END, Laboratory, close, credit, expect_end, expect_served, post_close)
 from cases.lines import FOLLOWS
-from cases.messages import created
-from cases.program import Program
+from cases.messages import created, response
+from cases.program import Program, Setup
 from connections import quantity
 
 UNREAD = "73 JournalUnread"
@@ -96,6 +97,71 @@ def pipes_in_place_of_files(laboratory: Laboratory) -> None:
     expect("the exit status", program.end(START), 1)
     expect("standard output", program.output(), f"refused {UNREAD}\n")
     expect("how many lines", len(program.told(r'error can\'t use "/dev/null": it is a device or a socket: .+')), 1)
+
+
+# ---- a lock that is gone
+
+LOST = r'error journal ".+": ".+" was removed or replaced, so another connector may have it: .+'
+
+
+@case
+def lock_that_is_removed(laboratory: Laboratory) -> None:
+    """Where the file that is locked is removed under a connector, one that starts then has the journal, with all that
+    was told. The first keeps and tells nothing more, as a line says, touches none of the files, and its end is
+    refused."""
+    kept = Kept(laboratory)
+    first = kept.serve()
+    expect("a credit", credit(first, 30), created(quantity(30, 2)))
+    kept.beside("lock").unlink()
+    expect("a credit behind that", credit(first, 5, key="behind"), response(503))
+    first.await_told(LOST)
+    other = Kept(laboratory, Setup())
+    other.folder, other.path = kept.folder, kept.path
+    second = other.serve()
+    expect("a credit of the second", credit(second, 7, key="second"), created(quantity(7, 2)))
+    expect("another of the first", credit(first, 6, key="another"), response(503))
+    before = kept.contents()
+    post_close(first)
+    expect("the first one's exit status", first.end(END), 1)
+    expect_that("it does not say why", first.output().endswith(f"refused {UNREAD}\n"))
+    expect("the files behind its end", kept.contents(), before)
+    # What the first could not tell may be there: it stood in the log before the second one began.
+    post_close(second)
+    expect("the second one's exit status", second.end(END), 0)
+    credits = [line.split()[3:6] for line in kept.text().splitlines()[1:-1]]
+    for key, amount in ((kept.setup.key, 30), ("second", 7)):
+        expect_that(f"the credit of {amount} is not kept", ["bob", key.encode().hex(), str(amount)] in credits)
+
+
+# ---- copies that are put back
+
+@case
+def older_copies_of_a_journal(laboratory: Laboratory) -> None:
+    """A copy of a kept period in the journal's place, an older copy of the journal beside its kept text, and a journal
+    that is gone beside that are refused, by a line that says what to do, and all files stay."""
+    kept = Kept(laboratory)
+    program = kept.serve()
+    expect("a credit", credit(program, 30), created(quantity(30, 2)))
+    close(program, bob=30)
+    older = kept.path.read_bytes()
+    program = kept.serve()
+    expect("another credit", credit(program, 7, key="another"), created(quantity(7, 2)))
+    close(program, bob=37)
+    for _ in range(2):
+        words = [str(laboratory.binary), "new-period", str(program.configuration), str(kept.path)]
+        expect("the exit status of new-period", subprocess.run(words, capture_output=True, timeout=10.0).returncode, 0)
+        program = kept.serve()
+        expect("a credit of a period", credit(program, 1, key=f"{len(kept.files())}"), created(quantity(1, 2)))
+        post_close(program)
+        expect("the exit status", program.end(END), 0)
+    older_line = r"error journal .+: the period {} has ended beside it, and it lacks what that has: .+"
+    shutil.copy(kept.beside("0"), kept.path)
+    kept.expect_refused(UNREAD, older_line.format(1))
+    kept.beside("1").unlink()
+    kept.path.write_bytes(older)
+    kept.expect_refused(UNREAD, older_line.format(0))
+    kept.path.unlink()
+    kept.expect_refused(UNREAD, r"error journal .+: it isn't there, and what was kept beside it is: .+")
 
 
 # ---- mounts

@@ -48,6 +48,17 @@ UNKEPT = "journal: what is booked is not kept: packets get T00, credits 503, and
 KEPT_AGAIN = "info journal: all that is booked is kept again"
 INCOMPLETE = "journal: its log lacks what was booked last: keep the report until the journal is saved"
 
+# What a connector that serves tells to do where it can't write.
+WAITS_FOR_ROOM = ("make room for it, and don't kill the connector: it tries again, and what was booked last may be in "
+                  "its memory alone")
+
+# What is told of a disk that takes long to keep a journal, once it has, and of who is told a Fulfill too late.
+DISK_TAKES = (rf"error journal: the disk has not kept what it was given, for {SECONDS} now: no Fulfill is told until it "
+              "has")
+DISK_HAS_KEPT = rf"info journal: the disk has kept what it was given, after {SECONDS}"
+TOLD_LATE = (rf"error fulfill told to (?P<peer>{NAME}) ({SECONDS}|\d+\.\d{{3}} seconds) too late{HELD}: (?P=peer) may not "
+             rf"pay for it, and the book has it paid{MORE}")
+
 # What is told of each peer to which holds were open at a sudden stop.
 OPEN_HOLDS = (rf"\d+ holds that went on to (?P<peer>{NAME}) were open, of \d+ in all: what (?P=peer) fulfilled of "
               r"them it may say that it is owed; the last that was handed on may be missing here")
@@ -118,8 +129,10 @@ FORMS = [re.compile(form) for form in (
     rf"warn journal {PATH}: {OPEN_HOLDS}",
     rf"warn journal {PATH}: can't be saved: .+: make room for it, it is tried again each second for a minute",
     rf"warn journal {PATH}: its last entry is of .+",
-    rf"error journal {PATH}: can't be saved: .+: make room for it, and start again: nothing is lost",
+    rf"error journal {PATH}: can't be saved: .+: (make room for it, and start again: nothing is lost|{WAITS_FOR_ROOM})",
     rf"error journal {PATH}: (not saved.+|another connector has it: .+|a connector stopped .+)",
+    rf"error journal {PATH}: {PATH} was removed or replaced, so another connector may have it: .+",
+    rf"error journal {PATH}: (the period \d+ has ended beside it, .+|it isn't there, and what was kept beside it is: .+)",
     rf"error journal {PATH}: (it is the new one, but .+|a settlement with .+|what it counts .+)",
     r"error compare with peers and engines what was booked since, .+",
     rf"error can't (make|read|use|lock) {PATH}: .+",
@@ -128,6 +141,9 @@ FORMS = [re.compile(form) for form in (
     rf"error can't write {PATH}: .+: what is booked from here on is not on the disk: it is tried anew each second",
     rf"error {re.escape(UNKEPT)}{MORE}",
     KEPT_AGAIN,
+    DISK_TAKES,
+    DISK_HAS_KEPT,
+    TOLD_LATE,
     rf"error {re.escape(INCOMPLETE)}",
     rf"warn can't remove {PATH}: .+: the journal has all that it has, and the next start removes it",
     rf"warn {PATH} lies there, .+",
@@ -139,7 +155,7 @@ FORMS = [re.compile(form) for form in (
     rf"warn {re.escape(NO_PERIODS)}",
     rf"warn journal {PATH}: it begins with \d+ entries that were brought forward, so a new period begins only behind .+",
     r"info configuration: read again, and in force: ok \d+ peers \d+ assets \d+ routes",
-    rf"error can't write {PATH}: .+: make room for it, and give the command again: nothing is lost",
+    rf"error can't write {PATH}: .+: (make room for it, and give the command again: nothing is lost|{WAITS_FOR_ROOM})",
     rf"error clock: \d+\.\d{{3}} seconds behind the last moment of the book, so that packets come too late{MORE}",
     r"info clock: no longer behind the last moment of the book",
 )]

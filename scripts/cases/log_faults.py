@@ -13,7 +13,7 @@ from cases.conversations import report
 from cases.disks import Disk
 from cases.journals import PACKETS, SETTLEMENTS, Kept, keys_of
 from cases.laboratory import Laboratory, close, credit, expect_packet, expect_served, send_packet
-from cases.lines import INCOMPLETE, KEPT_AGAIN, MORE, UNKEPT
+from cases.lines import DISK_HAS_KEPT, DISK_TAKES, INCOMPLETE, KEPT_AGAIN, MORE, TOLD_LATE, UNKEPT
 from cases.logs import ABSENT, LOGGED, expect_begun, head, log_of
 from cases.messages import created, response, soon
 from cases.program import Program, Setup, numbers_in
@@ -379,3 +379,29 @@ def packets_that_share_a_sync(laboratory: Laboratory) -> None:
         expect("the answers", [packet.result() for packet in packets], [response(200, FULFILL)] * 7)
     expect("the syncs for seven packets", disk.syncs() - begun, Counter(fdatasync=2))
     close(program, alice=-7, bob=7)
+
+
+@case
+def disk_that_takes_long(laboratory: Laboratory) -> None:
+    """A sync that takes longer than a packet has left is told of while it lasts, and once it is over; then so is that
+    the packet's Fulfill came too late. One that comes in time is told of nowhere. This is left out where there is no C
+    compiler."""
+    if (disk := Disk.of(laboratory)) is None:
+        return
+    for workers in (1, 2):
+        kept = Kept(laboratory, Setup(bob=laboratory.stand_in(FULFILLS).port, top={"workers": workers}))
+        program = kept.serve(environment=disk.environment())
+        expect_served(program, amount=1)
+        begun = disk.syncs()
+        with ThreadPoolExecutor(1) as pool:
+            disk.busy.touch()
+            try:
+                packet = pool.submit(send_packet, program, soon(1, milliseconds=2_000), 3 * AGAIN)
+                disk.await_sync(begun)
+                program.await_told(DISK_TAKES, within=AGAIN)
+            finally:
+                disk.busy.unlink()
+            expect("the answer", packet.result(), response(200, FULFILL))
+        program.await_told(DISK_HAS_KEPT)
+        expect("who was told late", [line.said.split()[4] for line in program.await_told(TOLD_LATE)], ["alice"])
+        close(program, alice=-2, bob=2)

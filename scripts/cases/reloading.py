@@ -1,4 +1,5 @@
 """A configuration that is read again while its connector runs (`POST /reload`): what is taken, and what is not."""
+import os
 import re
 import time
 from dataclasses import replace
@@ -116,6 +117,24 @@ def reload_of_a_bad_file(laboratory: Laboratory) -> None:
     expect_taken(program, setup)
     expect("a GET", post(setup.engines_port, request("", line="GET /reload HTTP/1.1"))[:12], b"HTTP/1.1 405")
     expect("at the peers' side", post(setup.peers_port, RELOAD), response(404))
+    post_close(program)
+    expect_end_of(program, alice=-1, bob=1, period=1)
+
+
+@case
+def reload_of_a_pipe(laboratory: Laboratory) -> None:
+    """A link to a named pipe in place of the file is refused, and nobody waits for it: the connector goes on, reads the
+    next one that is a file, and closes."""
+    program = laboratory.serve(FULFILLS)
+    path, pipe = program.configuration, program.configuration.with_name("pipe")
+    os.mkfifo(pipe)
+    path.unlink()
+    path.symlink_to(pipe)
+    expect("the line", line_of_refusal(program, reload(program)),
+           f'refused 20 ConfigUnread: "{path}": no plain file, and a pipe is read at a start alone\n')
+    expect_packet("a packet", program, soon(1), FULFILL)
+    path.unlink()
+    expect_taken(program, program.setup)
     post_close(program)
     expect_end_of(program, alice=-1, bob=1, period=1)
 

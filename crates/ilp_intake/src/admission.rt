@@ -31,4 +31,7 @@ pub trait Admission {
 
     /// A connection of this kind does not count as given on after all: it was lost.
     fn give_back(&mut self, kind: Self::Kind);
+
+    /// No connection is accepted any more: the intake was closed, and its listener is gone.
+    fn note_closed(&mut self);
 }

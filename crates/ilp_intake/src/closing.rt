@@ -56,7 +56,7 @@ impl Closing {
         }
         for connection in waiting {
             match connection.stage() {
-                Stage::Ready { kind, refused: _ } => self.add_whole(admission.sender_of(kind)),
+                Stage::Ready { kind } => self.add_whole(admission.sender_of(kind)),
                 Stage::Waiting => self.add(Waiter::Partial),
                 Stage::Lost => self.add(Waiter::Partial),
             }

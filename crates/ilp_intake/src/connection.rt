@@ -3,6 +3,7 @@
 use crate::admission::Admission;
 use crate::incoming::{Arrival, Incoming};
 use crate::limits::PIECE;
+use crate::lingering::end_writing;
 use crate::ready::ReadyConnection;
 use crate::stage::Stage;
 use ilp_http::BUFFER_LENGTH;
@@ -24,14 +25,6 @@ pub(crate) struct Connection<K> {
     stage: Stage<K>,
     // Whether events tell of it.
     registered: bool,
-}
-
-// What a read of a connection came to.
-#[derive(Clone, Copy)]
-enum Reading {
-    Octets(Arrival),
-    // The client sends nothing more.
-    End,
 }
 
 impl<K: Copy> Connection<K> {
@@ -67,21 +60,27 @@ impl<K: Copy> Connection<K> {
         matches!(self.stage, Stage::Waiting)
     }
 
+    /// Whether it is to be closed without an answer.
+    pub(crate) fn is_lost(&self) -> bool {
+        matches!(self.stage, Stage::Lost)
+    }
+
     /// When it was accepted.
     pub(crate) fn accepted(&self) -> Duration {
         self.accepted
     }
 
-    /// Has events tell of it, if none does and more of its request has to come. It is lost where the
-    /// system refuses that.
+    /// Has events tell of it, if none does. Where the system refuses that, it is lost if more of its request
+    /// has to come.
     pub(crate) fn register(&mut self, registry: &Registry) {
-        if self.registered || !self.is_waiting() {
+        if self.registered {
             return;
         }
         let interest = Interest::READABLE;
         match registry.register(&mut self.stream, Token(self.number), interest) {
             Ok(()) => self.registered = true,
-            Err(_) => self.stage = Stage::Lost,
+            Err(_) if self.is_waiting() => self.stage = Stage::Lost,
+            Err(_) => {}
         }
     }
 
@@ -104,11 +103,10 @@ impl<K: Copy> Connection<K> {
     pub(crate) fn read<D: Admission<Kind = K>>(&mut self, admission: &mut D) {
         for _ in 0..=BUFFER_LENGTH {
             match self.read_piece() {
-                Ok(Reading::Octets(Arrival::Partial)) => {}
-                Ok(reading) => {
+                Ok(Some(Arrival::Partial)) => {}
+                Ok(_) => {
                     self.stage = Stage::Ready {
                         kind: admission.kind_of(self.incoming.octets()),
-                        refused: matches!(reading, Reading::Octets(Arrival::Refused)),
                     };
                     return;
                 }
@@ -124,26 +122,28 @@ impl<K: Copy> Connection<K> {
 
     /// Looks anew of which kind it is, where its request has come whole.
     pub(crate) fn look_anew<D: Admission<Kind = K>>(&mut self, admission: &mut D) {
-        if let Stage::Ready { kind: _, refused } = self.stage {
+        if let Stage::Ready { .. } = self.stage {
             self.stage = Stage::Ready {
                 kind: admission.kind_of(self.incoming.octets()),
-                refused,
             };
         }
     }
 
-    fn read_piece(&mut self) -> io::Result<Reading> {
+    // What a piece makes of the request; nothing where the client sends none any more.
+    fn read_piece(&mut self) -> io::Result<Option<Arrival>> {
         let mut piece = [0; PIECE];
         match self.stream.read(&mut piece)? {
-            0 => Ok(Reading::End),
-            count => Ok(Reading::Octets(self.incoming.add(&piece[..count])?)),
+            0 => Ok(None),
+            count => Ok(Some(self.incoming.add(&piece[..count])?)),
         }
     }
 
-    /// Tells its client that it is closed, where its request has come whole.
+    /// Tells its client that it is closed, where its request has come whole. There is no room for it to
+    /// linger: what has come behind its request is dropped, so that this brings no reset.
     pub(crate) fn turn_away<D: Admission<Kind = K>>(self, admission: &mut D) {
-        if let Stage::Ready { kind, refused: _ } = self.stage {
+        if let Stage::Ready { kind } = self.stage {
             admission.turn_away(kind, &self.stream);
+            let _ = end_writing(&self.stream);
         }
     }
 
@@ -154,7 +154,7 @@ impl<K: Copy> Connection<K> {
             mut stream,
             incoming,
             accepted: _,
-            stage,
+            stage: _,
             registered,
         } = self;
         if registered {
@@ -164,7 +164,6 @@ impl<K: Copy> Connection<K> {
             stream: net::TcpStream::from(stream),
             octets: incoming.into_octets(),
             kind,
-            refused: matches!(stage, Stage::Ready { refused: true, .. }),
         })
     }
 }

@@ -27,7 +27,7 @@ pub(crate) struct Connections<K> {
     most: usize,
     // The number of the next one.
     next: usize,
-    // Whether there may be some that wait for more, and of which no event tells yet.
+    // Whether there may be some of which no event tells yet.
     has_new: bool,
     // When the intake was closed.
     closed: Option<Duration>,
@@ -57,7 +57,7 @@ impl<K: Copy> Ready<K> {
         self.places.clear();
         self.kinds.clear();
         for (place, connection) in waiting.iter().enumerate() {
-            if let Stage::Ready { kind, refused: _ } = connection.stage() {
+            if let Stage::Ready { kind } = connection.stage() {
                 let _ = self.places.push(place);
                 let _ = self.kinds.push(kind);
             }
@@ -127,25 +127,28 @@ impl<K: Copy> Connections<K> {
     }
 
     /// Adds a connection that was accepted at this time, and reads it: mostly its request has come
-    /// by then, and no event need tell of it. Where there are as many as may be, one of them is closed.
-    /// The added one is closed where want of memory refuses it.
+    /// by then, and is given on before any event need tell of it. Where there are as many as may be, one of
+    /// them is closed. The added one is closed where it is lost already, or want of memory refuses it.
     pub(crate) fn add<D: Admission<Kind = K>>(
         &mut self,
         stream: TcpStream,
         now: Duration,
         admission: &mut D,
     ) {
+        let alloc = *self.waiting.allocator();
+        let mut connection = Connection::new(alloc, self.next, stream, now);
+        connection.read(admission);
+        if connection.is_lost() {
+            return;
+        }
         if self.is_full() {
             self.close_one(admission);
         }
         if !self.has_room() {
             return;
         }
-        let alloc = *self.waiting.allocator();
-        let mut connection = Connection::new(alloc, self.next, stream, now);
-        connection.read(admission);
         self.next = self.next.wrapping_add(1);
-        self.has_new = self.has_new || connection.is_waiting();
+        self.has_new = true;
         let _ = self.waiting.push(connection);
     }
 
@@ -167,8 +170,8 @@ impl<K: Copy> Connections<K> {
         }
     }
 
-    /// Has events tell of all whose request has not come whole. One of which the system refuses that is
-    /// closed.
+    /// Has events tell of all that wait: of more of their requests, or that they are lost. One whose request
+    /// has not come whole is closed where the system refuses that.
     pub(crate) fn register_new(&mut self, registry: &Registry) {
         if !self.has_new {
             return;
@@ -177,8 +180,7 @@ impl<K: Copy> Connections<K> {
         for connection in self.waiting.iter_mut() {
             connection.register(registry);
         }
-        self.waiting
-            .retain(|connection| !matches!(connection.stage(), Stage::Lost));
+        self.waiting.retain(|connection| !connection.is_lost());
     }
 
     /// Closes the connection that lingers longest, or else the one that has waited longest for its
@@ -211,8 +213,8 @@ impl<K: Copy> Connections<K> {
         waiting.position(|connection| connection.is_waiting())
     }
 
-    /// Takes back a connection that was answered although more of its request may come. Where there
-    /// are as many as may be, the first that lingers is closed, and else this one.
+    /// Takes back a connection that was answered, and whose reads don't wait. Where there are as many as
+    /// may be, the first that lingers is closed, and else this one.
     pub(crate) fn linger(&mut self, registry: &Registry, stream: net::TcpStream, now: Duration) {
         let _ = self.try_linger(registry, stream, now);
     }
@@ -229,7 +231,6 @@ impl<K: Copy> Connections<K> {
             }
             drop(self.lingering.remove(0));
         }
-        stream.set_nonblocking(true)?;
         let mut stream = TcpStream::from_std(stream);
         registry.register(&mut stream, Token(self.next), Interest::READABLE)?;
         let lingering = Lingering::new(self.next, stream, now);

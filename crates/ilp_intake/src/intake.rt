@@ -4,6 +4,7 @@ use crate::admission::Admission;
 use crate::closing::Closing;
 use crate::connections::Connections;
 use crate::limits::{MOST_AT_ONCE, MOST_AT_THE_CLOSE, MOST_EVENTS, MOST_RETURNED, REST_MS};
+use crate::lingering::end_writing;
 use crate::listener::{Listener, NotAccepted};
 use crate::ready::ReadyConnection;
 use crate::times::earlier;
@@ -31,9 +32,8 @@ const LOOK: Token = Token(usize::MAX - 2);
 /// and past that one is closed, where no more than 10,000 a second come, and else later; where the system
 /// has no descriptor for one more, the oldest goes whose request has not come whole; each has 10 seconds
 /// in all for its request, and is closed without an answer then; and its octets take 81,920 of memory at
-/// most, and none while nothing came. One that was answered although more of its request
-/// may come is read for a second more and to 1 MiB, which takes no memory, and counts among those that
-/// wait.
+/// most, and none while nothing came. One that was answered is read on until its client closes it, for a
+/// second and to 1 MiB at most, which takes no memory, and counts among those that wait.
 #[derive(Drop)]
 pub struct Intake<K> {
     poll: Poll,
@@ -75,11 +75,17 @@ impl IntakeHandle {
         let _ = self.look.wake();
     }
 
-    /// Hands back a connection that was answered although more of its request may come. The intake
-    /// reads and drops that for a second at most, and to `MOST_DROPPED` octets, and closes the
-    /// connection then, so that the answer reaches its client. It waits for nobody: where too many are
-    /// on their way, or the intake has ended, the connection is closed at once.
+    /// Hands back a connection that was answered, and whose reads don't wait, so that the answer reaches its
+    /// client whatever that still sends. It is written to no more. Unless its client has ended its side, the
+    /// intake reads and drops what comes for a second at most, and to `MOST_DROPPED` octets, and closes the
+    /// connection once its client does, or then. It waits for nobody: where too many are on their
+    /// way, or the intake has ended, the connection is closed at once, behind a piece of what has come.
     pub fn linger(&self, rt: &impl Wait, stream: TcpStream) {
+        let stream = mio::net::TcpStream::from_std(stream);
+        if !end_writing(&stream) {
+            return;
+        }
+        let stream = TcpStream::from(stream);
         if self.returned.try_send(rt, stream).is_ok() {
             let _ = self.look.wake();
         }
@@ -126,7 +132,8 @@ impl<K: Copy> Intake<K> {
     ) -> io::Result<(Intake<K>, IntakeHandle)> {
         let mut listener = listener;
         let poll = Poll::new(rt)?;
-        let (sender, returned) = bounded(alloc, MOST_RETURNED)?;
+        // Each of these has a descriptor too.
+        let (sender, returned) = bounded(alloc, most.min(MOST_RETURNED).max(1))?;
         let handle = IntakeHandle {
             close: Waker::new(poll.registry(), CLOSE)?,
             look: Waker::new(poll.registry(), LOOK)?,
@@ -196,6 +203,14 @@ impl<K: Copy> Intake<K> {
         self.connections.look_anew(admission);
     }
 
+    /// Closes it now, where it was asked to close while nothing was asked of it. Connections that came
+    /// before are accepted; they are given on, and time counts for them, once the next one is asked for.
+    pub fn close<D: Admission<Kind = K>>(&mut self, admission: &mut D) {
+        let now = self.watch.last();
+        self.accept_pending(now, admission, true);
+        self.stop_listening(now, admission);
+    }
+
     // Waits until events come or a connection's time is up, and handles both.
     fn handle_events<R: Clock + Wait, D: Admission<Kind = K>>(
         &mut self,
@@ -225,11 +240,19 @@ impl<K: Copy> Intake<K> {
             self.accept_pending(now, admission, closing);
         }
         if closing {
-            self.listener = None;
-            self.backlog = Backlog::Empty;
-            self.connections.close(now);
+            self.stop_listening(now, admission);
         }
         self.connections.drop_expired(now);
+    }
+
+    // Accepts no more.
+    fn stop_listening<D: Admission<Kind = K>>(&mut self, now: Duration, admission: &mut D) {
+        self.backlog = Backlog::Empty;
+        if let Some(listener) = self.listener.take() {
+            drop(listener);
+            self.connections.close(now);
+            admission.note_closed();
+        }
     }
 
     // How long to wait for events at most; none for as long as it takes.
@@ -250,8 +273,7 @@ impl<K: Copy> Intake<K> {
         }
     }
 
-    // Takes back connections that were answered although more of their requests may come. There is an
-    // event for each that comes behind these.
+    // Takes back connections that were answered. There is an event for each that comes behind these.
     fn take_returned(&mut self, rt: &impl Wait, now: Duration) {
         for _ in 0..MOST_RETURNED {
             let Ok(stream) = self.returned.try_recv(rt) else {

@@ -16,7 +16,7 @@ pub const ALLOWANCE_MS: u64 = 10_000;
 /// How long a request may still take to come once the intake is closed, in milliseconds.
 pub const GRACE_MS: u64 = 1_000;
 
-/// How long a connection lingers that was answered although more of its request may come, in
+/// How long a connection lingers that was answered, unless its client closes it sooner, in
 /// milliseconds. What comes is read and dropped, so that the answer is not lost by a reset.
 pub const LINGER_MS: u64 = 1_000;
 

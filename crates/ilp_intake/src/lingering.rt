@@ -1,13 +1,25 @@
-//! A connection that was answered although more of its request may come.
+//! A connection that was answered, and whose client may still send.
 
 use crate::limits::{LINGER_MS, MOST_DROPPED, PIECE};
 use mio::net::TcpStream;
 use std::io::{ErrorKind, Read};
+use std::net::Shutdown;
 use std::time::Duration;
 
-/// A connection that was answered although more of its request may come (RFC 9112, section 9.6). What
-/// comes is read and dropped: were it closed with octets unread, the system would send a reset, which
-/// may destroy the answer on its way. It keeps no octets.
+/// Ends this side of a connection that was answered, and reads and drops a piece of what has come of it:
+/// so the client gets its answer, and no reset. Whether more may come.
+pub(crate) fn end_writing(stream: &TcpStream) -> bool {
+    let _ = stream.shutdown(Shutdown::Write);
+    let mut stream = stream;
+    match stream.read(&mut [0; PIECE]) {
+        Ok(count) => count > 0,
+        Err(error) => matches!(error.kind(), ErrorKind::WouldBlock | ErrorKind::Interrupted),
+    }
+}
+
+/// A connection that was answered, and whose client may still send (RFC 9112, section 9.6). What
+/// comes is read and dropped: were it closed with octets unread, or did some come behind that, the system
+/// would send a reset, which may destroy the answer on its way. It keeps no octets.
 #[derive(Drop)]
 pub(crate) struct Lingering {
     // The number by which an event names it.

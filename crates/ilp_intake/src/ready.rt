@@ -3,7 +3,7 @@
 use std::net::TcpStream;
 
 /// A connection whose request has come whole or is refused as it stands, or whose client sends
-/// nothing more.
+/// nothing more. Once it is answered it is to be handed back (`IntakeHandle::linger`).
 #[derive(Drop)]
 pub struct ReadyConnection<K> {
     /// Reads and writes of it don't wait: they fail with `WouldBlock` where they would.
@@ -12,7 +12,4 @@ pub struct ReadyConnection<K> {
     pub octets: Vec<u8>,
     /// Of which kind it is.
     pub kind: K,
-    /// Whether its request was refused as it stands, so that more of it may come. Once it is answered
-    /// it is to be handed back (`IntakeHandle::linger`).
-    pub refused: bool,
 }

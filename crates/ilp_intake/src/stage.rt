@@ -5,9 +5,8 @@
 pub(crate) enum Stage<K> {
     /// Its request has not come whole.
     Waiting,
-    /// It is to be given on, and of this kind. Where its request was refused as it stands, more of it
-    /// may come.
-    Ready { kind: K, refused: bool },
+    /// It is to be given on, and of this kind.
+    Ready { kind: K },
     /// It is to be closed without an answer: a read failed, or memory for its octets was denied.
     Lost,
 }

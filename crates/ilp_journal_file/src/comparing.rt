@@ -10,6 +10,34 @@ pub fn has_text<C: Content>(content: &C, text: &[u8]) -> bool {
     content.put(&mut compared).is_ok() && compared.left.is_empty()
 }
 
+/// Whether what would be written of the content begins with this text.
+pub fn begins_with<C: Content>(content: &C, text: &[u8]) -> bool {
+    let mut compared = Beginning { left: text };
+    content.put(&mut compared).is_ok() && compared.left.is_empty()
+}
+
+// What takes the octets that a text has, from its front on, and behind them all others.
+#[derive(Drop)]
+struct Beginning<'t> {
+    left: &'t [u8],
+}
+
+impl Write for Beginning<'_> {
+    fn write(&mut self, octets: &[u8]) -> io::Result<usize> {
+        let count = octets.len().min(self.left.len());
+        let (here, later) = self.left.split_at(count);
+        if here != &octets[..count] {
+            return Err(io::Error::from(ErrorKind::InvalidData));
+        }
+        self.left = later;
+        Ok(octets.len())
+    }
+
+    fn flush(&mut self) -> io::Result<()> {
+        Ok(())
+    }
+}
+
 // What takes only the octets that a text has, from its front on.
 #[derive(Drop)]
 struct Compared<'t> {

@@ -45,8 +45,8 @@ fn later_journal<'p, R: Files>(rt: &R, path: &'p str) -> Option<&'p str> {
     }
 }
 
-// The number of the period of the text at a path, if a file with one is there.
-fn period_at<R: Files>(rt: &R, path: &str) -> Option<u32> {
+/// The number of the period of the text at a path, if a file with one is there.
+pub(crate) fn period_at<R: Files>(rt: &R, path: &str) -> Option<u32> {
     if !fs::metadata(rt, path).ok()?.is_file() {
         return None;
     }

@@ -13,8 +13,8 @@
 //! - `J.ended` and `J.next` for a moment behind a period that ended in a running connector: the log of that,
 //!   and what the next one begins with. Where both are there, the journal is `J.next` with `J.log`, and `J` and
 //!   `J.ended` are the period before, which is still to be kept as a whole.
-//! - `J.P` for the number P of each period that has ended: its whole text, which is never written again. Beside the
-//!   `J` of a later period it is refused as a journal.
+//! - `J.P` for the number P of each period that has ended: its whole text, which never becomes another. Beside the
+//!   `J` of a later period it is refused as a journal, and so is a `J` beside it that lacks what it has (`last_kept`).
 //!
 //! None of them may be a link or have a second name: else two connectors would have one journal. Where
 //! `J.running` lies there, the mark of an earlier version that kept no log, the journal is refused.
@@ -30,6 +30,8 @@
 mod comparing;
 mod fault;
 mod given;
+mod holding;
+mod kept_periods;
 mod kept_text;
 mod limited;
 mod locking;
@@ -51,8 +53,10 @@ mod system_text;
 mod taking;
 mod writing;
 
-pub use comparing::has_text;
+pub use comparing::{begins_with, has_text};
 pub use fault::FileFault;
+pub use holding::HeldLock;
+pub use kept_periods::last_kept;
 pub use locking::LockFile;
 pub use log_device::LogDevice;
 pub use looking::{Found, look_at};

@@ -2,12 +2,13 @@
 ghost use Rattle.std.specs.Prelude.{[]};
 
 use crate::given::GivenFile;
+use crate::holding::HeldLock;
 use crate::placing::PlacesFiles;
 use crate::reading::TEXT_LIMIT;
 use ilp_accounts::LogSync;
 use ilp_io::{ReadFault, read_to_limit};
 use ilp_line_file::{Device, DeviceFault};
-use ilp_notices::{log_begun, log_unwritten};
+use ilp_notices::{journal_lost, log_begun, log_unwritten};
 use std::alloc::Global;
 use std::fs::{File, OpenFile};
 use std::io;
@@ -17,10 +18,15 @@ use std::time::Clock;
 /// Where a log lies, and what it may be.
 #[derive(Drop)]
 pub(crate) struct LogPlace {
-    /// Its path, as lines tell it.
+    /// The path of its journal, as lines tell it.
+    pub(crate) journal: String,
+    /// Its path, likewise.
     pub(crate) path: String,
     /// What is written, and then takes its place.
     pub(crate) new: String,
+    /// What is locked by whoever has the journal.
+    pub(crate) lock: String,
+    pub(crate) held: HeldLock,
     pub(crate) folder: String,
     /// The rights of its file.
     pub(crate) mode: u32,
@@ -34,8 +40,9 @@ pub(crate) struct LogPlace {
 ///
 /// The first write, cut or sync that fails is told by a line on standard error, and one more line tells of the
 /// first sync once the log was made anew. A log that is removed, moved or cut under a running connector is a
-/// failure too: each write and sync finds that the file has all that it was given, and lies at its path. One
-/// that is made anew is `J.log.new` until it takes the place of `J.log`.
+/// failure too: each write and sync finds that the file has all that it was given, and lies at its path; and that the
+/// file that is locked lies at its own, since else another connector may have the journal: then none of its files is
+/// touched any more, and a line says so. One that is made anew is `J.log.new` until it takes the place of `J.log`.
 #[derive(Drop)]
 pub struct LogDevice<'r, R, F = File> {
     rt: &'r R,
@@ -70,6 +77,7 @@ where
 
     // Makes the new file.
     fn create_anew(&mut self) -> io::Result<()> {
+        self.place.expect_held(self.rt)?;
         let file = GivenFile::create(self.rt, self.place.new.as_str(), self.place.mode)?;
         self.anew = Some(file);
         self.place.most = self.rt.most_octets();
@@ -114,9 +122,11 @@ where
         self.expect_whole()
     }
 
-    // Finds that the file lies at its path, with all that it was given.
+    // Finds that the file lies at its path, with all that it was given, and that the journal is still had: who takes it
+    // now finds there what was kept before.
     fn expect_whole(&self) -> io::Result<()> {
-        self.file.expect_at(self.rt, self.place.path.as_str())
+        self.file.expect_at(self.rt, self.place.path.as_str())?;
+        self.place.expect_held(self.rt)
     }
 }
 
@@ -124,6 +134,7 @@ impl<F: Write + Seek + OpenFile> GivenFile<F> {
     // Takes the name of a log, once the disk has it.
     fn take_name<R: PlacesFiles>(&self, rt: &R, place: &LogPlace) -> io::Result<()> {
         self.sync_all()?;
+        place.expect_held(rt)?;
         rt.put_in_place(
             place.new.as_str(),
             place.path.as_str(),
@@ -132,7 +143,17 @@ impl<F: Write + Seek + OpenFile> GivenFile<F> {
     }
 }
 
-impl<R: Clock + Eprint, F> LogDevice<'_, R, F> {
+impl LogPlace {
+    // Finds that the file that is locked lies at the lock's path.
+    fn expect_held<R: PlacesFiles>(&self, rt: &R) -> io::Result<()> {
+        match self.held.is_at(rt, self.lock.as_str())? {
+            true => Ok(()),
+            false => Err(io::Error::from(ErrorKind::ResourceBusy)),
+        }
+    }
+}
+
+impl<R: PlacesFiles + Clock + Eprint, F> LogDevice<'_, R, F> {
     // Notes that the disk has what was written.
     fn note_kept(&mut self) {
         if self.is_anew {
@@ -148,10 +169,18 @@ impl<R: Clock + Eprint, F> LogDevice<'_, R, F> {
             return Ok(());
         };
         if !self.is_told {
-            log_unwritten(self.rt, self.place.path.as_str(), &error);
+            self.tell(&error);
             self.is_told = true;
         }
         Err(DeviceFault::Failed)
+    }
+
+    fn tell(&self, error: &io::Error) {
+        let place = &self.place;
+        match place.held.is_at(self.rt, place.lock.as_str()) {
+            Ok(false) => journal_lost(self.rt, place.journal.as_str(), place.lock.as_str()),
+            _ => log_unwritten(self.rt, place.path.as_str(), error),
+        }
     }
 }
 

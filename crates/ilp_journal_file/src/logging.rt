@@ -26,7 +26,7 @@ impl<F> JournalFile<F> {
     /// has is on the disk. A line tells when what is written to it will be.
     ///
     /// Refusals: `Unwritten` where it failed, and a line says so: then `J.log` is as it was, or the one with
-    /// these lines alone; `Memory`, and nothing is changed.
+    /// these lines alone; `Unread` where another may have the journal by now, and `Memory`, and nothing is changed.
     pub fn begin_log<'r, R>(
         &self,
         rt: &'r R,
@@ -38,7 +38,8 @@ impl<F> JournalFile<F> {
         R: Files<File = F> + PlacesFiles<File = F> + Clock + Eprint,
         F: Read + Write + Seek + OpenFile + Drop,
     {
-        let place = self.names.log_place(rt, alloc, sync)?;
+        self.expect_held(rt)?;
+        let place = self.log_place(rt, alloc, sync)?;
         match LogDevice::create(rt, place, head) {
             Ok(device) => {
                 log_begun(rt, self.log_path(), sync);
@@ -51,19 +52,28 @@ impl<F> JournalFile<F> {
         }
     }
 
+    /// Whether a log lies beside the journal. Where the system doesn't say, one may.
+    pub fn may_have_log<R: Files>(&self, rt: &R) -> bool {
+        !matches!(fs::exists(rt, self.log_path()), Ok(false))
+    }
+
     /// Removes the log, of which the journal has all. Where there is none nothing is done. Where it can't be
     /// removed, a line says that the next start does it.
-    pub fn remove_log<R: Files + Clock + Eprint>(&self, rt: &R) {
+    pub fn remove_log<R: Files + PlacesFiles + Clock + Eprint>(&self, rt: &R) {
         let _ = self.expect_no_log(rt);
     }
 
-    /// The same, for whoever can't go on beside a log. It is refused as `Unwritten` where it can't be removed.
-    pub fn expect_no_log<R: Files + Clock + Eprint>(&self, rt: &R) -> Result<(), FileFault> {
-        self.names.remove(rt, self.log_path())
+    /// The same, for whoever can't go on beside a log. It is refused as `Unwritten` where it can't be removed, and as
+    /// `Unread` where another may have the journal by now.
+    pub fn expect_no_log<R: Files + PlacesFiles + Clock + Eprint>(
+        &self,
+        rt: &R,
+    ) -> Result<(), FileFault> {
+        self.names.remove_held(rt, self.held, self.log_path())
     }
 }
 
-impl Names {
+impl<F> JournalFile<F> {
     // Where the log lies.
     fn log_place<R: Files>(
         &self,
@@ -71,16 +81,22 @@ impl Names {
         alloc: Global,
         sync: LogSync,
     ) -> Result<LogPlace, AllocError> {
+        let names = &self.names;
         Ok(LogPlace {
-            path: String::from_str(alloc, self.log.as_str())?,
-            new: String::from_str(alloc, self.log_new.as_str())?,
-            folder: String::from_str(alloc, self.folder())?,
-            mode: self.mode(rt),
+            journal: String::from_str(alloc, names.journal.as_str())?,
+            path: String::from_str(alloc, names.log.as_str())?,
+            new: String::from_str(alloc, names.log_new.as_str())?,
+            lock: String::from_str(alloc, names.lock.as_str())?,
+            folder: String::from_str(alloc, names.folder())?,
+            held: self.held,
+            mode: names.mode(rt),
             most: most_octets(rt, alloc),
             sync,
         })
     }
+}
 
+impl Names {
     /// Removes a file that is needed no more, where it is there, and has the system keep that it is gone.
     /// Where it can't be removed a line says so.
     pub(crate) fn remove<R: Files + Clock + Eprint>(

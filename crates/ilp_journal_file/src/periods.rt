@@ -3,8 +3,8 @@
 
 use crate::comparing::has_text;
 use crate::fault::FileFault;
+use crate::placing::PlacesFiles;
 use crate::reading::read;
-use crate::saving::Reached;
 use crate::standing::expect_plain;
 use crate::taking::JournalFile;
 use crate::writing::Content;
@@ -35,11 +35,11 @@ impl<F> JournalFile<F> {
     }
 
     /// Keeps the text of a period that has ended as `J.P` for its number P. It is written as `J.new`, and takes
-    /// the name once the device has it. A `J.P` that has this text already stays. The device has it by its name
-    /// then.
+    /// the name once the device has it; so too where a `J.P` has this text already, since the device may not have
+    /// that by its name. It has then.
     ///
-    /// Refusals: `Unread` where `J.P` has another text, and those of `read_period`; `Unwritten` where it can't be
-    /// written; `Memory`. A line says which. The journal is as it was.
+    /// Refusals: `Unread` where `J.P` has another text, or another may have the journal by now, and those of
+    /// `read_period`; `Unwritten` where it can't be written; `Memory`. A line says which. The journal is as it was.
     pub fn keep_period<R, C>(
         &self,
         rt: &R,
@@ -48,18 +48,15 @@ impl<F> JournalFile<F> {
         content: &C,
     ) -> Result<(), FileFault>
     where
-        R: Files + Clock + Eprint,
+        R: Files + PlacesFiles + Clock + Eprint,
         C: Content,
     {
         let path = self.names.period(alloc, period)?;
         let path = path.as_str();
-        match self.found_period(rt, alloc, period, content)? {
-            FoundPeriod::Same => {}
-            FoundPeriod::None => {
-                unless_unwritten(rt, path, self.replace(rt, alloc, content, path))?;
-            }
-        }
-        unless_unwritten(rt, path, self.names.sync_folder(rt))?;
+        self.expect_free(rt, alloc, period, content)?;
+        self.expect_held(rt)?;
+        self.unless_unwritten(rt, path, self.replace(rt, alloc, content, path))?;
+        self.unless_unwritten(rt, path, self.names.sync_folder(rt))?;
         let journal = self.names.journal.as_str();
         period_kept(rt, journal, period, path, content.entries());
         Ok(())
@@ -79,36 +76,17 @@ impl<F> JournalFile<F> {
         R: Files + Clock + Eprint,
         C: Content,
     {
-        match self.found_period(rt, alloc, period, content) {
-            Ok(_) => Ok(()),
-            Err(fault) => Err(fault),
-        }
-    }
-
-    // What stands where this text of a period is to be kept.
-    fn found_period<R, C>(
-        &self,
-        rt: &R,
-        alloc: Global,
-        period: u32,
-        content: &C,
-    ) -> Result<FoundPeriod, FileFault>
-    where
-        R: Files + Clock + Eprint,
-        C: Content,
-    {
         match self.read_period(rt, alloc, period)? {
-            None => Ok(FoundPeriod::None),
-            Some(text) if has_text(content, &text) => Ok(FoundPeriod::Same),
-            Some(_) => {
+            Some(text) if !has_text(content, &text) => {
                 period_differs(rt, self.names.period(alloc, period)?.as_str());
                 Err(FileFault::Unread)
             }
+            _ => Ok(()),
         }
     }
 
-    /// Removes `J.P` where it has this text, which is the journal's own: a stop came between the two files of a
-    /// next period, so that did not begin, and this one goes on. Any other text stays.
+    /// Removes `J.P` where it has this text, of which the device has all by the journal's name: a stop or a failure
+    /// came between the two files of a next period, so that did not begin, and this one goes on. Any other text stays.
     ///
     /// Refusals: those of `read_period`; `Unwritten` where it can't be removed, and a line says so.
     pub fn forget_period<R, C>(
@@ -119,14 +97,15 @@ impl<F> JournalFile<F> {
         content: &C,
     ) -> Result<(), FileFault>
     where
-        R: Files + Clock + Eprint,
+        R: Files + PlacesFiles + Clock + Eprint,
         C: Content,
     {
         match self.read_period(rt, alloc, period)? {
             Some(text) if has_text(content, &text) => {
                 let path = self.names.period(alloc, period)?;
-                unless_unwritten(rt, path.as_str(), fs::remove_file(rt, path.as_str()))?;
-                unless_unwritten(rt, path.as_str(), self.names.sync_folder(rt))
+                self.expect_held(rt)?;
+                self.unless_unwritten(rt, path.as_str(), fs::remove_file(rt, path.as_str()))?;
+                self.unless_unwritten(rt, path.as_str(), self.names.sync_folder(rt))
             }
             _ => Ok(()),
         }
@@ -135,8 +114,8 @@ impl<F> JournalFile<F> {
     /// Has the text of a period take the place of the journal, whose text is kept elsewhere: as `save` does, but
     /// once.
     ///
-    /// It is refused as `Unwritten` where it failed, and a line says so. Then the journal is as it was, or has
-    /// this text.
+    /// Refusals: `Unread` where another may have the journal by now, and `Unwritten` where it failed, of which a line
+    /// says so. Then the journal is as it was, or has this text.
     pub fn begin_period<R, C>(
         &self,
         rt: &R,
@@ -145,36 +124,29 @@ impl<F> JournalFile<F> {
         content: &C,
     ) -> Result<(), FileFault>
     where
-        R: Files + Clock + Eprint,
+        R: Files + PlacesFiles + Clock + Eprint,
         C: Content,
     {
         let journal = self.names.journal.as_str();
-        let begun = self.go_on(rt, alloc, content, &mut Reached::Nothing);
-        unless_unwritten(rt, journal, begun)?;
+        self.expect_held(rt)?;
+        self.unless_unwritten(rt, journal, self.put_anew(rt, alloc, content))?;
         period_begun(rt, journal, period, content.entries());
         Ok(())
     }
-}
 
-// What stands where the text of a period is to be kept, and may be.
-#[derive(Clone, Copy)]
-enum FoundPeriod {
-    None,
-    // Just that text.
-    Same,
-}
-
-/// What a write came to. One that failed is told.
-pub(crate) fn unless_unwritten<R: Clock + Eprint>(
-    rt: &R,
-    path: &str,
-    written: io::Result<()>,
-) -> Result<(), FileFault> {
-    match written {
-        Ok(()) => Ok(()),
-        Err(error) => {
-            period_unwritten(rt, path, &error);
-            Err(FileFault::Unwritten)
+    /// What a write came to. One that failed is told.
+    pub(crate) fn unless_unwritten<R: Clock + Eprint>(
+        &self,
+        rt: &R,
+        path: &str,
+        written: io::Result<()>,
+    ) -> Result<(), FileFault> {
+        match written {
+            Ok(()) => Ok(()),
+            Err(error) => {
+                period_unwritten(rt, path, self.again, &error);
+                Err(FileFault::Unwritten)
+            }
         }
     }
 }

@@ -4,6 +4,7 @@ use crate::fault::FileFault;
 use crate::limited::Limited;
 use crate::names::Names;
 use crate::noting::Noting;
+use crate::placing::PlacesFiles;
 use crate::standing::expect_no_pipe;
 use crate::taking::JournalFile;
 use ilp_io::{ReadFault, WriteFault, put_all, read_to_limit};
@@ -33,11 +34,13 @@ impl<F> JournalFile<F> {
     /// Has `J.lock` keep this text, until another start has it keep another. Where it has it already
     /// nothing is written.
     ///
-    /// Refusals: `Unwritten` where it can't be written; else those of `remembered`.
+    /// Refusals: `Unwritten` where it can't be written; `Unread` where another may have the journal by now; else those
+    /// of `remembered`.
     pub fn remember<R>(&self, rt: &R, alloc: Global, text: &[u8]) -> Result<(), FileFault>
     where
-        R: Files + Clock + Eprint,
+        R: Files + PlacesFiles + Clock + Eprint,
     {
+        self.expect_held(rt)?;
         if self.names.remembered(rt, alloc)?.as_slice() == text {
             return Ok(());
         }

@@ -2,6 +2,7 @@
 
 use crate::fault::FileFault;
 use crate::limited::Limited;
+use crate::placing::PlacesFiles;
 use crate::taking::JournalFile;
 use crate::writing::{Content, create_anew, write_synced};
 use ilp_notices::{journal_saved, not_saved, not_saved_at_start, not_saved_yet, not_synced};
@@ -19,7 +20,7 @@ const REST: u64 = 1;
 
 /// How far a save has come.
 #[derive(Clone, Copy, PartialEq, Eq)]
-pub(crate) enum Reached {
+enum Reached {
     /// The journal is as at the start.
     Nothing,
     /// It is the new one, and the system may forget that where the machine stops.
@@ -27,39 +28,42 @@ pub(crate) enum Reached {
 }
 
 impl<F> JournalFile<F> {
-    /// Writes the journal at a start: as `save` does, but once, and it leaves the log as it is.
+    /// Writes the journal before a log begins: as `save` does, but once, and it leaves the log as it is.
     ///
-    /// It is refused as `Unwritten` where it failed, and a line says so. Then the journal's text is the one
-    /// from before, or that of the content.
+    /// Refusals: `Unread` where another may have the journal by now, and `Unwritten` where it failed, of which a line
+    /// says so. Then the journal's text is the one from before, or that of the content, which the system may forget where the machine stops.
     pub fn save_at_start<R, C>(&self, rt: &R, alloc: Global, content: &C) -> Result<(), FileFault>
     where
-        R: Files + Clock + Eprint,
+        R: Files + PlacesFiles + Clock + Eprint,
         C: Content,
     {
-        match self.go_on(rt, alloc, content, &mut Reached::Nothing) {
+        self.expect_held(rt)?;
+        match self.put_anew(rt, alloc, content) {
             Ok(()) => Ok(()),
             Err(error) => {
-                not_saved_at_start(rt, self.names.journal.as_str(), &error);
+                not_saved_at_start(rt, self.names.journal.as_str(), self.again, &error);
                 Err(FileFault::Unwritten)
             }
         }
     }
 
     /// Writes the journal, and removes the log. `J.new` is written and takes the place of `J` as a whole,
-    /// with its rights. Where that fails, it is tried again each second for a minute. The log goes only once
+    /// with its rights. Where that fails, all of it is done again each second for a minute. The log goes only once
     /// the device has the journal by its name; where it can't be removed, the journal is saved all the same.
     ///
-    /// It is refused as `Unwritten` where it failed to the last. A line says which: `J` is as it was, and
-    /// `J.new` has what could be written; or `J` is the new one. In each case the log is left.
+    /// Refusals: `Unread` where another may have the journal by now, as a line says; `Unwritten` where it failed to the
+    /// last. A line says which: `J` is as it was, and `J.new` has what could be written; or `J` is the new one. In each
+    /// case the log is left.
     pub fn save<R, C>(&self, rt: &R, alloc: Global, content: &C) -> Result<(), FileFault>
     where
-        R: Files + Clock + Eprint,
+        R: Files + PlacesFiles + Clock + Eprint,
         C: Content,
     {
+        self.expect_held(rt)?;
         // What was begun for a log anew may have the last of the disk's room.
         let _ = fs::remove_file(rt, self.names.log_new.as_str());
         let mut reached = Reached::Nothing;
-        match self.go_on_patiently(rt, alloc, content, &mut reached) {
+        match self.put_patiently(rt, alloc, content, &mut reached) {
             Ok(()) => {
                 journal_saved(rt, self.names.journal.as_str(), content.entries());
                 self.remove_log(rt);
@@ -72,8 +76,8 @@ impl<F> JournalFile<F> {
         }
     }
 
-    // As `go_on`, and where that fails again each second for a minute. The error is the last one.
-    fn go_on_patiently<R, C>(
+    // As `put_anew`, and where that fails again each second for a minute. The error is the last one.
+    fn put_patiently<R, C>(
         &self,
         rt: &R,
         alloc: Global,
@@ -84,14 +88,14 @@ impl<F> JournalFile<F> {
         R: Files + Clock + Eprint,
         C: Content,
     {
-        let mut last = match self.go_on(rt, alloc, content, reached) {
+        let mut last = match self.put_reaching(rt, alloc, content, reached) {
             Ok(()) => return Ok(()),
             Err(error) => error,
         };
         not_saved_yet(rt, self.names.journal.as_str(), &last);
         for _try in 0..TRIES {
             sleep(rt, Duration::from_secs(REST));
-            match self.go_on(rt, alloc, content, reached) {
+            match self.put_reaching(rt, alloc, content, reached) {
                 Ok(()) => return Ok(()),
                 Err(error) => last = error,
             }
@@ -99,8 +103,9 @@ impl<F> JournalFile<F> {
         Err(last)
     }
 
-    /// Goes on with a save from where it is: what has taken the journal's place is not written again.
-    pub(crate) fn go_on<R, C>(
+    // Writes the journal anew, and tells how far that comes. It begins from the front also behind a call that failed:
+    // what a sync was to write that failed is lost, and no later one writes it.
+    fn put_reaching<R, C>(
         &self,
         rt: &R,
         alloc: Global,
@@ -111,11 +116,18 @@ impl<F> JournalFile<F> {
         R: Files,
         C: Content,
     {
-        if *reached == Reached::Nothing {
-            self.replace(rt, alloc, content, self.names.journal.as_str())?;
-            *reached = Reached::Name;
-        }
+        self.replace(rt, alloc, content, self.names.journal.as_str())?;
+        *reached = Reached::Name;
         self.names.sync_folder(rt)
+    }
+
+    /// Writes the journal anew. It is on the device by its name then.
+    pub(crate) fn put_anew<R, C>(&self, rt: &R, alloc: Global, content: &C) -> io::Result<()>
+    where
+        R: Files,
+        C: Content,
+    {
+        self.put_reaching(rt, alloc, content, &mut Reached::Nothing)
     }
 
     /// Writes `J.new`, and gives it this name once the device has it.

@@ -2,7 +2,7 @@
 //! what the journal's text lacks until the period is kept as a whole.
 
 use crate::fault::FileFault;
-use crate::periods::unless_unwritten;
+use crate::placing::PlacesFiles;
 use crate::reading::read;
 use crate::taking::JournalFile;
 use crate::writing::Content;
@@ -39,7 +39,8 @@ impl<F> JournalFile<F> {
     /// `J` and the log have all of the period that ended. `J.next` is written; once the device has it by its name,
     /// `J.log` becomes `J.ended`, and from then on the journal is `J.next`.
     ///
-    /// It is refused as `Unwritten` where it failed, and a line says so. Then `J` is as it was, and the log has its
+    /// It is refused as `Unwritten` where it failed, and as `Unread` where another may have the journal by now. A line
+    /// says so. Then `J` is as it was, and the log has its
     /// name or the other one.
     pub fn set_aside<R, C>(
         &self,
@@ -49,13 +50,14 @@ impl<F> JournalFile<F> {
         content: &C,
     ) -> Result<(), FileFault>
     where
-        R: Files + Clock + Eprint,
+        R: Files + PlacesFiles + Clock + Eprint,
         C: Content,
     {
         let next = self.names.next.as_str();
-        unless_unwritten(rt, next, self.replace(rt, alloc, content, next))?;
-        unless_unwritten(rt, next, self.names.sync_folder(rt))?;
-        unless_unwritten(rt, self.names.ended.as_str(), self.rename_log(rt))?;
+        self.expect_held(rt)?;
+        self.unless_unwritten(rt, next, self.replace(rt, alloc, content, next))?;
+        self.unless_unwritten(rt, next, self.names.sync_folder(rt))?;
+        self.unless_unwritten(rt, self.names.ended.as_str(), self.rename_log(rt))?;
         period_begun(rt, self.names.journal.as_str(), period, content.entries());
         Ok(())
     }
@@ -70,29 +72,47 @@ impl<F> JournalFile<F> {
 
     /// Has `J.ended` be the log again, where the next period did not begin.
     ///
-    /// It is refused as `Unwritten` where it failed, and a line says so.
-    pub fn take_back<R: Files + Clock + Eprint>(&self, rt: &R) -> Result<(), FileFault> {
+    /// It is refused as `Unwritten` where it failed, and as `Unread` where another may have the journal by now. A line
+    /// says so.
+    pub fn take_back<R: Files + PlacesFiles + Clock + Eprint>(
+        &self,
+        rt: &R,
+    ) -> Result<(), FileFault> {
         let (ended, log) = (self.names.ended.as_str(), self.names.log.as_str());
-        unless_unwritten(rt, log, fs::rename(rt, ended, log))?;
-        unless_unwritten(rt, log, self.names.sync_folder(rt))
+        self.expect_held(rt)?;
+        self.unless_unwritten(rt, log, fs::rename(rt, ended, log))?;
+        self.unless_unwritten(rt, log, self.names.sync_folder(rt))
     }
 
     /// Has `J.next` take the place of `J`, whose period is kept.
     ///
-    /// It is refused as `Unwritten` where it failed, and a line says so.
-    pub fn begin_next<R: Files + Clock + Eprint>(&self, rt: &R) -> Result<(), FileFault> {
+    /// It is refused as `Unwritten` where it failed, and as `Unread` where another may have the journal by now. A line
+    /// says so.
+    pub fn begin_next<R: Files + PlacesFiles + Clock + Eprint>(
+        &self,
+        rt: &R,
+    ) -> Result<(), FileFault> {
         let (next, journal) = (self.names.next.as_str(), self.names.journal.as_str());
-        unless_unwritten(rt, journal, fs::rename(rt, next, journal))?;
-        unless_unwritten(rt, journal, self.names.sync_folder(rt))
+        self.expect_held(rt)?;
+        self.unless_unwritten(rt, journal, fs::rename(rt, next, journal))?;
+        self.unless_unwritten(rt, journal, self.names.sync_folder(rt))
     }
 
     /// Removes `J.ended`, whose period is kept. Where it can't be removed, a line says so.
-    pub fn remove_ended<R: Files + Clock + Eprint>(&self, rt: &R) -> Result<(), FileFault> {
-        self.names.remove(rt, self.names.ended.as_str())
+    pub fn remove_ended<R: Files + PlacesFiles + Clock + Eprint>(
+        &self,
+        rt: &R,
+    ) -> Result<(), FileFault> {
+        let ended = self.names.ended.as_str();
+        self.names.remove_held(rt, self.held, ended)
     }
 
     /// Removes `J.next` where it is there, with which no period has begun. Where it can't be removed, a line says so.
-    pub fn forget_next<R: Files + Clock + Eprint>(&self, rt: &R) -> Result<(), FileFault> {
-        self.names.remove(rt, self.names.next.as_str())
+    pub fn forget_next<R: Files + PlacesFiles + Clock + Eprint>(
+        &self,
+        rt: &R,
+    ) -> Result<(), FileFault> {
+        let next = self.names.next.as_str();
+        self.names.remove_held(rt, self.held, next)
     }
 }

@@ -1,9 +1,11 @@
 //! Taking a journal's file, so that no other connector has it.
 
 use crate::fault::FileFault;
+use crate::holding::HeldLock;
 use crate::locking::LockFile;
 use crate::names::Names;
-use ilp_notices::{journal_in_use, journal_not_locked, left_unsaved, not_made};
+use crate::placing::PlacesFiles;
+use ilp_notices::{Again, journal_in_use, journal_not_locked, left_unsaved, not_made};
 use std::alloc::{AllocError, Global};
 use std::fs::{File, OpenOptions, TryLockError};
 use std::io::Eprint;
@@ -22,6 +24,10 @@ const REST: u64 = 50;
 #[derive(Drop)]
 pub struct JournalFile<F = File> {
     pub(crate) names: Names,
+    /// Who does again what can't be written, as lines tell it.
+    pub(crate) again: Again,
+    /// Which file is locked.
+    pub(crate) held: HeldLock,
     // The system unlocks it when it is closed, however the program ends.
     lock: F,
 }
@@ -35,7 +41,7 @@ impl<F: LockFile> JournalFile<F> {
     /// the kept text of a period that has ended, another connector has it, or `J.running` is there; `Memory`.
     pub fn take<R>(rt: &R, alloc: Global, path: &str) -> Result<JournalFile<F>, FileFault>
     where
-        R: Files<File = F> + Clock + Eprint,
+        R: Files<File = F> + PlacesFiles<File = F> + Clock + Eprint,
     {
         let names = Names::of(alloc, path)?;
         names.expect_named(rt)?;
@@ -49,24 +55,90 @@ impl<F: LockFile> JournalFile<F> {
             }
         };
         names.expect_locked(rt, lock_patiently(rt, &lock))?;
+        let held = names.held_by(rt, &lock)?;
         names.expect_saved(rt)?;
         if let Ok(true) = fs::exists(rt, names.new.as_str()) {
             left_unsaved(rt, names.new.as_str());
         }
-        Ok(JournalFile { names, lock })
+        Ok(JournalFile {
+            names,
+            again: Again::ByCommand,
+            held,
+            lock,
+        })
+    }
+}
+
+impl<F> JournalFile<F> {
+    /// The same for a connector that serves: what it can't write it does again by itself, and lines say so.
+    pub fn serving(self) -> JournalFile<F> {
+        let JournalFile {
+            names,
+            again: _,
+            held,
+            lock,
+        } = self;
+        JournalFile {
+            names,
+            again: Again::ByItself,
+            held,
+            lock,
+        }
     }
 }
 
 impl JournalFile<()> {
-    /// The files of a journal at this path that another value of this process has taken, or of one that is only
-    /// read.
+    /// The files of a journal at this path of which another value of this process holds the lock.
+    pub fn held_elsewhere(
+        alloc: Global,
+        path: &str,
+        held: HeldLock,
+    ) -> Result<JournalFile<()>, AllocError> {
+        let names = Names::of(alloc, path)?;
+        Ok(JournalFile {
+            names,
+            again: Again::ByItself,
+            held,
+            lock: (),
+        })
+    }
+
+    /// The files of a journal at this path that is only read: nothing of it can be changed.
     pub fn untaken(alloc: Global, path: &str) -> Result<JournalFile<()>, AllocError> {
         let names = Names::of(alloc, path)?;
-        Ok(JournalFile { names, lock: () })
+        Ok(JournalFile {
+            names,
+            again: Again::ByCommand,
+            held: HeldLock::NONE,
+            lock: (),
+        })
     }
 }
 
 impl Names {
+    // What is held by whoever has locked this file, which lay at the lock's path.
+    //
+    // It is refused as `Unread` where another lies there now, and where the system doesn't say which it is.
+    fn held_by<R: PlacesFiles + Clock + Eprint>(
+        &self,
+        rt: &R,
+        lock: &R::File,
+    ) -> Result<HeldLock, FileFault> {
+        let held = match rt.identity(lock) {
+            Ok(identity) => HeldLock::of(identity),
+            Err(error) => {
+                journal_not_locked(rt, self.lock.as_str(), &error);
+                return Err(FileFault::Unread);
+            }
+        };
+        match held.is_at(rt, self.lock.as_str()) {
+            Ok(true) => return Ok(held),
+            Ok(false) => journal_in_use(rt, self.journal.as_str()),
+            Err(error) => journal_not_locked(rt, self.lock.as_str(), &error),
+        }
+        Err(FileFault::Unread)
+    }
+
     /// Finds that a lock was had.
     ///
     /// It is refused as `Unread` where it wasn't.

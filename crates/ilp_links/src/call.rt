@@ -3,6 +3,7 @@ ghost use Rattle.std.specs.Prelude.{◌<◌, length};
 
 use crate::exchange::{Arrived, Exchange};
 use crate::no_answer::{Failure, NoAnswer};
+use crate::reply_room::ReplyRoom;
 use crate::time_left::time_left;
 use ilp_accounts::Config;
 use ilp_client::{message_head, message_reply, messages_target, packet_head, packet_reply};
@@ -32,8 +33,7 @@ pub struct Outside<'c, R> {
 /// A peer is called until the deadline, of which what is left is found once, by the clock, and counts
 /// for an hour at most; an engine for 10 seconds. Connecting has a second of it. Why nothing came that
 /// can be used is told to the notices: a `host` that is no `IP:PORT`; a peer that isn't reached, gives
-/// no answer in time, none that is a response of HTTP, or another status than 200; want of memory for
-/// the answer. A line on a packet that the peer may have fulfilled names its hold. What a 200 of a peer
+/// no answer in time, none that is a response of HTTP, or another status than 200. A line on a packet that the peer may have fulfilled names its hold. What a 200 of a peer
 /// has is handed on, whatever it is, and the notices are told whether it is a Fulfill or a Reject.
 #[derive(Drop)]
 pub struct Call {
@@ -190,8 +190,15 @@ impl Call {
         }
     }
 
-    /// Goes on as far as it can without waiting: these octets are handed over, and what comes is read.
-    /// Where more has to come, events of the token tell when. Once it is over it is not to go on.
+    /// Whether what comes stays unread, since there was no memory for it and no room. No event tells when
+    /// there is: it is to go on when memory or the room may be there again.
+    pub fn is_unread(&self) -> bool {
+        self.exchange.is_unread()
+    }
+
+    /// Goes on as far as it can without waiting: these octets are handed over, and what comes is read, in
+    /// the room where memory for it is denied. Where more has to come, events of the token tell when. Once
+    /// it is over it is not to go on.
     pub fn go_on<R: Net + Clock + Eprint>(
         &mut self,
         outside: &Outside<'_, R>,
@@ -199,8 +206,10 @@ impl Call {
         token: Token,
         octets: &[u8],
         buffer: &mut Buffer,
+        room: &mut ReplyRoom,
     ) -> Came {
-        let Some(came) = self.advance(outside.config, registry, token, octets, buffer) else {
+        let config = outside.config;
+        let Some(came) = self.advance(config, registry, token, octets, buffer, room) else {
             return Came::NotYet;
         };
         outside.wait_no_more(self.whom);
@@ -220,19 +229,20 @@ impl Call {
         token: Token,
         octets: &[u8],
         buffer: &mut Buffer,
+        room: &mut ReplyRoom,
     ) -> Option<Result<Arrived, NoAnswer>> {
         match self.whom {
             Whom::Peer { to, hold: _ } if to < config.peers() => {
                 let head = packet_head(config, to);
                 self.exchange
-                    .advance(registry, token, &head, octets, buffer)
+                    .advance(registry, token, &head, octets, buffer, room)
             }
             Whom::EngineOf(peer) if peer < config.peers() => {
                 let engine = config.engine(peer).unwrap_or("");
                 let target = messages_target(config, peer);
                 let head = message_head(engine, &target);
                 self.exchange
-                    .advance(registry, token, &head, octets, buffer)
+                    .advance(registry, token, &head, octets, buffer, room)
             }
             _ => Some(Err(NoAnswer::NoPlace)),
         }

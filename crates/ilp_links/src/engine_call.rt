@@ -4,6 +4,7 @@ ghost use Rattle.std.specs.Prelude.{◌<◌, length, IfSome};
 use crate::call::{ENGINE_WAIT, Outside};
 use crate::exchange::Exchange;
 use crate::no_answer::NoAnswer;
+use crate::reply_room::ReplyRoom;
 use ilp_accounts::Config;
 use ilp_client::{
     account_head, account_text, has_account, settlement_head, settlement_reply, settlements_target,
@@ -153,7 +154,8 @@ impl EngineCall {
         Some(self.said(outside, came))
     }
 
-    // The status of the response, once it is whole, or why none comes.
+    // The status of the response, once it is whole, or why none comes. There is no room for one that finds
+    // no memory: the engine is asked again under the same key, so nothing is lost.
     fn go_on<R: Net + Clock + Eprint>(
         &mut self,
         outside: &Outside<'_, R>,
@@ -163,7 +165,13 @@ impl EngineCall {
         buffer: &mut Buffer,
     ) -> Option<Result<u16, NoAnswer>> {
         let body = self.body.as_slice();
-        let came = self.exchange.advance(registry, token, head, body, buffer)?;
+        let exchange = &mut self.exchange;
+        let mut room = ReplyRoom::none(outside.config.allocator());
+        let came = match exchange.advance(registry, token, head, body, buffer, &mut room) {
+            Some(came) => came,
+            None if exchange.is_unread() => Err(NoAnswer::NoMemory),
+            None => return None,
+        };
         outside.notices.engine_is_over(self.of);
         Some(came.map(|arrived| arrived.status))
     }

@@ -18,12 +18,15 @@ mod engine_call;
 mod exchange;
 mod links;
 mod no_answer;
+mod reply_room;
 mod resumed;
+mod so_far;
 mod system_clock;
 mod time_left;
 
 pub use call::{Call, Came, Outside};
 pub use engine_call::EngineCall;
 pub use links::{Links, TcpLinks};
+pub use reply_room::ReplyRoom;
 pub use resumed::Resumed;
 pub use system_clock::SystemClock;

@@ -21,8 +21,9 @@
 //! - Once a call of the device has failed, each commit fails. `OpenLog::mend` writes the whole log anew then,
 //!   into a new file that takes the place of this one, and goes on behind it: a crash at any moment of that
 //!   leaves what was written before, and a beginning of the desk's journal, as one of a commit does.
-//! - `Log::commit` tells the same of one who waited for another's sync. That its threads write in turns, and that
-//!   each who waits is called, is order and time, of which no clause speaks (`Turns`).
+//! - `Log::commit` tells the same of one who waited for another's sync. That its threads write in turns, that each
+//!   who waits is called, and that nobody waits for a log that is mended, is order and time, of which no clause
+//!   speaks (`Turns`).
 //! - `log_texts_have_the_lines_of_journal_texts`: behind its head a log's text is the lines that the
 //!   journal's text has of the same entries.
 #![tactic(auto)]

@@ -1,6 +1,7 @@
 //! Whose turn it is to write a log, and who waits for whom.
-ghost use Rattle.std.specs.Prelude.{◌≤◌, IfSome};
+ghost use Rattle.std.specs.Prelude.{◌≤◌, IfOk, IfSome};
 
+use crate::fault::LogFault;
 use crate::naming::LogNaming;
 use crate::open_log::OpenLog;
 use crate::pass::Pass;
@@ -37,6 +38,8 @@ pub(crate) struct Turns<J: Naming, K: LogNaming, D: Device + Drop> {
 struct Turn<J: Naming, K: LogNaming, D: Device + Drop> {
     number: u64,
     goes_on: bool,
+    // Whether nobody waits for it, since it writes a log anew that has failed.
+    mends: bool,
     // How many threads wait for this turn or the next.
     waiting: u32,
     // Passes that were made at the end of a turn and that nobody has taken. A turn brings the heap.
@@ -55,9 +58,9 @@ impl<J: Naming, K: LogNaming, D: Device + Drop> Turns<J, K, D> {
     }
 
     /// Waits for a pass by which so many entries are on the disk. Without one it is the caller's turn, who is to
-    /// end it.
-    pub(crate) fn wait(&self, rt: &impl Wait, upto: u32) -> Option<Pass<J, K, D>>
-        ensures enough { IfSome result (λ pass. upto ≤ pass.count) }
+    /// end it. It is refused as `Failed`, and is nobody's turn, where the one that goes on writes a log anew.
+    pub(crate) fn wait(&self, rt: &impl Wait, upto: u32) -> Result<Option<Pass<J, K, D>>, LogFault>
+        ensures enough { IfOk result (λ mine. IfSome mine (λ pass. upto ≤ pass.count)) }
     {
         let mut turn = self.turn.lock(rt);
         // The next turn serves it at the latest.
@@ -71,10 +74,13 @@ impl<J: Naming, K: LogNaming, D: Device + Drop> Turns<J, K, D> {
                     // It may be the one that was called for that turn, and needs none.
                     self.place(mine).notify_one();
                 }
-                return Some(pass);
+                return Ok(Some(pass));
+            }
+            if turn.mends {
+                return Err(LogFault::Failed);
             }
             if turn.begin() {
-                return None;
+                return Ok(None);
             }
             mine = mine.max(turn.number);
             let may_look = turn.waiting == 0 && !has_looked;
@@ -87,7 +93,15 @@ impl<J: Naming, K: LogNaming, D: Device + Drop> Turns<J, K, D> {
             has_looked = true;
             turn.waiting = turn.waiting.saturating_sub(1);
         }
-        None
+        Ok(None)
+    }
+
+    /// Sends away who waits for the turn that goes on or the next, and who comes before its end: it writes a log
+    /// anew, by which nothing of theirs is kept sooner.
+    pub(crate) fn send_away(&self, rt: &impl Wait) {
+        self.turn.lock(rt).mends = true;
+        self.even.notify_all();
+        self.odd.notify_all();
     }
 
     // Frees the lock and looks for a while whether the turn is over.
@@ -120,6 +134,7 @@ impl<J: Naming, K: LogNaming, D: Device + Drop> Turns<J, K, D> {
             turn.serve(rt, alloc, desk, log);
         }
         turn.goes_on = false;
+        turn.mends = false;
         self.over.store(turn.number, Ordering::SeqCst);
         turn.number
     }
@@ -145,6 +160,7 @@ impl<J: Naming, K: LogNaming, D: Device + Drop> Turn<J, K, D> {
         Turn {
             number: 0,
             goes_on: false,
+            mends: false,
             waiting: 0,
             passes: None,
         }

@@ -65,16 +65,15 @@ pub(crate) fn answered_peer<J: Naming, R: Wait + time::Clock + Eprint>(
     responds(shared, Response::to_message(alloc, octets), now)
 }
 
-/// A connection whose service is over gives its place back. The client of a request that was refused may
-/// still be sending it: what comes is read on elsewhere for a moment, since a connection that is closed
-/// before it was read takes the answer with it.
+/// A connection whose service is over gives its place back. Its client may still send: what comes is read on
+/// elsewhere for a moment, since a connection that is closed before it was read takes the answer with it.
 pub(crate) fn leave<J: Naming, R: Wait>(
     shared: &Shared<'_, J, R>,
     registry: &Registry,
     guest: Guest<J>,
 ) {
-    let work = guest.work;
-    if let Some((side, stream)) = guest.into_lingering(registry) {
+    let (side, work) = (guest.side, guest.work);
+    if let Some(stream) = guest.into_stream(registry) {
         shared.intakes.linger(shared.rt, side, stream);
     }
     give_back(shared, work);
@@ -86,10 +85,23 @@ pub(crate) fn ask_reload<J: Naming, R: Wait>(
     registry: &Registry,
     guest: Guest<J>,
 ) {
-    let work = guest.work;
+    let (side, work) = (guest.side, guest.work);
     match guest.into_stream(registry) {
-        Some(stream) => shared.reloading.ask(shared.rt, Asker::new(stream)),
+        Some(stream) => shared.reloading.ask(shared.rt, Asker::new(side, stream)),
         None => shared.reloading.free(),
+    }
+    give_back(shared, work);
+}
+
+/// A connection leaves to wait until the connector accepts nobody any more, and gives its place back.
+pub(crate) fn ask_close<J: Naming, R: Wait + time::Clock>(
+    shared: &Shared<'_, J, R>,
+    registry: &Registry,
+    guest: Guest<J>,
+) {
+    let (side, work) = (guest.side, guest.work);
+    if let Some(stream) = guest.into_stream(registry) {
+        shared.intakes.close(shared.rt, Asker::new(side, stream));
     }
     give_back(shared, work);
 }

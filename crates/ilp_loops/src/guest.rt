@@ -1,5 +1,6 @@
 //! A connection that a loop serves.
 
+use crate::late::ToldBy;
 use ilp_desk::Naming;
 use ilp_intake::ReadyConnection;
 use ilp_links::{Call, Resumed};
@@ -9,7 +10,7 @@ use mio::net::TcpStream;
 use mio::{Interest, Registry, Token};
 use std::io::ErrorKind;
 use std::net;
-use std::net::{IpAddr, Shutdown};
+use std::net::IpAddr;
 use std::time::Duration;
 
 // How long a client may take for a response that it doesn't take at once, in milliseconds.
@@ -21,9 +22,9 @@ pub(crate) struct Guest<J: Naming> {
     pub(crate) side: Side,
     pub(crate) work: Work,
     pub(crate) stage: Stage<J>,
+    /// Of a packet that is held.
+    pub(crate) told_by: Option<ToldBy>,
     stream: TcpStream,
-    // Whether its request was refused as it stands, so that more of it may come.
-    refused: bool,
     // Whether events tell of it.
     registered: bool,
 }
@@ -110,14 +111,13 @@ impl<J: Naming> Guest<J> {
             stream,
             octets,
             kind,
-            refused,
         } = connection;
         let guest = Guest {
             side,
             work: kind,
             stage: Stage::Over,
+            told_by: None,
             stream: TcpStream::from_std(stream),
-            refused,
             registered: false,
         };
         (guest, octets)
@@ -160,34 +160,13 @@ impl<J: Naming> Guest<J> {
             side: _,
             work: _,
             stage: _,
+            told_by: _,
             mut stream,
-            refused: _,
             registered,
         } = self;
         if registered && registry.deregister(&mut stream).is_err() {
             return None;
         }
         Some(net::TcpStream::from(stream))
-    }
-
-    /// The connection, where more of its request may come, so that it is to linger. It is not written to
-    /// any more.
-    pub(crate) fn into_lingering(self, registry: &Registry) -> Option<(Side, net::TcpStream)> {
-        let Guest {
-            side,
-            work: _,
-            stage: _,
-            mut stream,
-            refused,
-            registered,
-        } = self;
-        if !refused {
-            return None;
-        }
-        let _ = stream.shutdown(Shutdown::Write);
-        if registered && registry.deregister(&mut stream).is_err() {
-            return None;
-        }
-        Some((side, net::TcpStream::from(stream)))
     }
 }

@@ -12,6 +12,7 @@
 mod answers;
 mod deeds;
 mod guest;
+mod late;
 mod payouts;
 mod serving;
 mod turn;

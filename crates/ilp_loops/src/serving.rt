@@ -1,16 +1,19 @@
 //! What a loop does for the connections that it serves.
 mod going_on;
 mod turn_end;
+mod unread;
 
 ghost use Rattle.std.specs.Prelude.{◌≡◌};
 ghost use Rattle.ilp_server.specs.Course.{IsOfKnownPeer};
 
-use crate::answers::{answered_message, answered_peer, ask_reload, give_back, responds};
+use crate::answers::{answered_message, answered_peer, ask_close, ask_reload, give_back, responds};
 use crate::guest::{Guest, Stage};
+use crate::late::ToldBy;
 use crate::payouts::{pause_payouts, paused_lines, resume_payouts};
 use ilp_desk::{End, Naming};
 use ilp_flight::Flight;
 use ilp_http::Buffer;
+use ilp_links::ReplyRoom;
 use ilp_notices::SentHold;
 use ilp_oer::Octets;
 use ilp_server::{Course, NotServed, Response, Side, begin_request};
@@ -37,6 +40,9 @@ pub(crate) struct Serving<J: Naming, C: Clock + Drop, K: Keeper<J> + Drop> {
     // Whether a packet was begun in this turn.
     has_begun: bool,
     buffer: Buffer,
+    // Where a reply is read that finds no memory, and whether one is unread since that wasn't there either.
+    room: ReplyRoom,
+    has_unread: bool,
     // None of them is to be looked at before.
     due: Option<Duration>,
 }
@@ -58,6 +64,8 @@ impl<J: Naming, C: Clock + Drop, K: Keeper<J> + Drop> Serving<J, C, K> {
             over: Vec::new(alloc),
             has_begun: false,
             buffer: Buffer::new(alloc)?,
+            room: ReplyRoom::new(alloc)?,
+            has_unread: false,
             due: None,
         })
     }
@@ -65,11 +73,6 @@ impl<J: Naming, C: Clock + Drop, K: Keeper<J> + Drop> Serving<J, C, K> {
     /// Whether no connection is served.
     pub(crate) fn is_idle(&self) -> bool {
         self.guests.is_empty()
-    }
-
-    /// When one of them is to be looked at, whatever comes.
-    pub(crate) fn due(&self) -> Option<Duration> {
-        self.due
     }
 
     /// What the worker hands in.
@@ -102,6 +105,11 @@ impl<J: Naming, C: Clock + Drop, K: Keeper<J> + Drop> Serving<J, C, K> {
             self.begin_reload(shared, registry, place, now);
             return;
         }
+        if is_close(&course) {
+            self.begin_close(shared, registry, place);
+            return;
+        }
+        self.note_held(shared, &course, place);
         let stage = self.begin(shared, course, now);
         self.go_on_from(shared, registry, place, stage, now);
     }
@@ -143,6 +151,33 @@ impl<J: Naming, C: Clock + Drop, K: Keeper<J> + Drop> Serving<J, C, K> {
         match self.guests.try_remove(place) {
             Some(guest) => ask_reload(shared, registry, guest),
             None => shared.reloading.free(),
+        }
+    }
+
+    // Has the connector close for the connection at this place, which leaves the loop.
+    fn begin_close<R: Wait + time::Clock>(
+        &mut self,
+        shared: &Shared<'_, J, R>,
+        registry: &Registry,
+        place: usize,
+    ) {
+        if let Some(guest) = self.guests.try_remove(place) {
+            ask_close(shared, registry, guest);
+        }
+    }
+
+    // Notes by when the connection at this place is to be told a Fulfill, where its request is a packet that is
+    // held.
+    fn note_held<R>(&mut self, shared: &Shared<'_, J, R>, course: &Course, place: usize) {
+        let Course::Packet { sender: _, key } = course else {
+            return;
+        };
+        let flight = &self.flight;
+        if let (Some(pending), Some(guest)) = (
+            flight.waiting.get(*key),
+            self.guests.get_mut(place),
+        ) {
+            guest.told_by = Some(ToldBy::of(shared.desk.config(), &pending.prepare()));
         }
     }
 
@@ -232,5 +267,13 @@ impl<J: Naming, C: Clock + Drop, K: Keeper<J> + Drop> Serving<J, C, K> {
             Some(booked) => Stage::Booked { sender, booked },
             None => Stage::Over,
         }
+    }
+}
+
+// Whether the connector is to close for a request.
+fn is_close(course: &Course) -> bool {
+    match course {
+        Course::Answered(response) => response.closes(),
+        _ => false,
     }
 }

@@ -107,6 +107,7 @@ impl<J: Naming, C: Clock + Drop, K: Keeper<J> + Drop> ServingLoop<J, C, K> {
         self.wait(shared, jobs);
         let now = monotonic(shared.rt);
         let registry = self.seat.poll.registry();
+        self.serving.read_unread(shared, registry, now);
         for event in self.seat.events.iter() {
             if event.token() != BELL {
                 let Token(place) = event.token();
@@ -130,8 +131,9 @@ impl<J: Naming, C: Clock + Drop, K: Keeper<J> + Drop> ServingLoop<J, C, K> {
 
     // Waits for events, unless there are jobs.
     fn wait<R: Wait + time::Clock>(&mut self, shared: &Shared<'_, J, R>, jobs: &Receiver<Job>) {
-        let left = match self.serving.due() {
-            Some(due) => Some(due.saturating_sub(monotonic(shared.rt))),
+        let now = monotonic(shared.rt);
+        let left = match self.serving.due(now) {
+            Some(due) => Some(due.saturating_sub(now)),
             None => None,
         };
         shared.bells.rest(self.seat.number);

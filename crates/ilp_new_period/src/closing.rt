@@ -6,7 +6,7 @@ use crate::left_out::tell_left_out;
 use crate::printing::print_period;
 use ilp_accounts::Config;
 use ilp_book::{Book, CarryFault, ForwardFault};
-use ilp_journal_file::{JournalFile, PlacesFiles, has_text};
+use ilp_journal_file::{FileFault, JournalFile, PlacesFiles, has_text};
 use ilp_journal_text::JournalText;
 use ilp_starting::{BookFile, Refused, RunFault, Saved, configured, keep_ended};
 use std::alloc::{AllocError, Global};
@@ -21,7 +21,7 @@ use std::time::Clock;
 /// Prints a line for each peer, and the number of the next period.
 ///
 /// Where it was stopped, the same command goes on from there. Where the next period has just begun, and nothing was
-/// booked in it yet, it is left as it is.
+/// booked in it yet, it is left as it is, and its text is written anew.
 ///
 /// Refusals: those of `configured`, of the journal's file and of `next_of`; then nothing was changed. A file can't
 /// be written, or JOURNAL.P has another text: then JOURNAL is still of the period that ends.
@@ -84,16 +84,17 @@ pub enum Kept {
 /// where they are long. Else it is done as `new_period` does, and a stop at any moment leaves what that leaves.
 ///
 /// It is refused where a file can't be written, or one of the period has another text, of which a line says more.
-pub fn keep_behind<R>(
+pub fn keep_behind<R, F>(
     rt: &R,
-    file: &JournalFile<File>,
+    file: &JournalFile<F>,
     path: &str,
     ended: &Book,
     next: &Book,
     is_logged: bool,
 ) -> Result<Kept, Refused>
 where
-    R: Runtime + AllocGlobal + Files<File = File> + PlacesFiles<File = File> + Copy,
+    R: AllocGlobal + Files<File = F> + PlacesFiles<File = F> + Clock + Print + Eprint + Copy,
+    F: Read + Write + Seek + OpenFile + Drop,
 {
     let closing = Closing {
         rt,
@@ -219,9 +220,24 @@ where
     fn begun_behind(&self, ended: &[u8], text: &[u8]) -> Result<Option<Book>, Refused> {
         let alloc = self.rt.alloc();
         match next_of_text(alloc, self.config, ended, self.next)? {
-            Some(book) if self.has_begun(&book, text) => Ok(Some(book)),
+            Some(book) if self.has_begun(&book, text) => {
+                self.put_again(&book)?;
+                Ok(Some(book))
+            }
             _ => Ok(None),
         }
+    }
+
+    // Writes the text of the next period anew, where it is there already: the call that wrote it may have failed, so that
+    // the device hasn't got it.
+    fn put_again(&self, book: &Book) -> Result<(), FileFault>
+        requires { book.now.config ≡ self.now.next.now }
+    {
+        let head = Saved {
+            book,
+            config: self.next,
+        };
+        self.file.save_at_start(self.rt, self.rt.alloc(), &head)
     }
 
     // Whether this is the text of a book of the next configuration.

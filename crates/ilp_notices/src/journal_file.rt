@@ -9,6 +9,19 @@ use std::io;
 use std::io::Eprint;
 use std::time::Clock;
 
+/// Who does again what could not be written.
+#[derive(Clone, Copy, Debug, PartialEq, Eq)]
+pub enum Again {
+    /// Whoever gave the command, or starts the connector.
+    ByCommand,
+    /// The connector, which serves. What it has booked may be in its memory alone.
+    ByItself,
+}
+
+// What an operator does meanwhile where a connector tries again by itself.
+const WAITS: &str =
+    "make room for it, and don't kill the connector: it tries again, and what was booked last may be in its memory alone";
+
 /// Tells that no journal is kept, and what that asks of each start.
 pub fn no_journal<R: Clock + Eprint>(rt: &R) {
     tell(
@@ -55,11 +68,14 @@ pub fn not_saved<R: Clock + Eprint>(rt: &R, path: &str, new: &str, log: &str, er
     tell(rt, Level::Error, text);
 }
 
-/// Tells that the journal could not be saved at a start, which is refused.
-pub fn not_saved_at_start<R: Clock + Eprint>(rt: &R, path: &str, error: &io::Error) {
-    let text = format_args!(
-        "journal {path:?}: can't be saved: {error}: make room for it, and start again: nothing is lost"
-    );
+/// Tells that the journal could not be saved before a log begins: a start is refused then, and a connector that
+/// serves waits.
+pub fn not_saved_at_start<R: Clock + Eprint>(rt: &R, path: &str, again: Again, error: &io::Error) {
+    let advice = match again {
+        Again::ByCommand => "make room for it, and start again: nothing is lost",
+        Again::ByItself => WAITS,
+    };
+    let text = format_args!("journal {path:?}: can't be saved: {error}: {advice}");
     tell(rt, Level::Error, text);
 }
 
@@ -140,6 +156,14 @@ pub fn journal_of_another_asset<R: Clock + Eprint>(rt: &R, path: &str, config: &
     tell(rt, Level::Error, text);
 }
 
+/// Tells that the file that a connector has locked of a journal lies there no more, and what that means.
+pub fn journal_lost<R: Clock + Eprint>(rt: &R, path: &str, lock: &str) {
+    let text = format_args!(
+        "journal {path:?}: {lock:?} was removed or replaced, so another connector may have it: nothing more is kept or told, and none of its files is touched: close this connector, and never remove {lock:?}"
+    );
+    tell(rt, Level::Error, text);
+}
+
 /// Tells that another connector has the journal.
 pub fn journal_in_use<R: Clock + Eprint>(rt: &R, path: &str) {
     let text = format_args!(
@@ -200,6 +224,22 @@ pub fn period_differs<R: Clock + Eprint>(rt: &R, kept: &str) {
     tell(rt, Level::Error, text);
 }
 
+/// Tells that a text of a period that has ended lies beside the journal, of which that and its log don't have all.
+pub fn journal_older<R: Clock + Eprint>(rt: &R, path: &str, period: u32) {
+    let text = format_args!(
+        "journal {path:?}: the period {period} has ended beside it, and it lacks what that has: put back the journal and the log that were there last, or, to go on from this one and lose what came since, move the kept periods away from {period} on"
+    );
+    tell(rt, Level::Error, text);
+}
+
+/// Tells that there is no journal, though what was kept of one lies there.
+pub fn journal_gone<R: Clock + Eprint>(rt: &R, path: &str) {
+    let text = format_args!(
+        "journal {path:?}: it isn't there, and what was kept beside it is: put it back, or move that away to begin with nothing"
+    );
+    tell(rt, Level::Error, text);
+}
+
 /// Tells that `new_period_at` says nothing, since there is no file in which a period could be kept.
 pub fn no_periods<R: Clock + Eprint>(rt: &R) {
     tell(
@@ -218,10 +258,12 @@ pub fn no_next_period<R: Clock + Eprint>(rt: &R, path: &str, refusal: &impl Disp
 }
 
 /// Tells that the text of a period that has ended can't be written, or that of the next one.
-pub fn period_unwritten<R: Clock + Eprint>(rt: &R, path: &str, error: &io::Error) {
-    let text = format_args!(
-        "can't write {path:?}: {error}: make room for it, and give the command again: nothing is lost"
-    );
+pub fn period_unwritten<R: Clock + Eprint>(rt: &R, path: &str, again: Again, error: &io::Error) {
+    let advice = match again {
+        Again::ByCommand => "make room for it, and give the command again: nothing is lost",
+        Again::ByItself => WAITS,
+    };
+    let text = format_args!("can't write {path:?}: {error}: {advice}");
     tell(rt, Level::Error, text);
 }
 

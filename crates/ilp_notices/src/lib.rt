@@ -22,6 +22,7 @@ mod carried_journal;
 mod doubling;
 mod journal;
 mod journal_file;
+mod late;
 mod line;
 mod notices;
 mod pace;
@@ -45,11 +46,12 @@ mod wrong_tokens;
 pub use carried_journal::{JournalWarning, journal_warning};
 pub use doubling::doubled;
 pub use journal_file::{
-    journal_absent, journal_carried, journal_in_use, journal_not_locked, journal_of_another_asset,
-    journal_of_another_run, journal_saved, journal_too_long, journal_unfit, journal_unread,
-    keys_left_out, left_unsaved, log_begun, log_left, log_unwritten, no_journal, no_next_period,
-    no_periods, not_made, not_saved, not_saved_at_start, not_saved_yet, not_synced,
-    nothing_to_save, period_begun, period_differs, period_kept, period_unwritten, stopped_unsaved,
+    Again, journal_absent, journal_carried, journal_gone, journal_in_use, journal_lost,
+    journal_not_locked, journal_of_another_asset, journal_of_another_run, journal_older,
+    journal_saved, journal_too_long, journal_unfit, journal_unread, keys_left_out, left_unsaved,
+    log_begun, log_left, log_unwritten, no_journal, no_next_period, no_periods, not_made,
+    not_saved, not_saved_at_start, not_saved_yet, not_synced, nothing_to_save, period_begun,
+    period_differs, period_kept, period_unwritten, stopped_unsaved,
 };
 pub use notices::Notices;
 pub use recovery::{RecoveryNote, recovery_note};

@@ -1,6 +1,7 @@
 //! All that is told of one running connector.
 
 use crate::journal::Fullness;
+use crate::late::SlowDisk;
 use crate::peers::OfPeer;
 use crate::rejects::Rejects;
 use crate::repeated::Repeated;
@@ -28,6 +29,7 @@ pub struct Notices {
     pub(crate) fullness: Fullness,
     pub(crate) clock: Repeated,
     pub(crate) unkept: Unkept,
+    pub(crate) slow_disk: SlowDisk,
     rejects: Rejects,
     wrong_tokens: WrongTokens,
 }
@@ -46,6 +48,7 @@ impl Notices {
             fullness: Fullness::new(),
             clock: Repeated::new(),
             unkept: Unkept::new(),
+            slow_disk: SlowDisk::new(),
             rejects: Rejects::new(alloc, config.peers())?,
             wrong_tokens: WrongTokens::new(),
         })

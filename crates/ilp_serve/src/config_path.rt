@@ -3,24 +3,43 @@
 use crate::restart::needs_restart;
 use crate::telling::line_of_refusal;
 use ilp_accounts::Config;
+use ilp_refusals::Refusal;
 use ilp_running::Configurations;
 use ilp_starting::{Refused, Telling, config_octets, config_of, tell_warnings};
-use std::rt::Runtime;
+use std::fs;
+use std::rt::{Files, Runtime};
 
 /// A runtime that reads configurations. It is asked for beside what else a runtime has: the kit's prover
 /// carries to another thread what is asked for so.
 pub trait ReadsConfigs {
     /// The configuration that stands at this path, with a notice of each thing in it that is to be looked
-    /// at. Refusals are those of `ilp_starting::configured`.
+    /// at. Refusals are those of `ilp_starting::configured`, and `ConfigUnread` where what stands there is no
+    /// file: nobody waits for whoever writes to a named pipe.
     fn read_config(&self, path: &str) -> Result<Config, Refused>;
 }
 
 impl<R: Runtime + AllocGlobal> ReadsConfigs for R {
     fn read_config(&self, path: &str) -> Result<Config, Refused> {
+        if is_no_file(self, path) {
+            let alloc = self.alloc();
+            let why = format!(in alloc;
+                "{path:?}: no plain file, and a pipe is read at a start alone"
+            );
+            return Err(Refused::because(Refusal::ConfigUnread, why));
+        }
         let octets = config_octets(self, path)?;
         let config = config_of(self.alloc(), &octets)?;
         tell_warnings(self, path, &octets, Telling::Notice);
         Ok(config)
+    }
+}
+
+// Whether a pipe, a folder or a device stands at the path of a configuration, or behind a link there. Where the
+// system doesn't say what does, opening it will.
+fn is_no_file(rt: &impl Files, path: &str) -> bool {
+    match fs::metadata(rt, path) {
+        Ok(metadata) => path != "-" && !metadata.is_file(),
+        Err(_) => false,
     }
 }
 

@@ -18,7 +18,7 @@ use ilp_log::BegunLog;
 use ilp_new_period::{Kept, keep_behind};
 use ilp_notices::no_next_period;
 use ilp_running::{BegunPeriod, RunPeriod, ServeFault, Sides, run_begun};
-use ilp_starting::{BookFile, Host, Refused, Saved};
+use ilp_starting::{BookFile, Host, Refused};
 use std::fs::File;
 use std::net::{Net, TcpListener, TcpStream};
 use std::rt::Files;
@@ -61,7 +61,7 @@ where
         ensures closed { IfOk result (λ period. IsClosed (desk_of_book begun.entry.book) period.run.book) }
         ensures refused { IfErr result (IsWhyUnclosed (desk_of_book begun.entry.book)) }
     {
-        let (rt, path) = (self.rt, self.path);
+        let (rt, path, held) = (self.rt, self.path, self.file.held());
         let Some(ended) = unkept else {
             return run_begun(rt, begun, links, configs, sides);
         };
@@ -74,7 +74,7 @@ where
                 ensures refused { IfErr result (IsWhyUnclosed (desk_of_book begun.entry.book)) }
             {
                 // Where no thread can be started it is kept at the end of this one.
-                let _keeping = scope.spawn(move || rt.keep_set_aside(path, &ended));
+                let _keeping = scope.spawn(move || rt.keep_set_aside(path, held, &ended));
                 run_begun(rt, begun, links, configs, sides)
             },
         )
@@ -121,30 +121,18 @@ where
         let rt = self.rt;
         match keep_behind(rt, self.file, self.path, &ended, &next, is_logged) {
             Ok(kept) => Ok(Followed {
-                period: self.logged(next, kept),
+                period: self.logged(next, kept)?,
                 unkept: unless_whole(ended, kept),
                 change: Change::NewPeriod,
                 told,
             }),
             Err(refused) => {
                 drop(next);
-                self.forget_kept(&ended);
                 let told = line_of_refusal(rt.alloc(), &refused);
                 let book = opened_anew(ended, &refused)?;
                 self.go_on(book, &refused, told)
             }
         }
-    }
-
-    // This book's period goes on, so a text of it that was kept beside goes. Where it can't go, a line says
-    // so, and the period's end is refused by it until it does.
-    fn forget_kept(&self, book: &Book) {
-        let rt = self.rt;
-        let own = Saved {
-            book,
-            config: book.config(),
-        };
-        let _ = self.file.forget_period(rt, rt.alloc(), book.period(), &own);
     }
 
     // Goes on with a book behind which no period can begin, for this reason.
@@ -161,7 +149,7 @@ where
     {
         no_next_period(self.rt, self.path, &refused.refusal, why_of(refused));
         Ok(Followed {
-            period: self.logged(book, Kept::Whole),
+            period: self.logged(book, Kept::Whole)?,
             unkept: None,
             change: Change::None,
             told,
@@ -169,21 +157,32 @@ where
     }
 
     // A period of this book, whose text the file has then, and a log that goes on from it. Both sides wait
-    // until they can be written: what was told of the book may stand nowhere else, so it isn't left.
-    fn logged(&self, book: Book, kept: Kept) -> BegunPeriod<LogDevice<'r, R, File>>
+    // until they can be written: what was told of the book may stand nowhere else, so it isn't left. It is refused where
+    // another connector may have them by now.
+    fn logged(
+        &self,
+        book: Book,
+        kept: Kept,
+    ) -> Result<BegunPeriod<LogDevice<'r, R, File>>, ServeFault>
         requires opening { length book.entries ≡ book.base }
-        ensures { result.book ≡ book }
+        ensures book { IfOk result (λ period. period.book ≡ book) }
+        ensures refused { IfErr result IsOfNoDesk }
     {
-        let log = self.log_of(&book, kept);
-        BegunPeriod {
+        let log = self.log_of(&book, kept)?;
+        Ok(BegunPeriod {
             book,
             log: Some(log),
-        }
+        })
     }
 
     // A log that goes on from this book. What can't be written is told, and tried again until it can.
-    fn log_of(&self, book: &Book, kept: Kept) -> BegunLog<LogDevice<'r, R, File>>
-        ensures { result.start.base ≤ length book.now.entries }
+    fn log_of(
+        &self,
+        book: &Book,
+        kept: Kept,
+    ) -> Result<BegunLog<LogDevice<'r, R, File>>, ServeFault>
+        ensures base { IfOk result (λ log. log.start.base ≤ length book.now.entries) }
+        ensures refused { IfErr result IsOfNoDesk }
     {
         let rt = self.rt;
         let file = BookFile {
@@ -198,7 +197,10 @@ where
                 Kept::Aside => file.go_on_aside(book),
             };
             match begun {
-                Ok(log) => return log,
+                Ok(log) => return Ok(log),
+                Err(refused) if self.file.is_lost(rt) => {
+                    return Err(ServeFault::NextRefused(refused.refusal));
+                }
                 Err(_) => sleep(rt, Duration::from_secs(REST)),
             }
         }

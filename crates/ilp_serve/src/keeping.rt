@@ -2,22 +2,23 @@
 
 use crate::telling::why_of;
 use ilp_book::Book;
-use ilp_journal_file::JournalFile;
+use ilp_journal_file::{HeldLock, JournalFile, PlacesFiles};
 use ilp_notices::no_next_period;
 use ilp_starting::keep_set_aside;
 use std::rt::Runtime;
 
 /// A runtime that keeps periods. It is asked for beside what else a runtime has, as `ReadsConfigs` is.
 pub trait KeepsPeriods {
-    /// Keeps the period as a whole that ended with this book, whose log was set aside beside the journal at this path.
+    /// Keeps the period as a whole that ended with this book, whose log was set aside beside the journal at this path, of
+    /// which this is held.
     /// Where it can't be kept a line says so, and until it is no other period ends: the next end begins with it, and so
     /// does a start.
-    fn keep_set_aside(&self, path: &str, book: &Book);
+    fn keep_set_aside(&self, path: &str, held: HeldLock, book: &Book);
 }
 
-impl<R: Runtime + AllocGlobal> KeepsPeriods for R {
-    fn keep_set_aside(&self, path: &str, book: &Book) {
-        let Ok(file) = JournalFile::untaken(self.alloc(), path) else {
+impl<R: Runtime + AllocGlobal + PlacesFiles> KeepsPeriods for R {
+    fn keep_set_aside(&self, path: &str, held: HeldLock, book: &Book) {
+        let Ok(file) = JournalFile::held_elsewhere(self.alloc(), path, held) else {
             return;
         };
         if let Err(refused) = keep_set_aside(self, &file, book) {

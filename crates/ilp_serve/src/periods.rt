@@ -117,8 +117,7 @@ where
         match sides.room_for(&config) {
             Ok(room) => self.go_on_by(ended, config, room, asker, sides),
             Err(_) => {
-                tell_asker(rt, asker, Change::None, &None);
-                sides.free();
+                tell_asker(rt, sides, asker, Change::None, &None);
                 self.go_on_by_own(ended, sides)
             }
         }
@@ -169,8 +168,7 @@ where
         if change == Change::NewPeriod {
             sides.take_over(room);
         }
-        tell_asker(self.rt, asker, change, &told);
-        sides.free();
+        tell_asker(self.rt, sides, asker, change, &told);
         Ok(NextPeriod { period, unkept })
     }
 

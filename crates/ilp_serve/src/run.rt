@@ -79,7 +79,7 @@ where
         };
         let mut report = room_for_report(rt.alloc())?;
         match file.begin() {
-            Ok(begun) => self.serve_logged(&taken, path, begun, &mut report),
+            Ok(begun) => self.serve_logged(&taken.serving(), path, begun, &mut report),
             Err(refused) => Err(RunFault::Refused(refused)),
         }
     }

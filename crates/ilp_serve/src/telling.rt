@@ -3,15 +3,17 @@
 use crate::followed::Change;
 use ilp_accounts::Config;
 use ilp_notices::{not_reloaded, reloaded};
-use ilp_running::{Asker, MEMORY_IS_SHORT, without_end};
+use ilp_running::{Asker, MEMORY_IS_SHORT, Sides, without_end};
 use ilp_starting::Refused;
 use std::alloc::Global;
 use std::io::Eprint;
+use std::sync::Wait;
 use std::time::Clock;
 
 /// Tells who asked for another configuration what became of that.
-pub(crate) fn tell_asker<R: Clock + Eprint>(
+pub(crate) fn tell_asker<R: Clock + Eprint + Wait>(
     rt: &R,
+    sides: &Sides,
     asker: Asker,
     change: Change,
     told: &Option<String>,
@@ -20,12 +22,12 @@ pub(crate) fn tell_asker<R: Clock + Eprint>(
         Change::NewPeriod => {
             let line = line_or(told, "");
             reloaded(rt, without_end(line));
-            asker.taken(line);
+            sides.tell_taken(rt, asker, line);
         }
         Change::None => {
             let line = line_or(told, MEMORY_IS_SHORT);
             not_reloaded(rt, without_end(line));
-            asker.refused(line);
+            sides.tell_refused(rt, asker, line);
         }
     }
 }

@@ -1,14 +1,18 @@
-//! Who asks that the configuration be read again, and what becomes of that.
+//! Who waits until the configuration was read again, or the connector accepts nobody any more.
 
+use crate::intakes::Intakes;
 use ilp_http::{Kind, Status, write_response};
 use ilp_links::Resumed;
+use ilp_server::Side;
 use mio::net;
 use std::net::TcpStream;
+use std::sync::Wait;
 
-/// The connection of who asks that the configuration be read again. It is answered in one write that does
-/// not wait, and closed.
+/// The connection of who asks that the configuration be read again, or that the connector close. It is
+/// answered in one write that does not wait, and lingers then as any does.
 #[derive(Drop)]
 pub struct Asker {
+    side: Side,
     stream: TcpStream,
 }
 
@@ -21,30 +25,36 @@ pub fn without_end(line: &str) -> &str {
 }
 
 impl Asker {
-    /// Whose connection this is. Its writes don't wait.
-    pub fn new(stream: TcpStream) -> Asker {
-        Asker { stream }
+    /// Whose connection this is, of this side. Its reads and writes don't wait.
+    pub fn new(side: Side, stream: TcpStream) -> Asker {
+        Asker { side, stream }
     }
 
     /// It is in force, as this line says.
-    pub fn taken(self, line: &str) {
-        self.answer(Status::Ok, line);
+    pub fn taken(self, rt: &impl Wait, intakes: &Intakes, line: &str) {
+        self.answer(rt, intakes, Status::Ok, line);
     }
 
     /// It is not taken, as this line says.
-    pub fn refused(self, line: &str) {
-        self.answer(Status::Conflict, line);
+    pub fn refused(self, rt: &impl Wait, intakes: &Intakes, line: &str) {
+        self.answer(rt, intakes, Status::Conflict, line);
     }
 
     /// The connector ends.
-    pub fn turned_away(self) {
-        self.answer(Status::Unavailable, "");
+    pub fn turned_away(self, rt: &impl Wait, intakes: &Intakes) {
+        self.answer(rt, intakes, Status::Unavailable, "");
     }
 
-    fn answer(self, status: Status, line: &str) {
-        let Asker { stream } = self;
+    /// The connector accepts nobody any more, as was asked for.
+    pub fn closed(self, rt: &impl Wait, intakes: &Intakes) {
+        self.answer(rt, intakes, Status::Ok, "");
+    }
+
+    fn answer(self, rt: &impl Wait, intakes: &Intakes, status: Status, line: &str) {
+        let Asker { side, stream } = self;
         let stream = net::TcpStream::from_std(stream);
         let mut sink = Resumed::new(&stream, 0);
         let _ = write_response(&mut sink, status, Kind::Text, line.as_bytes());
+        intakes.linger(rt, side, TcpStream::from(stream));
     }
 }

@@ -1,6 +1,7 @@
 //! From whoever asks that the configuration be read again to the period that begins by it.
 
 use crate::asker::Asker;
+use crate::intakes::Intakes;
 use ilp_accounts::Config;
 use std::sync::atomic::{AtomicBool, Ordering};
 use std::sync::{Mutex, Wait};
@@ -70,12 +71,12 @@ impl Reloading {
     }
 
     /// The connector ends: who asks is told so.
-    pub fn turn_away(&self, rt: &impl Wait) {
+    pub fn turn_away(&self, rt: &impl Wait, intakes: &Intakes) {
         if let Some(asker) = self.take_asker(rt) {
-            asker.turned_away();
+            asker.turned_away(rt, intakes);
         }
         if let Some(NextConfig { config: _, asker }) = self.take_next(rt) {
-            asker.turned_away();
+            asker.turned_away(rt, intakes);
         }
     }
 }

@@ -4,7 +4,7 @@ ghost use Rattle.std.specs.Prelude.{◌≡◌, ◌≤◌, length, IfOk};
 
 use crate::carrying::Carried;
 use crate::ended::{forget_next, keep_ended};
-use crate::finding::found_book;
+use crate::finding::last_found;
 use crate::refused::Refused;
 use crate::saved::Saved;
 use crate::warning::{JournalWarnings, Telling};
@@ -32,6 +32,15 @@ pub struct BookFile<'r, 'f, R, F> {
     pub path: &'f str,
 }
 
+// How sure it is that the device has by its name what the system shows of a journal's file.
+#[derive(Clone, Copy, PartialEq, Eq)]
+enum Standing {
+    // A connector has ended behind it, or none has run yet.
+    Saved,
+    // A call may have failed to write it.
+    Unsure,
+}
+
 /// A book with which a run begins, and the log that goes on from it.
 #[derive(Drop)]
 pub struct Begun<D: Device + Drop> {
@@ -52,12 +61,12 @@ where
 {
     /// The book that the file and its log have. It is told how many entries that begins with, and what
     /// there is to say of a sudden stop. The configuration is remembered beside the file, which is saved
-    /// anew where it has not just these entries. A log goes on from there.
+    /// anew where it has not just these entries, or a log lies beside it. A log goes on from there.
     ///
     /// A sudden stop of the machine in between leaves what a start finds the same book in.
     ///
-    /// Refusals: those of `book_of`; `JournalUnread` and `WriteFault`, of which a line on standard error
-    /// says more.
+    /// Refusals: those of `book_of`; `JournalUnread`, also where a text lies beside it that it lacks, and `WriteFault`,
+    /// of which a line on standard error says more.
     pub fn begin(&self) -> Result<Begun<LogDevice<'r, R, F>>, Refused>
         ensures config { IfOk result (λ b. b.book.config ≡ self.now.config.now) }
         ensures opening { IfOk result (λ b. length b.book.entries ≡ b.book.base) }
@@ -65,14 +74,23 @@ where
     {
         keep_ended(self.rt, self.file, self.path)?;
         let book = self.carried()?;
-        self.forget_kept(&book)?;
-        match self.go_on(&book) {
-            Ok(log) => Ok(Begun { book, log }),
-            Err(refused) => Err(refused),
+        let log = self.go_on_from(&book, self.standing())?;
+        match self.forget_kept(&book) {
+            Ok(()) => Ok(Begun { book, log }),
+            Err(fault) => Err(Refused::from(fault)),
         }
     }
 
-    // This book's period goes on, so a text of it that is kept beside goes.
+    // How sure it is that the device has what the system shows of the file.
+    fn standing(&self) -> Standing {
+        if self.file.may_have_log(self.rt) {
+            Standing::Unsure
+        } else {
+            Standing::Saved
+        }
+    }
+
+    // This book's period goes on, and the file has its text: so another of it that is kept beside goes.
     fn forget_kept(&self, book: &Book) -> Result<(), FileFault>
         requires { book.now.config ≡ self.now.config.now }
     {
@@ -99,7 +117,7 @@ where
             journal_unread(self.rt, self.path, &absent);
             return Err(Refused::from(Refusal::JournalUnread));
         }
-        match found_book(self.rt, self.config, self.path, &found) {
+        match last_found(self.rt, self.config, self.path, &found) {
             Ok(carried) => {
                 carried.tell(self.rt, self.path, Telling::Line);
                 let Carried { book, source: _ } = carried;
@@ -117,25 +135,42 @@ where
     pub fn settle(&self, book: &Book) -> Result<(), Refused>
         requires { book.now.config ≡ self.now.config.now }
     {
-        self.saved_text(book)?;
+        self.saved_text(book, self.standing())?;
         match self.file.expect_no_log(self.rt) {
             Ok(()) => Ok(()),
             Err(fault) => Err(Refused::from(fault)),
         }
     }
 
-    /// Has the configuration remembered, and begins a log that goes on from this book, whose text the file has
-    /// then. A period before it is kept first, and what one behind it was to begin with goes.
+    /// Has the configuration remembered, and begins a log that goes on from this book, whose text the file is given
+    /// then, whatever it has: an earlier call may have failed to write what the system shows. A period before it is
+    /// kept first, and what one behind it was to begin with goes. So does a text that is kept beside the file of this
+    /// period, once the device has the file. Where that can't go a line says so, and it is in the way of the period's end.
     ///
-    /// Refusals: `WriteFault` and `JournalUnread`, of which a line on standard error says more; `Memory`.
+    /// Refusals: `WriteFault` and `JournalUnread`, of which a line on standard error says more; `Memory`. What was
+    /// booked stands in the files as before, or in these.
     pub fn go_on(&self, book: &Book) -> Result<BegunLog<LogDevice<'r, R, F>>, Refused>
+        requires { book.now.config ≡ self.now.config.now }
+        ensures { IfOk result (λ log. log.start.base ≤ length book.now.entries) }
+    {
+        let log = self.go_on_from(book, Standing::Unsure)?;
+        let _ = self.forget_kept(book);
+        Ok(log)
+    }
+
+    // The same, where the file is so sure.
+    fn go_on_from(
+        &self,
+        book: &Book,
+        standing: Standing,
+    ) -> Result<BegunLog<LogDevice<'r, R, F>>, Refused>
         requires { book.now.config ≡ self.now.config.now }
         ensures { IfOk result (λ log. log.start.base ≤ length book.now.entries) }
     {
         forget_next(self.rt, self.file, book.period())?;
         keep_ended(self.rt, self.file, self.path)?;
         self.remember()?;
-        let text = self.saved_text(book)?;
+        let text = self.saved_text(book, standing)?;
         self.begin_log(book.len(), &text)
     }
 
@@ -180,7 +215,7 @@ where
         ensures opening { IfOk result (λ b. length b.entries ≡ b.base) }
     {
         let found = self.found()?;
-        match found_book(self.rt, self.config, self.path, &found) {
+        match last_found(self.rt, self.config, self.path, &found) {
             Ok(carried) => {
                 self.tell(&carried, found.text.is_some());
                 let Carried { book, source: _ } = carried;
@@ -229,9 +264,9 @@ where
         })
     }
 
-    // The text of the file, once it is that of the book. It is saved where it isn't; a book in which
-    // nothing was booked needs no file.
-    fn saved_text(&self, book: &Book) -> Result<Vec<u8>, Refused>
+    // The text of the file, once it is that of the book and the device has it. It is saved where it isn't, or where the
+    // file is not so sure; a book in which nothing was booked needs no file.
+    fn saved_text(&self, book: &Book, standing: Standing) -> Result<Vec<u8>, Refused>
         requires { book.now.config ≡ self.now.config.now }
     {
         let rt = self.rt;
@@ -240,7 +275,9 @@ where
             config: self.config,
         };
         match self.file.read(rt, rt.alloc())? {
-            Some(text) if has_text(&saved, &text) => return Ok(text),
+            Some(text) if standing == Standing::Saved && has_text(&saved, &text) => {
+                return Ok(text);
+            }
             None if book.len() == 0 => return Ok(Vec::new(rt.alloc())),
             _ => {}
         }

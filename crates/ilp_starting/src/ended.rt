@@ -8,10 +8,10 @@ ghost use Rattle.ilp_starting.specs.declared.ended.Aside.TheVariants as asides;
 use crate::finding::octets_of;
 use crate::not_carried::ended_of_another_text;
 use crate::refused::Refused;
-use crate::saved::Saved;
+use crate::saved::{Saved, SavedText};
 use crate::whole_period::WholePeriod;
 use ilp_book::Book;
-use ilp_journal_file::{Content, FileFault, JournalFile};
+use ilp_journal_file::{Content, FileFault, JournalFile, PlacesFiles};
 use ilp_journal_text::JournalText;
 use ilp_log_text::LogText;
 use std::io::Eprint;
@@ -38,7 +38,7 @@ pub(crate) enum Aside {
 /// `WriteFault` where one can't be written; `Memory`. A line on standard error says more, or the refusal.
 pub fn keep_ended<R, F>(rt: &R, file: &JournalFile<F>, path: &str) -> Result<(), Refused>
 where
-    R: AllocGlobal + Files + Clock + Eprint,
+    R: AllocGlobal + Files + PlacesFiles + Clock + Eprint,
 {
     let alloc = rt.alloc();
     let Some(octets) = file.read_ended(rt, alloc)? else {
@@ -57,7 +57,7 @@ where
             keep_whole(rt, file, period_of(or_nothing(text)), &whole)?;
         }
         Aside::InForce => file.take_back(rt)?,
-        Aside::Over => file.remove_ended(rt)?,
+        Aside::Over => forget_ended(rt, file, text)?,
         Aside::Strange => return Err(ended_of_another_text(alloc, path)),
     }
     Ok(())
@@ -71,7 +71,7 @@ where
 /// `Memory`. A line on standard error says more.
 pub fn keep_set_aside<R, F>(rt: &R, file: &JournalFile<F>, book: &Book) -> Result<(), Refused>
 where
-    R: AllocGlobal + Files + Clock + Eprint,
+    R: AllocGlobal + Files + PlacesFiles + Clock + Eprint,
 {
     let whole = Saved {
         book,
@@ -83,12 +83,24 @@ where
     }
 }
 
+// Removes the log that was set aside, of which all is kept elsewhere: by the journal, of which this is the text, or
+// beside it. What the system shows of the journal may be what it failed to write, so it is written first.
+fn forget_ended<R, F>(rt: &R, file: &JournalFile<F>, text: Option<&[u8]>) -> Result<(), FileFault>
+where
+    R: AllocGlobal + Files + PlacesFiles + Clock + Eprint,
+{
+    if let Some(text) = text {
+        file.save_at_start(rt, rt.alloc(), &SavedText(text))?;
+    }
+    file.remove_ended(rt)
+}
+
 /// Removes what a period behind this one was to begin with, where it is there: this one goes on.
 ///
 /// Refusals: those of `JournalFile::read_next`; `Unwritten` where it can't be removed, and a line says so.
 pub(crate) fn forget_next<R, F>(rt: &R, file: &JournalFile<F>, period: u32) -> Result<(), FileFault>
 where
-    R: AllocGlobal + Files + Clock + Eprint,
+    R: AllocGlobal + Files + PlacesFiles + Clock + Eprint,
 {
     match file.read_next(rt, rt.alloc())? {
         Some(text) if period_of(text.as_slice()) > period => file.forget_next(rt),
@@ -104,7 +116,7 @@ fn keep_whole<R, F>(
     whole: &impl Content,
 ) -> Result<(), FileFault>
 where
-    R: AllocGlobal + Files + Clock + Eprint,
+    R: AllocGlobal + Files + PlacesFiles + Clock + Eprint,
 {
     file.keep_period(rt, rt.alloc(), period, whole)?;
     file.begin_next(rt)?;
@@ -178,15 +190,15 @@ where
     }
 }
 
-// The octets of a text, and none where there is no text.
-fn or_nothing(text: Option<&[u8]>) -> &[u8]
+/// The octets of a text, and none where there is no text.
+pub(crate) fn or_nothing(text: Option<&[u8]>) -> &[u8]
     ensures { result.now ≡ text_or_nothing (option_map (λ t. t.now) text.entry) }
 {
     text.unwrap_or(&[])
 }
 
-// The number of the period that a text is of, or that of the first one.
-fn period_of(text: &[u8]) -> u32
+/// The number of the period that a text is of, or that of the first one.
+pub(crate) fn period_of(text: &[u8]) -> u32
     ensures { IsPeriodOf text.now result }
 {
     match JournalText::begin(text) {

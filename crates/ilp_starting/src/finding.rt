@@ -6,37 +6,86 @@ ghost use Rattle.ilp_starting.specs.Remembering.{KeepsRemembered};
 ghost use Rattle.ilp_starting.specs.Sources.{IsSource};
 
 use crate::carrying::{Carried, Source, book_of};
-use crate::ended::{Aside, aside_of};
+use crate::ended::{Aside, aside_of, or_nothing, period_of};
+use crate::last_one::expect_last;
 use crate::not_carried::ended_of_another_text;
 use crate::refused::Refused;
 use crate::remembering::expect_unchanged;
+use crate::whole_period::WholePeriod;
 use ilp_accounts::Config;
-use ilp_journal_file::{Found, JournalFile, look_at};
+use ilp_journal_file::{Found, JournalFile, LockFile, look_at};
 use ilp_link_traits::Clock;
 use ilp_links::SystemClock;
 use ilp_log_text::{LogText, remembered_in};
 use std::alloc::{AllocError, Global};
-use std::fs::File;
 use std::io::Eprint;
-use std::rt::{Files, Runtime};
+use std::rt::Files;
 use std::time;
 
 /// The book with which a connector would begin from the journal at this path now. No file is made or
 /// changed.
 ///
 /// Refusals: those of `book_of`; `JournalUnread` or `WriteFault` where the journal's file could not be
-/// used, or the configuration has another run or other assets than what the journal has open, of which a
-/// line on standard error says more.
+/// used, a text lies beside it that it lacks, or the configuration has another run or other assets than what the
+/// journal has open, of which a line on standard error says more.
 pub fn book_at<R>(rt: &R, config: &Config, path: &str) -> Result<Carried, Refused>
 where
-    R: Runtime + AllocGlobal + Files<File = File> + Copy,
+    R: AllocGlobal + Files + time::Clock + Eprint + Copy,
+    R::File: LockFile,
     ensures begins { IfOk result (λ c. BeginsOfSome config.now c.book c.source) }
     ensures config { IfOk result (λ c. c.book.config ≡ config.now) }
     ensures opening { IfOk result (λ c. length c.book.entries ≡ c.book.base) }
 {
     let found = look_at(rt, rt.alloc(), path)?;
+    expect_keepable(rt, path, &found)?;
     let found = behind_ended(rt, path, found)?;
-    found_book(rt, config, path, &found)
+    last_found(rt, config, path, &found)
+}
+
+/// The book of what was found, beside which nothing lies that it lacks.
+pub(crate) fn last_found<R>(
+    rt: &R,
+    config: &Config,
+    path: &str,
+    found: &Found,
+) -> Result<Carried, Refused>
+where
+    R: AllocGlobal + Files + time::Clock + Eprint + Copy,
+    ensures config { IfOk result (λ c. c.book.config ≡ config.now) }
+    ensures opening { IfOk result (λ c. length c.book.entries ≡ c.book.base) }
+    ensures begins { IfOk result (λ c. BeginsOnce config.now
+        (option_map (λ t. t.items) found.now.text) (option_map (λ t. t.items) found.now.log) c.book) }
+    ensures source { IfOk result (λ c. IsSource (option_map (λ t. t.items) found.now.text)
+        (option_map (λ t. t.items) found.now.log) c.source) }
+{
+    let carried = found_book(rt, config, path, found)?;
+    match expect_last(rt, path, found, &carried.book) {
+        Ok(()) => Ok(carried),
+        Err(refused) => Err(refused),
+    }
+}
+
+// Finds that the period can be kept as a whole whose log was set aside, if one was: nothing lies in its way.
+fn expect_keepable<R>(rt: &R, path: &str, found: &Found) -> Result<(), Refused>
+where
+    R: AllocGlobal + Files + time::Clock + Eprint,
+{
+    let alloc = rt.alloc();
+    let file = JournalFile::untaken(alloc, path)?;
+    let Some(octets) = file.read_ended(rt, alloc)? else {
+        return Ok(());
+    };
+    let Ok(log) = LogText::read(&octets) else {
+        return Err(ended_of_another_text(alloc, path));
+    };
+    let text = octets_of(&found.text);
+    if aside_of(rt, &file, text, &log)? != Aside::Ended {
+        return Ok(());
+    }
+    match WholePeriod::of(alloc, text, &log)? {
+        Some(whole) => Ok(file.expect_free(rt, alloc, period_of(or_nothing(text)), &whole)?),
+        None => Err(ended_of_another_text(alloc, path)),
+    }
 }
 
 /// What a start would find where the log of a period was set aside, once that is kept.

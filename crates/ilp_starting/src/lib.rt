@@ -35,6 +35,7 @@ mod ended;
 mod expecting;
 mod finding;
 mod host;
+mod last_one;
 pub mod laws;
 mod not_carried;
 mod recovered;

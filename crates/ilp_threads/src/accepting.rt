@@ -49,6 +49,34 @@ impl Acceptor {
         self.busy = busy;
         self.intake.take_over(senders, after);
     }
+
+    /// Accepts no more, as was asked for while it handed nothing on.
+    pub(crate) fn close<J: Naming, R: Wait + Clock>(self, shared: &Shared<'_, J, R>) -> Acceptor {
+        let (mut intake, mut placing) = self.begin(shared);
+        intake.close(&mut placing);
+        placing.into_acceptor(intake)
+    }
+
+    // What takes connections in, and what gives them on.
+    fn begin<'a, J: Naming, R>(self, shared: &Shared<'a, J, R>) -> (Intake<Work>, Placing<'a, R>) {
+        let Acceptor {
+            side,
+            intake,
+            buffer,
+            busy,
+        } = self;
+        let placing = Placing {
+            rt: shared.rt,
+            config: shared.desk.config(),
+            places: shared.places,
+            intakes: shared.intakes,
+            side,
+            buffer,
+            busy,
+            notices: shared.notices,
+        };
+        (intake, placing)
+    }
 }
 
 // Gives a connection on where there is a place for it with the loops.
@@ -62,6 +90,24 @@ struct Placing<'a, R> {
     buffer: Buffer,
     busy: Busy,
     notices: &'a Notices,
+}
+
+impl<R> Placing<'_, R> {
+    // What takes connections in at this side by this intake, as it was.
+    fn into_acceptor(self, intake: Intake<Work>) -> Acceptor {
+        let Placing {
+            side,
+            buffer,
+            busy,
+            ..
+        } = self;
+        Acceptor {
+            side,
+            intake,
+            buffer,
+            busy,
+        }
+    }
 }
 
 impl<R: Wait + Clock> Admission for Placing<'_, R> {
@@ -108,6 +154,10 @@ impl<R: Wait + Clock> Admission for Placing<'_, R> {
         let asks = self.places.give_back(self.rt, kind);
         self.intakes.look_again(asks);
     }
+
+    fn note_closed(&mut self) {
+        self.intakes.note_closed(self.rt, self.side);
+    }
 }
 
 /// The last number of those who send requests: peers have the first, their engines those behind, and all
@@ -132,23 +182,8 @@ pub(crate) fn accept_all<J: Naming, R: Wait + Clock>(
     acceptor: Acceptor,
     jobs: Sender<Job>,
 ) -> Accepted {
-    let Acceptor {
-        side,
-        mut intake,
-        buffer,
-        busy,
-    } = acceptor;
-    let rt = shared.rt;
-    let mut placing = Placing {
-        rt,
-        config: shared.desk.config(),
-        places: shared.places,
-        intakes: shared.intakes,
-        side,
-        buffer,
-        busy,
-        notices: shared.notices,
-    };
+    let (rt, side) = (shared.rt, acceptor.side);
+    let (mut intake, mut placing) = acceptor.begin(&shared);
     // The desk's configuration may be another one than that by which those that wait were looked at.
     intake.look_anew(&mut placing);
     let mut goes_on = false;
@@ -167,12 +202,6 @@ pub(crate) fn accept_all<J: Naming, R: Wait + Clock>(
             Next::Ended => break,
         }
     }
-    let Placing { buffer, busy, .. } = placing;
-    let acceptor = Acceptor {
-        side,
-        intake,
-        buffer,
-        busy,
-    };
+    let acceptor = placing.into_acceptor(intake);
     Accepted { acceptor, goes_on }
 }

@@ -16,8 +16,8 @@ use ilp_links::Links;
 use ilp_notices::{few_files, listening, no_thread, not_listening};
 use ilp_server::Side;
 use ilp_shared::{
-    Configurations, Intakes, KeptJournal, NextConfig, Payouts, PeriodDue, Places, Reloading, Seen,
-    Shared, ending_after, monotonic,
+    Asker, Configurations, Intakes, KeptJournal, NextConfig, Payouts, PeriodDue, Places, Reloading,
+    Seen, Shared, ending_after, monotonic,
 };
 use std::alloc::AllocError;
 use std::io::{Eprint, ErrorKind};
@@ -73,11 +73,12 @@ impl Sides {
             most,
         )?;
         let after = ending_after(config.max_hold_ms());
+        let alloc = config.allocator();
         Ok(Sides {
             acceptors: Acceptors { peers, engines },
-            intakes: Intakes::new(peer_handle, engine_handle, after),
+            intakes: Intakes::new(alloc, peer_handle, engine_handle, after)?,
             reloading: Reloading::new(),
-            payouts: Payouts::new(config.allocator()),
+            payouts: Payouts::new(alloc),
             open_files,
             has_periods,
             not_before: Duration::ZERO,
@@ -90,8 +91,15 @@ impl Sides {
         self.reloading.take_next(rt)
     }
 
-    /// Who asked for that is answered.
-    pub fn free(&self) {
+    /// Who asked for that is told that it is in force, as this line says.
+    pub fn tell_taken(&self, rt: &impl Wait, asker: Asker, line: &str) {
+        asker.taken(rt, &self.intakes, line);
+        self.reloading.free();
+    }
+
+    /// Who asked for that is told that it is not taken, as this line says.
+    pub fn tell_refused(&self, rt: &impl Wait, asker: Asker, line: &str) {
+        asker.refused(rt, &self.intakes, line);
         self.reloading.free();
     }
 
@@ -270,7 +278,7 @@ where
                     is_first: false,
                 }),
                 None => {
-                    reloading.turn_away(rt);
+                    reloading.turn_away(rt, &intakes);
                     None
                 }
             };

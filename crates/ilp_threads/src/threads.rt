@@ -31,6 +31,24 @@ pub(crate) struct Acceptors {
     pub(crate) engines: Acceptor,
 }
 
+impl Acceptors {
+    // Closes both sides where somebody asked for that when neither handed anything on any more: it need not
+    // wait for what comes between two periods.
+    fn closed_as_asked<J: Naming, R: Wait + time::Clock>(
+        self,
+        shared: &Shared<'_, J, R>,
+    ) -> Acceptors {
+        if !shared.intakes.has_closers(shared.rt) {
+            return self;
+        }
+        let Acceptors { peers, engines } = self;
+        Acceptors {
+            peers: peers.close(shared),
+            engines: engines.close(shared),
+        }
+    }
+}
+
 // The threads of the sweeper, the settler and the watcher.
 #[derive(Drop)]
 struct TurnThreads<J: Naming> {
@@ -92,7 +110,7 @@ fn start_keeping<'s, S, J, K, R>(
 where
     J: Naming + Send + Sync + 's,
     K: Keeper<J> + Drop + Send + 's,
-    R: Wait + Sync + 's,
+    R: Wait + time::Clock + Sync + 's,
 {
     let shared = shared.another();
     let Keeping { keeper, asks } = keeping;
@@ -156,6 +174,7 @@ where
         links,
         places: shared.places,
         intakes: shared.intakes,
+        kept: shared.kept,
         notices: shared.notices,
         seen: shared.seen,
         reloading: shared.reloading,
@@ -436,6 +455,10 @@ where
                 None
             };
             let ends = join_actors(shared.rt, threads, settler_bell)?;
+            let acceptors = match acceptors {
+                Some(acceptors) => Some(acceptors.closed_as_asked(&shared)),
+                None => None,
+            };
             Ok(RunPeriod { ends, acceptors })
         },
     )

@@ -6,8 +6,8 @@ use ilp_desk::{Desk, Naming};
 use ilp_keeping::SharedKeeper;
 use ilp_notices::{Notices, not_reloaded};
 use ilp_shared::{
-    Configurations, Intakes, MEMORY_IS_SHORT, NextConfig, PeriodDue, Places, Reloading, Seen,
-    Shutdown, monotonic, without_end,
+    Configurations, Intakes, KeptJournal, MEMORY_IS_SHORT, NextConfig, PeriodDue, Places,
+    Reloading, Seen, Shutdown, monotonic, without_end,
 };
 use ilp_workers::{Clock, Keeper};
 use std::io::Eprint;
@@ -28,6 +28,7 @@ pub(crate) struct Watcher<'a, J: Naming, C: Clock + Drop, K: Keeper<J> + Drop, P
     pub(crate) links: WatcherLinks<J, C, K>,
     pub(crate) places: &'a Places,
     pub(crate) intakes: &'a Intakes,
+    pub(crate) kept: &'a KeptJournal<J>,
     pub(crate) notices: &'a Notices,
     pub(crate) seen: &'a Seen,
     pub(crate) reloading: &'a Reloading,
@@ -95,6 +96,7 @@ where
         self.look_at_clock(rt, state.last);
         self.look_at_journal(rt, state);
         self.look_at_work(rt);
+        self.notices.disk_takes(rt, self.kept.waited(monotonic(rt)));
         self.look_at_keeper(rt);
         self.look_at_period(rt);
         self.look_at_reload(rt);
@@ -166,7 +168,7 @@ where
                     None => MEMORY_IS_SHORT,
                 };
                 not_reloaded(rt, without_end(line));
-                asker.refused(line);
+                asker.refused(rt, self.intakes, line);
                 self.reloading.free();
             }
         }

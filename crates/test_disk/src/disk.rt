@@ -33,16 +33,19 @@ pub const NEXT: &str = "journal.next";
 /// Of the first period, once it has ended.
 pub const PERIOD: &str = "journal.0";
 
+/// Of the second period, once it has ended.
+pub const LATER: &str = "journal.1";
+
 /// Where Linux says what a process may have.
 pub const LIMITS: &str = "/proc/self/limits";
 
 // The names that a file can have.
 const NAMES: [&str; COUNT] = [
-    JOURNAL, LOCK, RUNNING, NEW, LOG, LOG_NEW, ENDED, NEXT, PERIOD, LIMITS,
+    JOURNAL, LOCK, RUNNING, NEW, LOG, LOG_NEW, ENDED, NEXT, PERIOD, LATER, LIMITS,
 ];
 
 // How many these are.
-const COUNT: usize = 10;
+const COUNT: usize = 11;
 
 // The folder's own name.
 pub(crate) const FOLDER: &str = ".";
@@ -73,24 +76,60 @@ impl Faults {
 pub(crate) struct Content {
     pub(crate) now: Vec<u8>,
     kept: Vec<u8>,
+    // Whether an octet of it is still to be written to the device. A sync that fails forgets that.
+    unsynced: Vec<bool>,
 }
 
 impl Content {
+    fn new(alloc: Global) -> Content {
+        Content {
+            now: Vec::new(alloc),
+            kept: Vec::new(alloc),
+            unsynced: Vec::new(alloc),
+        }
+    }
+
     // Writes octets from a place on, behind zeros where that lies past the end.
     pub(crate) fn write(&mut self, alloc: Global, at: usize, octets: &[u8]) -> io::Result<()> {
+        let end = at.saturating_add(octets.len());
         let before = self.now.get(..at).unwrap_or(&self.now);
-        let behind = self.now.get(at.saturating_add(octets.len())..);
+        let behind = self.now.get(end..);
         let mut now = Vec::from_slice(alloc, before)?;
         now.resize(at, 0)?;
         now.extend_from_slice(octets)?;
         now.extend_from_slice(behind.unwrap_or(&[]))?;
+        self.unsynced.resize(now.len(), false)?;
         self.now = now;
+        for written in self.unsynced.iter_mut().skip(at).take(octets.len()) {
+            *written = true;
+        }
         Ok(())
+    }
+
+    // Has the device keep its length, and the octets that are still to be written to it.
+    fn sync(&mut self) -> io::Result<()> {
+        self.kept.resize(self.now.len(), 0)?;
+        self.unsynced.resize(self.now.len(), false)?;
+        for (place, kept) in self.kept.iter_mut().enumerate() {
+            if let (Some(true), Some(now)) = (self.unsynced.get(place), self.now.get(place)) {
+                *kept = *now;
+            }
+        }
+        self.unsynced.fill(false);
+        Ok(())
+    }
+
+    // A sync that failed: what it was to write is written by no later one.
+    fn lose(&mut self) {
+        self.unsynced.fill(false);
     }
 }
 
 // Which content each name has, if it has one.
 type Folder = [Option<usize>; COUNT];
+
+// Which names the device is still to be told. A sync that fails forgets that.
+type Untold = [bool; COUNT];
 
 // What is on a disk, and what was printed.
 #[derive(Drop)]
@@ -98,6 +137,7 @@ pub(crate) struct State {
     pub(crate) alloc: Global,
     now: Folder,
     kept: Folder,
+    untold: Untold,
     pub(crate) contents: Vec<Content>,
     calls: u32,
     faults: Faults,
@@ -119,11 +159,16 @@ pub struct Disk {
 /// When a disk is looked at.
 #[derive(Clone, Copy)]
 pub enum When {
-    /// While the machine runs.
+    /// While the machine runs, and after it has stopped, where the system had written all.
     Now,
-    /// After it has stopped.
+    /// After it has stopped, where the system had written only what it was asked to.
     Stopped,
+    /// The same, where it had written all names, though not what the files have.
+    NamesFirst,
 }
+
+/// What a stop of the machine may leave at a moment, and what is there without one.
+pub const EACH: [When; 3] = [When::Now, When::Stopped, When::NamesFirst];
 
 // Of a file that is not there.
 pub(crate) fn absent() -> io::Error {
@@ -160,8 +205,20 @@ impl State {
     // Gives a name a content, or none.
     pub(crate) fn name(&mut self, path: &str, content: Option<usize>) -> io::Result<()> {
         let place = place_of(path)?;
-        if let Some(named) = self.now.get_mut(place) {
+        if let (Some(named), Some(untold)) = (self.now.get_mut(place), self.untold.get_mut(place)) {
             *named = content;
+            *untold = true;
+        }
+        Ok(())
+    }
+
+    // Has the device keep a name as it is now.
+    fn keep(&mut self, path: &str) -> io::Result<()> {
+        let place = place_of(path)?;
+        let now = self.now.get(place).copied().flatten();
+        if let (Some(kept), Some(untold)) = (self.kept.get_mut(place), self.untold.get_mut(place)) {
+            *kept = now;
+            *untold = false;
         }
         Ok(())
     }
@@ -169,10 +226,21 @@ impl State {
     // A new file of this name, with nothing in it.
     fn make(&mut self, path: &str) -> io::Result<usize> {
         let content = self.contents.len();
-        let (now, kept) = (Vec::new(self.alloc), Vec::new(self.alloc));
-        self.contents.push(Content { now, kept })?;
+        self.contents.push(Content::new(self.alloc))?;
         self.name(path, Some(content))?;
         Ok(content)
+    }
+
+    // The names of the files that are there, each with a NUL behind it.
+    pub(crate) fn names(&self) -> io::Result<Vec<u8>> {
+        let mut names = Vec::new(self.alloc);
+        for (name, content) in NAMES.iter().zip(&self.now) {
+            if content.is_some() {
+                names.extend_from_slice(name.as_bytes())?;
+                names.push(0)?;
+            }
+        }
+        Ok(names)
     }
 
     // Opens a file by its options.
@@ -192,30 +260,48 @@ impl State {
         Ok(Some(found))
     }
 
-    // Has the device keep the content of a file, or the names of the folder.
+    // Has the device keep what was written to a file, or the names of the folder, since it was asked last. Where the
+    // call fails that is lost: no later one writes it.
     pub(crate) fn sync(&mut self, content: Option<usize>) -> io::Result<()> {
+        let called = self.call();
         let Some(content) = content else {
-            self.kept = self.now;
-            return Ok(());
+            if called.is_ok() {
+                self.keep_names();
+            }
+            self.untold = [false; COUNT];
+            return called;
         };
-        if let Some(content) = self.contents.get_mut(content) {
-            content.kept = Vec::from_slice(self.alloc, &content.now)?;
+        match self.contents.get_mut(content) {
+            Some(content) if called.is_ok() => content.sync(),
+            Some(content) => {
+                content.lose();
+                called
+            }
+            None => called,
         }
-        Ok(())
+    }
+
+    // Has the device keep the names that it is still to be told.
+    fn keep_names(&mut self) {
+        for ((kept, now), untold) in self.kept.iter_mut().zip(&self.now).zip(&self.untold) {
+            if *untold {
+                *kept = *now;
+            }
+        }
     }
 
     // The content of a name.
     pub(crate) fn text_of(&self, path: &str, when: When) -> io::Result<Vec<u8>> {
         let place = place_of(path)?;
         let folder = match when {
-            When::Now => self.now,
+            When::Now | When::NamesFirst => self.now,
             When::Stopped => self.kept,
         };
         let content = folder.get(place).copied().flatten().ok_or(absent())?;
         let content = self.contents.get(content).ok_or(absent())?;
         let text = match when {
             When::Now => &content.now,
-            When::Stopped => &content.kept,
+            When::Stopped | When::NamesFirst => &content.kept,
         };
         Ok(Vec::from_slice(self.alloc, text)?)
     }
@@ -230,6 +316,7 @@ impl Disk {
                 alloc,
                 now: [None; COUNT],
                 kept: [None; COUNT],
+                untold: [false; COUNT],
                 contents: Vec::new(alloc),
                 calls: 0,
                 faults,
@@ -258,7 +345,7 @@ impl Disk {
             content.now = Vec::from_slice(alloc, text)?;
             content.kept = Vec::from_slice(alloc, text)?;
         }
-        state.sync(None)
+        state.keep(path)
     }
 
     /// Puts the files that are here then on another disk. No call is counted.

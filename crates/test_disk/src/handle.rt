@@ -80,9 +80,7 @@ impl OpenFile for Handle<'_> {
     }
 
     fn sync_all(&self) -> io::Result<()> {
-        let mut state = self.disk.state()?;
-        state.call()?;
-        state.sync(self.content)
+        self.disk.state()?.sync(self.content)
     }
 
     fn sync_data(&self) -> io::Result<()> {

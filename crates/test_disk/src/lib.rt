@@ -2,7 +2,9 @@
 //! fail, once or from there on.
 //!
 //! What it has after a run is what a machine that stops there finds at its next start: so a disk that fails
-//! from a call on shows each sudden stop.
+//! from a call on shows each sudden stop. A name that is given or taken is there for sure only behind a sync of the
+//! folder, and octets behind one of their file; either may be there before. What a sync that failed was to write is
+//! lost: no later one writes it.
 //!
 //! Its files stand in a cell, since all that is open shares them. No clause can tell what a cell has: so its
 //! calls promise nothing, and tests show what they do.
@@ -15,8 +17,8 @@ mod looks;
 mod machine;
 
 pub use disk::{
-    Disk, ENDED, Faults, JOURNAL, LIMITS, LOCK, LOG, LOG_NEW, MOST_CALLS, NEVER, NEW, NEXT, PERIOD,
-    RUNNING, When,
+    Disk, EACH, ENDED, Faults, JOURNAL, LATER, LIMITS, LOCK, LOG, LOG_NEW, MOST_CALLS, NEVER, NEW,
+    NEXT, PERIOD, RUNNING, When,
 };
 pub use handle::Handle;
 pub use log::{Log, append};

@@ -6,7 +6,7 @@ use ilp_journal_file::{FileIdentity, FileThere, PlacesFiles, put_in_place};
 use std::alloc::{Alloc, Allocator, Global};
 use std::fmt::Display;
 use std::fs::{Metadata, OpenOptions};
-use std::io::{Eprint, ErrorKind, Print};
+use std::io::{Eprint, ErrorKind, Print, Read};
 use std::rt::Files;
 use std::time::{Clock, Duration};
 use std::{fs, io};
@@ -18,7 +18,7 @@ pub struct Machine<'d>(pub &'d Disk);
 impl<'d> Files for Machine<'d> {
     type File = Handle<'d>;
 
-    type Dir = Handle<'d>;
+    type Dir = Listing;
 
     fn open_file(&self, how: &OpenOptions, path: &str) -> io::Result<Handle<'d>> {
         let mut state = self.0.state()?;
@@ -31,8 +31,13 @@ impl<'d> Files for Machine<'d> {
         })
     }
 
-    fn open_dir(&self, _path: &str) -> io::Result<Handle<'d>> {
-        Err(unsupported())
+    fn open_dir(&self, _path: &str) -> io::Result<Listing> {
+        let mut state = self.0.state()?;
+        state.call()?;
+        Ok(Listing {
+            names: state.names()?,
+            at: 0,
+        })
     }
 
     fn metadata(&self, path: &str) -> io::Result<Metadata> {
@@ -78,6 +83,24 @@ impl<'d> Files for Machine<'d> {
 
     fn remove_dir_all<B: Allocator>(&self, _alloc: B, _path: &str) -> io::Result<()> {
         Err(unsupported())
+    }
+}
+
+/// The names of a folder, which one read has all of.
+#[derive(Drop)]
+pub struct Listing {
+    // Each with a NUL behind it.
+    names: Vec<u8>,
+    at: usize,
+}
+
+impl Read for Listing {
+    fn read(&mut self, room: &mut [u8]) -> io::Result<usize> {
+        let left = self.names.get(self.at..).unwrap_or(&[]);
+        let count = left.len().min(room.len());
+        room[..count].copy_from_slice(&left[..count]);
+        self.at = self.at.saturating_add(count);
+        Ok(count)
     }
 }
 

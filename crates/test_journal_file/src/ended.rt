@@ -11,21 +11,23 @@ use std::io;
 use std::process::Abort;
 use std::test::Fail;
 use test_disk::{
-    Disk, ENDED, Faults, JOURNAL, LOG, MOST_CALLS, Machine, NEVER, NEW, NEXT, PERIOD, When, has,
-    is_there,
+    Disk, EACH, ENDED, Faults, JOURNAL, LOG, MOST_CALLS, Machine, NEVER, NEW, NEXT, PERIOD, When,
+    has, is_there,
 };
 
-const OLD_TEXT: &[u8] = b"ilp-journal 1\n100 1 credited bob 6b31 7 2 7\nend 1\n";
+/// The text of a journal.
+pub(crate) const OLD_TEXT: &[u8] = b"ilp-journal 1\n100 1 credited bob 6b31 7 2 7\nend 1\n";
 
-// It goes on from that text, as `sha256sum` has it.
-const OLD_LOG: &[u8] =
+/// A log that goes on from that text, as `sha256sum` has it.
+pub(crate) const OLD_LOG: &[u8] =
     b"ilp-log 1 1 d5dff4d01fd291ab5dfadb2ff7b90cea5b28e663beee6a4432836aa0c31e439b\nrun r1; peer alice XRP 9; peer bob USD 2\n200 1 credited bob 6b32 8 2 8\n\0\0";
 
-// The two of them.
-const WHOLE: &[u8] =
+/// The two of them.
+pub(crate) const WHOLE: &[u8] =
     b"ilp-journal 1\n100 1 credited bob 6b31 7 2 7\n200 1 credited bob 6b32 8 2 8\nend 2\n";
 
-const NEXT_TEXT: &[u8] =
+/// What the next period begins with.
+pub(crate) const NEXT_TEXT: &[u8] =
     b"ilp-journal 2 1\n200 0 opened bob 15\n200 0 known bob 6b31 7 2 7\n200 0 known bob 6b32 8 2 8\nend 3\n";
 
 const NEXT_LOG: &[u8] = b"a log that goes on from the next text";
@@ -33,8 +35,12 @@ const NEXT_LOG: &[u8] = b"a log that goes on from the next text";
 const OTHER_LOG: &[u8] =
     b"ilp-log 1 0 e3b0c44298fc1c149afbf4c8996fb92427ae41e4649b934ca495991b7852b855\nrun r1\n200 1 credited bob 6b39 9 2 9\n";
 
-// A disk with these files.
-fn disk_with(alloc: Global, faults: Faults, files: &[(&str, &[u8])]) -> io::Result<Disk> {
+/// A disk with these files.
+pub(crate) fn disk_with(
+    alloc: Global,
+    faults: Faults,
+    files: &[(&str, &[u8])],
+) -> io::Result<Disk> {
     let disk = Disk::new(alloc, faults);
     for (name, text) in files {
         disk.put(name, text)?;
@@ -66,7 +72,7 @@ fn keep(machine: &Machine<'_>, alloc: Global) -> Result<(), Refused> {
 
 // Keeps what was set aside, of the book of the period that ended.
 fn keep_of_book(machine: &Machine<'_>, alloc: Global) -> Result<(), Refused> {
-    let Ok(config) = Config::read(alloc, TWO_PEERS.as_bytes()) else {
+    let Some(config) = two_peers(alloc) else {
         return Err(Refused::from(Refusal::ConfigUnread));
     };
     let Ok(book) = Book::carry_over(alloc, &config, WHOLE, 300) else {
@@ -108,7 +114,7 @@ fn fail_aside(rt: &(impl Abort + AllocGlobal), count: u32) -> Result<(), Fail> {
     for first in 0..MOST_CALLS {
         let disk = disk_with(rt.alloc(), Faults { first, count }, &RUNNING)?;
         let is_aside = set_aside(&Machine(&disk), rt.alloc()).is_ok();
-        for when in [When::Now, When::Stopped] {
+        for when in EACH {
             let has_begun = expect_log(rt, &disk, when)?;
             assert!(rt; has_begun || !is_aside);
             let left = Disk::new(rt.alloc(), NEVER);
@@ -175,12 +181,13 @@ fn the_machine_stops_where_a_period_is_kept_of_its_book(rt: HostRuntime) -> Resu
 }
 
 // Keeps a period with so many calls that fail, from each call on, and then again what a machine that stops has, of its
-// files.
+// files; and where one call failed, what the same machine has.
 fn fail_keeping(rt: &(impl Abort + AllocGlobal), source: Source, count: u32) -> Result<(), Fail> {
     for first in 0..MOST_CALLS {
         let disk = disk_with(rt.alloc(), Faults { first, count }, &ASIDE)?;
         let is_kept = source.keep(&Machine(&disk), rt.alloc()).is_ok();
-        for when in [When::Now, When::Stopped] {
+        let is_whole = disk.calls()? <= first;
+        for when in EACH {
             expect_either(rt, &disk, when)?;
             let left = Disk::new(rt.alloc(), NEVER);
             disk.put_on(&left, when)?;
@@ -188,9 +195,14 @@ fn fail_keeping(rt: &(impl Abort + AllocGlobal), source: Source, count: u32) -> 
             expect_kept(rt, &left)?;
             assert!(rt; has(&left, LOG, When::Stopped, NEXT_LOG)?);
         }
-        if disk.calls()? <= first {
+        if is_whole {
             assert!(rt; is_kept);
             return expect_kept(rt, &disk);
+        }
+        if count == 1 {
+            // What a sync was to write that failed is written by no later one.
+            keep(&Machine(&disk), rt.alloc())?;
+            expect_kept(rt, &disk)?;
         }
     }
     Err(Fail::from("it takes more calls"))
@@ -232,10 +244,15 @@ host = "127.0.0.1:7002"
 least = 0
 "#;
 
+/// A configuration of two peers.
+pub(crate) fn two_peers(alloc: Global) -> Option<Config> {
+    Config::read(alloc, TWO_PEERS.as_bytes()).ok()
+}
+
 // Goes on with the book of this text, over a disk.
 fn go_on(rt: &(impl Abort + AllocGlobal), disk: &Disk, text: &[u8]) -> Result<(), Fail> {
     let alloc = rt.alloc();
-    let Ok(config) = Config::read(alloc, TWO_PEERS.as_bytes()) else {
+    let Some(config) = two_peers(alloc) else {
         panic!(rt; "no configuration");
     };
     let Ok(book) = Book::carry_over(alloc, &config, text, 300) else {

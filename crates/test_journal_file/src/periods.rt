@@ -7,7 +7,7 @@ use std::io;
 use std::process::Abort;
 use std::test::Fail;
 use test_disk::{
-    Disk, Faults, JOURNAL, LOG, MOST_CALLS, Machine, NEVER, NEW, PERIOD, When, has, is_there,
+    Disk, EACH, Faults, JOURNAL, LOG, MOST_CALLS, Machine, NEVER, NEW, PERIOD, When, has, is_there,
 };
 
 const ENDED: &[u8] = b"the whole text of the period that ends";
@@ -53,13 +53,18 @@ fn fail_each(rt: &(impl Abort + AllocGlobal), count: u32) -> Result<(), Fail> {
             return expect_all(rt, &disk);
         }
         go_on(rt, &disk)?;
+        if count == 1 && !is_ended && has(&disk, JOURNAL, When::Now, ENDED)? {
+            // What a sync was to write that failed is written by no later one.
+            end(&Machine(&disk), rt.alloc())?;
+            expect_both(rt, &disk)?;
+        }
     }
     Err(Fail::from("an end has more calls"))
 }
 
 // The journal is of the period that ends, or the next one beside the text of that. What is kept is whole.
 fn expect_either(rt: &impl Abort, disk: &Disk, is_ended: bool) -> Result<(), Fail> {
-    for when in [When::Now, When::Stopped] {
+    for when in EACH {
         let is_kept = has(disk, PERIOD, when, ENDED)?;
         assert!(rt; is_kept || !is_there(disk, PERIOD, when)?);
         let is_next = is_kept && has(disk, JOURNAL, when, NEXT)? && !is_there(disk, LOG, when)?;
@@ -78,10 +83,17 @@ fn go_on(rt: &(impl Abort + AllocGlobal), disk: &Disk) -> Result<(), Fail> {
     expect_all(rt, &left)
 }
 
-// The next period is there, beside the whole text of the one that ended.
-fn expect_all(rt: &impl Abort, disk: &Disk) -> Result<(), Fail> {
+// The device has both periods by their names. A log may come back that was removed behind a sync that failed: then a
+// start is refused, and all that it has stands in the period that ended.
+fn expect_both(rt: &impl Abort, disk: &Disk) -> Result<(), Fail> {
     assert!(rt; has(disk, JOURNAL, When::Stopped, NEXT)?);
     assert!(rt; has(disk, PERIOD, When::Stopped, ENDED)?);
+    Ok(())
+}
+
+// The next period is there, beside the whole text of the one that ended, and nothing else.
+fn expect_all(rt: &impl Abort, disk: &Disk) -> Result<(), Fail> {
+    expect_both(rt, disk)?;
     assert!(rt; !is_there(disk, LOG, When::Stopped)?);
     assert!(rt; !is_there(disk, NEW, When::Now)?);
     Ok(())

@@ -8,7 +8,7 @@ use std::io;
 use std::process::Abort;
 use std::test::Fail;
 use test_disk::{
-    Disk, JOURNAL, LOG, LOG_NEW, Log, MOST_CALLS, Machine, NEVER, When, append, has, is_there,
+    Disk, EACH, JOURNAL, LOG, LOG_NEW, Log, MOST_CALLS, Machine, NEVER, When, append, has, is_there,
 };
 
 // What a log has when it fails.
@@ -43,8 +43,8 @@ fn fail_once(disk: &Disk, log: &mut Log<'_>) -> Result<bool, Fail> {
     Ok(append(log, LINES[1]).is_err())
 }
 
-// Makes a log anew, with all lines.
-fn renew(log: &mut Log<'_>) -> Result<(), DeviceFault> {
+/// Makes a log anew, with all lines.
+pub(crate) fn renew(log: &mut Log<'_>) -> Result<(), DeviceFault> {
     log.device.open_anew()?;
     log.device.write_anew(HEAD)?;
     for lines in LINES {
@@ -55,7 +55,7 @@ fn renew(log: &mut Log<'_>) -> Result<(), DeviceFault> {
 
 // The log is the new one, and nothing stands beside it.
 fn expect_new(rt: &impl Abort, disk: &Disk) -> io::Result<()> {
-    for when in [When::Now, When::Stopped] {
+    for when in EACH {
         assert!(rt; has(disk, LOG, when, WHOLE_LOG)?);
         assert!(rt; !is_there(disk, LOG_NEW, when)?);
     }
@@ -126,7 +126,7 @@ fn fail_behind(
 
 // The log is the old one or the new one, as a whole, and only the new one where it was told to be.
 fn expect_either(rt: &impl Abort, disk: &Disk, is_renewed: bool) -> io::Result<()> {
-    for when in [When::Now, When::Stopped] {
+    for when in EACH {
         let is_old = !is_renewed && has(disk, LOG, when, OLD_LOG)?;
         assert!(rt; is_old || has(disk, LOG, when, WHOLE_LOG)?);
     }

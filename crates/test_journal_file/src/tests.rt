@@ -9,8 +9,8 @@ use std::io;
 use std::process::Abort;
 use std::test::Fail;
 use test_disk::{
-    Disk, Faults, Handle, JOURNAL, LIMITS, LOCK, LOG, LOG_NEW, Log, MOST_CALLS, Machine, NEVER,
-    NEW, RUNNING, When, append, has, is_there, lines_of,
+    Disk, EACH, Faults, Handle, JOURNAL, LIMITS, LOCK, LOG, LOG_NEW, Log, MOST_CALLS, Machine,
+    NEVER, NEW, RUNNING, When, append, has, is_there, lines_of,
 };
 
 const OLD_TEXT: &[u8] = b"the text that an earlier run has saved";
@@ -157,7 +157,7 @@ fn fail_each(rt: &(impl Abort + AllocGlobal), begins: Begins, count: u32) -> Res
     for first in 0..MOST_CALLS {
         let disk = old_disk(rt.alloc(), begins, Faults { first, count })?;
         let came = run(&Machine(&disk), rt.alloc());
-        for when in [When::Now, When::Stopped] {
+        for when in EACH {
             expect_whole(rt, &disk, begins, when)?;
             expect_logged(rt, &disk, begins, when, came)?;
         }
@@ -250,6 +250,41 @@ fn expect_all(rt: &impl Abort, disk: &Disk, came: Came) -> io::Result<()> {
         assert!(rt; !is_there(disk, name, When::Stopped)?);
     }
     Ok(())
+}
+
+#[test]
+fn what_an_append_tells_is_on_the_device(rt: HostRuntime) -> Result<(), Fail> {
+    for behind in 0..MOST_CALLS {
+        let disk = old_disk(rt.alloc(), Begins::Saved, NEVER)?;
+        if !append_where_one_fails(&rt, &disk, behind)? {
+            return Ok(());
+        }
+    }
+    Err(Fail::from("a log takes more calls"))
+}
+
+// Appends to a log where the call fails that comes behind so many, until an append is refused. Each that isn't is on
+// the device then: a sync that failed is not made good by another. Whether a call failed.
+fn append_where_one_fails(
+    rt: &(impl Abort + AllocGlobal),
+    disk: &Disk,
+    behind: u32,
+) -> Result<bool, Fail> {
+    let machine = Machine(disk);
+    let file = JournalFile::take(&machine, rt.alloc(), JOURNAL)?;
+    let mut log = begin(&machine, rt.alloc(), &file)?;
+    let first = disk.fail_behind(behind, 1)?;
+    for lines in LINES {
+        if append(&mut log, lines).is_err() {
+            break;
+        }
+        for when in EACH {
+            let text = disk.text(LOG, when)?.ok_or("no log")?;
+            assert!(rt; WHOLE_LOG.starts_with(lines_of(&text)));
+            assert!(rt; lines_of(&text).len() >= log.end);
+        }
+    }
+    Ok(disk.calls()? > first)
 }
 
 // ---- what a start finds

@@ -4,6 +4,7 @@ use crate::answers::{answered_message, answered_peer};
 use crate::deeds::count_reject;
 use crate::guest::{Stage, Written};
 use crate::serving::Serving;
+use crate::serving::unread::is_unread;
 use ilp_desk::Naming;
 use ilp_http::Status;
 use ilp_links::{Call, Came};
@@ -70,6 +71,7 @@ impl<J: Naming, C: Clock + Drop, K: Keeper<J> + Drop> Serving<J, C, K> {
         if let Some(due) = stage.due() {
             self.look_by(due);
         }
+        self.has_unread |= is_unread(&stage);
         match &stage {
             Stage::Booked { .. } => {
                 let _ = self.booked.push(place);
@@ -102,6 +104,7 @@ impl<J: Naming, C: Clock + Drop, K: Keeper<J> + Drop> Serving<J, C, K> {
                 Token(place),
                 pending.octets(),
                 &mut self.buffer,
+                &mut self.room,
             ),
             None => Came::Over(None),
         };
@@ -127,6 +130,7 @@ impl<J: Naming, C: Clock + Drop, K: Keeper<J> + Drop> Serving<J, C, K> {
             Token(place),
             message.octets(),
             &mut self.buffer,
+            &mut self.room,
         ) {
             Came::NotYet => Stage::ToEngine { message, call },
             Came::Over(came) => answered_message(shared, message, came, now),
@@ -149,6 +153,7 @@ impl<J: Naming, C: Clock + Drop, K: Keeper<J> + Drop> Serving<J, C, K> {
             Token(place),
             message.packet(),
             &mut self.buffer,
+            &mut self.room,
         ) {
             Came::NotYet => Stage::ToPeer { message, call },
             Came::Over(came) => answered_peer(shared, came, now),
@@ -185,9 +190,6 @@ impl<J: Naming, C: Clock + Drop, K: Keeper<J> + Drop> Serving<J, C, K> {
                 count_reject(shared, response.deed());
                 if is_stranger {
                     shared.notices.wrong_token(shared.rt, address);
-                }
-                if response.closes() {
-                    shared.intakes.close(shared.rt);
                 }
                 Stage::Over
             }

@@ -5,7 +5,7 @@ use crate::deeds::tell_deed;
 use crate::guest::Stage;
 use crate::serving::Serving;
 use ilp_desk::Naming;
-use ilp_shared::{KeepingAsker, Shared};
+use ilp_shared::{KeepingAsker, Shared, monotonic};
 use ilp_workers::{Clock, HandedJournal, Keeper};
 use mio::Registry;
 use std::io::Eprint;
@@ -62,7 +62,9 @@ impl<J: Naming, C: Clock + Drop, K: Keeper<J> + Drop> Serving<J, C, K> {
             asker.ask(shared.rt);
             return;
         }
+        shared.kept.begin(now);
         let handed = self.flight.keep();
+        shared.kept.end(monotonic(shared.rt));
         self.answer_behind(&handed, now);
         self.send_answers(shared, registry, now);
     }
@@ -117,6 +119,7 @@ impl<J: Naming, C: Clock + Drop, K: Keeper<J> + Drop> Serving<J, C, K> {
         registry: &Registry,
         now: Duration,
     ) {
+        let late = self.clock.now();
         let mut left = 0;
         for k in 0..self.booked.len() {
             let Some(place) = self.booked.get(k).copied() else {
@@ -135,6 +138,9 @@ impl<J: Naming, C: Clock + Drop, K: Keeper<J> + Drop> Serving<J, C, K> {
             let stage = mem::replace(&mut guest.stage, Stage::Over);
             if let Stage::Responds { response, .. } = &stage {
                 tell_deed(shared, response.deed());
+                if let Some(told_by) = guest.told_by {
+                    told_by.tell_late(shared, response.deed(), late);
+                }
             }
             self.go_on_from(shared, registry, place, stage, now);
         }

@@ -13,4 +13,4 @@ of_some C text log (Ok c) begins source = (text, log, begins, source)
 of_some C text log (Err r) begins source = begins
 
 pub returns-clause-begins : goal.returns-clause-begins
-returns-clause-begins g c = of_some _ _ _ c.found_book.result c.found_book.ensures.begins c.found_book.ensures.source
+returns-clause-begins g c = of_some _ _ _ c.last_found.result c.last_found.ensures.begins c.last_found.ensures.source

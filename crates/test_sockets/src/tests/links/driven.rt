@@ -3,7 +3,7 @@
 use crate::tests::START;
 use ilp_http::Buffer;
 use ilp_link_traits::{EngineLink, EngineReply, LinkFault, Uplink};
-use ilp_links::{Call, Came, EngineCall, Outside};
+use ilp_links::{Call, Came, EngineCall, Outside, ReplyRoom};
 use ilp_oer::Octets;
 use mio::{Events, Poll, Token};
 use std::alloc::{Allocator, Global};
@@ -22,6 +22,7 @@ pub(super) struct Driven<'a, R> {
     poll: Poll,
     events: Events,
     buffer: Buffer,
+    room: ReplyRoom,
     /// Whether the connector ends.
     pub(super) hurries: bool,
 }
@@ -32,6 +33,7 @@ impl<'a, R: Net + Clock + Eprint> Driven<'a, R> {
             poll: Poll::new(outside.rt)?,
             events: Events::with_capacity(alloc, 16)?,
             buffer: Buffer::new(alloc)?,
+            room: ReplyRoom::new(alloc)?,
             hurries: false,
             outside,
         })
@@ -47,6 +49,7 @@ impl<'a, R: Net + Clock + Eprint> Driven<'a, R> {
                 Token(0),
                 packet,
                 &mut self.buffer,
+                &mut self.room,
             ) {
                 Came::Over(came) => return came,
                 Came::NotYet => {}

@@ -3,7 +3,7 @@
 use super::events::{Event, Row, configuration, play};
 use super::hearing::{At, Hearing};
 use ilp_accounts::{Config, LogSync};
-use ilp_notices::RecoveryNote;
+use ilp_notices::{Again, RecoveryNote};
 use std::io;
 use std::io::{Eprint, ErrorKind};
 use std::test::*;
@@ -405,7 +405,8 @@ fn tell_of_a_journal<R: Clock + Eprint>(rt: &R) {
     ilp_notices::journal_saved(rt, "j", 9);
     ilp_notices::not_saved_yet(rt, "j", &error);
     ilp_notices::not_saved(rt, "j", "j.new", "j.log", &error);
-    ilp_notices::not_saved_at_start(rt, "j", &error);
+    ilp_notices::not_saved_at_start(rt, "j", Again::ByCommand, &error);
+    ilp_notices::not_saved_at_start(rt, "j", Again::ByItself, &error);
     ilp_notices::not_synced(rt, "j", "j.log", &error);
     ilp_notices::nothing_to_save(rt, "j", "j.log");
     ilp_notices::log_left(rt, "j.log", &error);
@@ -438,6 +439,7 @@ fn what_is_told_of_a_journal(rt: HostRuntime) -> Result<(), Fail> {
 1970-01-01T00:00:00.000Z warn journal \"j\": can't be saved: permission denied: make room for it, it is tried again each second for a minute
 1970-01-01T00:00:00.000Z error journal \"j\": not saved: permission denied: it is as at the start, \"j.new\" has what could be written, and what was booked is in \"j.log\", from which the next start goes on: keep all three and the report
 1970-01-01T00:00:00.000Z error journal \"j\": can't be saved: permission denied: make room for it, and start again: nothing is lost
+1970-01-01T00:00:00.000Z error journal \"j\": can't be saved: permission denied: make room for it, and don't kill the connector: it tries again, and what was booked last may be in its memory alone
 1970-01-01T00:00:00.000Z error journal \"j\": it is the new one, but its folder can't be synced: permission denied: see to the disk, and keep \"j.log\", from which the next start goes on, and the report
 1970-01-01T00:00:00.000Z error journal \"j\": not saved, since the connector was refused: it is as at the start, and what was booked is in \"j.log\", from which the next start goes on
 1970-01-01T00:00:00.000Z warn can't remove \"j.log\": permission denied: the journal has all that it has, and the next start removes it
