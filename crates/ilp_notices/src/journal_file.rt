@@ -159,7 +159,15 @@ pub fn journal_of_another_asset<R: Clock + Eprint>(rt: &R, path: &str, config: &
 /// Tells that the file that a connector has locked of a journal lies there no more, and what that means.
 pub fn journal_lost<R: Clock + Eprint>(rt: &R, path: &str, lock: &str) {
     let text = format_args!(
-        "journal {path:?}: {lock:?} was removed or replaced, so another connector may have it: nothing more is kept or told, and none of its files is touched: close this connector, and never remove {lock:?}"
+        "journal {path:?}: {lock:?} was removed or replaced, so another connector may have it: nothing more is kept or told, none of its files is touched, and this connector ends: never remove {lock:?}"
+    );
+    tell(rt, Level::Error, text);
+}
+
+/// Tells that a log has changed since a start read it.
+pub fn log_grows<R: Clock + Eprint>(rt: &R, path: &str, log: &str) {
+    let text = format_args!(
+        "journal {path:?}: {log:?} has changed since it was read, so another connector writes to it: close that one, and never remove its lock"
     );
     tell(rt, Level::Error, text);
 }

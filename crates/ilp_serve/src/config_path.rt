@@ -1,10 +1,12 @@
-//! Where the configuration of a connector that runs is read again.
+//! What a connector that runs has on the disk: where its configuration is read again, and its journal.
 
+use crate::keeping::KeepsPeriods;
 use crate::restart::needs_restart;
 use crate::telling::line_of_refusal;
 use ilp_accounts::Config;
+use ilp_journal_file::JournalWatch;
 use ilp_refusals::Refusal;
-use ilp_running::Configurations;
+use ilp_running::OnDisk;
 use ilp_starting::{Refused, Telling, config_octets, config_of, tell_warnings};
 use std::fs;
 use std::rt::{Files, Runtime};
@@ -43,17 +45,18 @@ fn is_no_file(rt: &impl Files, path: &str) -> bool {
     }
 }
 
-/// The path of the configuration.
-#[derive(Clone, Copy)]
-pub(crate) struct ConfigPath<'f, R> {
+/// The path of the configuration, and the journal, where there is one.
+#[derive(Drop)]
+pub(crate) struct ConnectorFiles<'f, R> {
     pub(crate) rt: R,
-    pub(crate) path: &'f str,
+    pub(crate) config_path: &'f str,
+    pub(crate) journal: Option<JournalWatch>,
 }
 
-impl<R: ReadsConfigs> Configurations for ConfigPath<'_, R> {
+impl<R: ReadsConfigs + KeepsPeriods> OnDisk for ConnectorFiles<'_, R> {
     fn read_again(&self, in_force: &Config) -> Result<Config, Option<String>> {
         let alloc = in_force.allocator();
-        let next = match self.rt.read_config(self.path) {
+        let next = match self.rt.read_config(self.config_path) {
             Ok(next) => next,
             Err(refused) => return Err(line_of_refusal(alloc, &refused)),
         };
@@ -63,6 +66,20 @@ impl<R: ReadsConfigs> Configurations for ConfigPath<'_, R> {
                 let line = format!(in alloc; "`{field}` needs a restart\n");
                 Err(line.ok())
             }
+        }
+    }
+
+    fn has_journal(&self) -> bool {
+        match &self.journal {
+            Some(watch) => self.rt.has_journal(watch),
+            None => true,
+        }
+    }
+
+    fn has_log(&self) -> bool {
+        match &self.journal {
+            Some(watch) => self.rt.has_log(watch),
+            None => true,
         }
     }
 }

@@ -4,6 +4,7 @@ ghost use Rattle.std.specs.Prelude.{◌≤◌, vec_len};
 use ilp_desk::{Desk, JournalReceipt, Naming, Share};
 use ilp_keeping::SharedKeeper;
 use ilp_links::Links;
+use ilp_log_keeper::DiskWait;
 use ilp_loops::{Seat, ServingLoop};
 use ilp_settler::{Settler, Sweeper};
 use ilp_settling::{SettlerBell, SettlingLoop};
@@ -46,6 +47,15 @@ pub(crate) struct Actors<J: Naming, C: Clock + Drop, K: Keeper<J> + Drop> {
 pub(crate) struct Keeping<J: Naming, K: Keeper<J> + Drop> {
     pub(crate) keeper: JournalKeeper<J, K>,
     pub(crate) asks: KeepingAsks,
+}
+
+/// By what the journal of a desk is kept before senders are told: a keeper, and the same for others; how; and for how
+/// long these have waited for the disk.
+#[derive(Drop)]
+pub struct KeptBy<'k, K: Drop> {
+    pub keeper: K,
+    pub way: KeepingWay,
+    pub disk: &'k DiskWait,
 }
 
 /// How the journal is kept before senders are told.

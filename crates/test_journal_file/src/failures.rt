@@ -188,6 +188,30 @@ fn fail_each(rt: &(impl Abort + AllocGlobal), logged: Logged, count: u32) -> Res
     Err(Fail::from("an end has more calls"))
 }
 
+// What a start begins with: the number of its period, and what bob is owed.
+#[derive(Clone, Copy)]
+struct Begins {
+    period: u32,
+    owed: i128,
+}
+
+// What a start over this disk begins with.
+fn begin(disk: &Disk, config: &Config) -> Result<Begins, Refused> {
+    let machine = Machine(disk);
+    let file = JournalFile::take(&machine, config.allocator(), JOURNAL)?;
+    let begun = BookFile {
+        rt: &machine,
+        config,
+        file: &file,
+        path: JOURNAL,
+    }
+    .begin()?;
+    Ok(Begins {
+        period: begun.book.period(),
+        owed: begun.book.balance(BOB),
+    })
+}
+
 // Who starts over what is there then has all that the files had, or all that was booked where the connector goes on: in
 // the journal and its log, or in the next one beside the whole text.
 fn expect_start(
@@ -200,22 +224,13 @@ fn expect_start(
 ) -> Result<(), Fail> {
     let left = Disk::new(rt.alloc(), NEVER);
     disk.put_on(&left, when)?;
-    let machine = Machine(&left);
-    let file = JournalFile::take(&machine, rt.alloc(), JOURNAL)?;
-    let begun = BookFile {
-        rt: &machine,
-        config,
-        file: &file,
-        path: JOURNAL,
-    }
-    .begin()?;
-    let book = begun.book;
-    if book.period() > 0 {
+    let begins = begin(&left, config)?;
+    if begins.period > 0 {
         assert!(rt; has(&left, PERIOD, When::Now, WHOLE)?);
     } else {
         assert!(rt; !is_there(&left, PERIOD, When::Now)?);
     }
-    let is_whole = book.balance(BOB) == OWED;
-    assert!(rt; is_whole || (!goes_on && book.balance(BOB) == logged.owed()));
+    let is_whole = begins.owed == OWED;
+    assert!(rt; is_whole || (!goes_on && begins.owed == logged.owed()));
     Ok(())
 }
