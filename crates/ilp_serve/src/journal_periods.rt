@@ -149,11 +149,7 @@ where
     }
 
     // Goes on with a book behind which no period can begin.
-    fn go_on(
-        &self,
-        book: Book,
-        told: Option<String>,
-    ) -> Result<FollowedBy<'r, R>, ServeFault>
+    fn go_on(&self, book: Book, told: Option<String>) -> Result<FollowedBy<'r, R>, ServeFault>
         requires opening { length book.entries ≡ book.base }
         ensures book { IfOk result (λ f. (f.change ≡ changes.None) × (f.period.book ≡ book)) }
         ensures unkept { IfOk result (λ f. f.unkept ≡ None) }

@@ -16,8 +16,8 @@ use ilp_links::Links;
 use ilp_notices::{ListensAt, few_files, listening, no_thread, not_listening};
 use ilp_server::Side;
 use ilp_shared::{
-    Asker, Intakes, KeptJournal, NextConfig, OnDisk, Payouts, PeriodDue, Places, Reloading,
-    Seen, Shared, ending_after, monotonic,
+    Asker, Intakes, KeptJournal, NextConfig, OnDisk, Payouts, PeriodDue, Places, Reloading, Seen,
+    Shared, ending_after, monotonic,
 };
 use std::alloc::AllocError;
 use std::io::{Eprint, ErrorKind};
@@ -67,13 +67,7 @@ impl Sides {
         let open_files = open_files(rt, config.allocator());
         let most = most_waiting(open_files, config);
         let peers = open_side(rt, config, Side::Ilp, config.listen(), most)?;
-        let engines = open_side(
-            rt,
-            config,
-            Side::Engine,
-            config.engine_listen(),
-            most,
-        )?;
+        let engines = open_side(rt, config, Side::Engine, config.engine_listen(), most)?;
         let at = ListensAt {
             peers: peers.at,
             engines: engines.at,

@@ -14,8 +14,7 @@ use ilp_notices::closing;
 use ilp_settler::Sweeper;
 use ilp_settling::{SettlerBell, SettlingLoop};
 use ilp_shared::{
-    Job, KeepRunning, LOCAL_AT_ONCE, OnDisk, Shared, Shutdown, keep_for_loops,
-    shutdown_pair,
+    Job, KeepRunning, LOCAL_AT_ONCE, OnDisk, Shared, Shutdown, keep_for_loops, shutdown_pair,
 };
 use ilp_workers::{Clock, Keeper};
 use std::io::Eprint;
