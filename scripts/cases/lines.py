@@ -97,6 +97,7 @@ FORMS = [re.compile(form) for form in (
     r"warn open files: \d+ at most, and this configuration may need \d+: set ulimit -n \d+",
     r"error can't listen at .+: .+",
     r"error a thread can't be started",
+    r"error can't open what a thread waits with: .+: raise the limit of open files",
     r"info closing: no connection is accepted any more",
     re.escape(FOLLOWS),
     rf"warn (peer|engine of) {NAME} at {PLACE}: {WHY}({HELD})?{MORE}",

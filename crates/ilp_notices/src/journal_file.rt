@@ -204,6 +204,16 @@ pub fn left_unsaved<R: Clock + Eprint>(rt: &R, new: &str) {
     tell(rt, Level::Warn, text);
 }
 
+/// Tells that what the next period was to begin with is still there, and whether it goes now.
+pub fn left_next<R: Clock + Eprint>(rt: &R, next: &str, goes: bool) {
+    let what = if goes {
+        "of a period's end that did not come about: it is removed"
+    } else {
+        "of the end of another period: nothing of it is read"
+    };
+    tell(rt, Level::Warn, format_args!("{next:?} lies there, {what}"));
+}
+
 /// Tells that the file can't be read, and why.
 pub fn journal_unread<R: Clock + Eprint>(rt: &R, path: &str, error: &io::Error) {
     let text = format_args!("can't read {path:?}: {error}");

@@ -79,6 +79,14 @@ pub fn no_thread<R: Clock + Eprint>(rt: &R) {
     tell(rt, Level::Error, "a thread can't be started");
 }
 
+/// Tells that what a thread waits with can't be opened, and why.
+pub fn no_seat<R: Clock + Eprint>(rt: &R, error: &io::Error) {
+    let text = format_args!(
+        "can't open what a thread waits with: {error}: raise the limit of open files"
+    );
+    tell(rt, Level::Error, text);
+}
+
 /// Tells that no connection is accepted any more.
 pub fn closing<R: Clock + Eprint>(rt: &R) {
     tell(

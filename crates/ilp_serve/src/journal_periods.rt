@@ -18,7 +18,7 @@ use ilp_log::BegunLog;
 use ilp_new_period::{Kept, keep_behind};
 use ilp_notices::no_next_period;
 use ilp_running::{BegunPeriod, RunPeriod, ServeFault, Sides, run_begun};
-use ilp_starting::{BookFile, Host, Refused};
+use ilp_starting::{BookFile, Host, JournalWarnings, Refused, Telling};
 use std::fs::File;
 use std::net::{Net, TcpListener, TcpStream};
 use std::rt::Files;
@@ -132,12 +132,15 @@ where
     {
         let rt = self.rt;
         match keep_behind(rt, self.file, self.path, &ended, &next, is_logged) {
-            Ok(kept) => Ok(Followed {
-                period: self.logged(next, kept)?,
-                unkept: unless_whole(ended, kept),
-                change: Change::NewPeriod,
-                told,
-            }),
+            Ok(kept) => {
+                JournalWarnings::of(rt, &next).tell(rt, self.path, Telling::Notice);
+                Ok(Followed {
+                    period: self.logged(next, kept)?,
+                    unkept: unless_whole(ended, kept),
+                    change: Change::NewPeriod,
+                    told,
+                })
+            }
             Err(refused) => {
                 drop(next);
                 let told = line_of_refusal(rt.alloc(), &refused);
