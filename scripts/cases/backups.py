@@ -12,7 +12,7 @@ from cases.program import Program
 from cases.running_periods import of_bob, small
 from cases.stand_ins import FULFILLS
 from connections import quantity
-from killing.period_books import Periods
+from killing.period_books import Periods, book_of, read_standing
 from scenes import FULFILL
 
 UNREAD, UNWRITTEN = "refused 73 JournalUnread\n", "refused 64 WriteFault\n"
@@ -95,17 +95,19 @@ def send_on(program: Program, is_over: threading.Event, told: list[int]) -> None
 
 
 def fulfilled_in(journal: Path) -> int:
-    """How many packets were fulfilled by a journal, of all its periods."""
-    periods = Periods()
-    periods.read(journal)
-    return sum(len(book.passed) for book in periods.books)
+    """How many packets were fulfilled by a journal, of all its periods, of which none may be missing."""
+    text, log, aside = read_standing(journal)
+    now = book_of(text, log)
+    books = [now] if aside is None else [aside, now]
+    kept = [journal.with_name(f"{journal.name}.{period}").read_bytes() for period in range(books[0].period)]
+    return sum(len(book.passed) for book in books) + sum(whole.count(b" fulfilled ") for whole in kept)
 
 
 @case
 def backups_as_periods_end(laboratory: Laboratory) -> None:
     """Of many backups that are made while periods end each is one that a check takes, of all periods in order, and has
     all that was told before it began."""
-    kept = Kept(laboratory, small(laboratory.stand_in(FULFILLS).port, laboratory, journal=1000, percent=2))
+    kept = Kept(laboratory, small(laboratory.stand_in(FULFILLS).port, laboratory, journal=10_000, percent=2))
     program, is_over, told = kept.serve(), threading.Event(), [0]
     sender = threading.Thread(target=send_on, args=(program, is_over, told))
     sender.start()
