@@ -6,6 +6,7 @@ from dataclasses import replace
 
 from cases.case import case, expect, expect_that, expect_within
 from cases.crowds import Client, Crowd, Hall
+from cases.disks import Disk
 from cases.in_flight import carol_of, packet_of
 from cases.journals import SETTLEMENTS, Kept, keys_of
 from cases.laboratory import (AT_ONCE, END, Laboratory, close, credit, expect_packet, packet_request, post_close,
@@ -137,6 +138,26 @@ def reload_of_a_pipe(laboratory: Laboratory) -> None:
     expect_taken(program, program.setup)
     post_close(program)
     expect_end_of(program, alice=-1, bob=1, period=1)
+
+
+@case
+def reload_of_a_file_that_hangs(laboratory: Laboratory) -> None:
+    """A file that is not read within a second is not taken. The connector goes on meanwhile, and a close is served, with
+    all saved. This is left out where there is no C compiler."""
+    if (disk := Disk.of(laboratory)) is None:
+        return
+    program = Kept(laboratory).serve(environment=disk.environment())
+    disk.hung.touch()
+    try:
+        for _ in range(2):
+            expect("the line", line_of_refusal(program, reload(program)),
+                   f'refused 20 ConfigUnread: "{program.configuration}": not read within a second\n')
+            expect_packet("a packet", program, soon(1), FULFILL)
+        post_close(program)
+        program.await_told(r'info journal ".+": saved with 4 entries')
+    finally:
+        disk.hung.unlink()
+    expect_end_of(program, alice=-2, bob=2, period=0)
 
 
 @case

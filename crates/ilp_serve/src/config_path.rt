@@ -1,6 +1,7 @@
 //! What a connector that runs has on the disk: where its configuration is read again, and its journal.
 
 use crate::keeping::KeepsPeriods;
+use crate::reading::ConfigAsker;
 use crate::restart::needs_restart;
 use crate::telling::line_of_refusal;
 use ilp_accounts::Config;
@@ -8,8 +9,11 @@ use ilp_journal_file::JournalWatch;
 use ilp_refusals::Refusal;
 use ilp_running::OnDisk;
 use ilp_starting::{Refused, Telling, config_octets, config_of, tell_warnings};
+use std::alloc::Global;
 use std::fs;
 use std::rt::{Files, Runtime};
+use std::sync::Wait;
+use std::time::Clock;
 
 /// A runtime that reads configurations. It is asked for beside what else a runtime has: the kit's prover
 /// carries to another thread what is asked for so.
@@ -50,13 +54,31 @@ fn is_no_file(rt: &impl Files, path: &str) -> bool {
 pub(crate) struct ConnectorFiles<'f, R> {
     pub(crate) rt: R,
     pub(crate) config_path: &'f str,
+    /// By what the configuration is read again; none where no thread could be started for that.
+    pub(crate) configs: Option<ConfigAsker>,
     pub(crate) journal: Option<JournalWatch>,
 }
 
-impl<R: ReadsConfigs + KeepsPeriods> OnDisk for ConnectorFiles<'_, R> {
+impl<R: ReadsConfigs + KeepsPeriods + Wait + Clock> ConnectorFiles<'_, R> {
+    // The configuration that stands at the path. It is refused as `ConfigUnread` too where that isn't read within a
+    // second.
+    fn read(&self, alloc: Global) -> Result<Config, Refused> {
+        let Some(configs) = &self.configs else {
+            return self.rt.read_config(self.config_path);
+        };
+        if let Some(read) = configs.read(&self.rt) {
+            return read;
+        }
+        let path = self.config_path;
+        let why = format!(in alloc; "{path:?}: not read within a second");
+        Err(Refused::because(Refusal::ConfigUnread, why))
+    }
+}
+
+impl<R: ReadsConfigs + KeepsPeriods + Wait + Clock> OnDisk for ConnectorFiles<'_, R> {
     fn read_again(&self, in_force: &Config) -> Result<Config, Option<String>> {
         let alloc = in_force.allocator();
-        let next = match self.rt.read_config(self.config_path) {
+        let next = match self.read(alloc) {
             Ok(next) => next,
             Err(refused) => return Err(line_of_refusal(alloc, &refused)),
         };

@@ -10,6 +10,7 @@ use crate::followed::{Change, Followed, FollowedBy, NextPeriod};
 use crate::journal_periods::JournalPeriods;
 use crate::keeping::KeepsPeriods;
 use crate::memory_periods::follow_unkept;
+use crate::reading::ConfigAsker;
 use crate::telling::tell_asker;
 use ilp_accounts::Config;
 use ilp_book::Book;
@@ -30,8 +31,9 @@ use std::rt::{Files, Runtime};
 #[derive(Clone, Copy)]
 pub(crate) struct Periods<'r, 'f, R> {
     pub(crate) rt: &'r R,
-    /// Where the configuration is read again.
+    /// Where the configuration is read again, and by what.
     pub(crate) config_path: &'r str,
+    pub(crate) configs: Option<&'f ConfigAsker>,
     pub(crate) kept: Option<JournalPeriods<'r, 'f, R>>,
 }
 
@@ -88,13 +90,8 @@ where
         let Ok(links) = links_of(rt, begun.book.config()) else {
             return Err(ServeFault::Unprinted(Unprinted::Memory));
         };
-        let Ok(journal) = self.watch(begun.book.config().allocator()) else {
+        let Ok(on_disk) = self.on_disk(begun.book.config().allocator()) else {
             return Err(ServeFault::Unprinted(Unprinted::Memory));
-        };
-        let on_disk = ConnectorFiles {
-            rt: *rt,
-            config_path: self.config_path,
-            journal,
         };
         match &self.kept {
             Some(kept) => kept.run(begun, unkept, &links, on_disk, sides),
@@ -102,7 +99,20 @@ where
         }
     }
 
-    // What its watcher looks at of its journal, where it has one.
+    // What its watcher looks at on the disk.
+    fn on_disk(&self, alloc: Global) -> Result<ConnectorFiles<'r, R>, AllocError> {
+        let configs = match self.configs {
+            Some(configs) => Some(configs.try_clone()?),
+            None => None,
+        };
+        Ok(ConnectorFiles {
+            rt: *self.rt,
+            config_path: self.config_path,
+            configs,
+            journal: self.watch(alloc)?,
+        })
+    }
+
     fn watch(&self, alloc: Global) -> Result<Option<JournalWatch>, AllocError> {
         match &self.kept {
             Some(kept) => Ok(Some(kept.file.watch(alloc)?)),

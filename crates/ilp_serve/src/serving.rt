@@ -1,18 +1,22 @@
 //! The command `serve`.
+ghost use denote.Param.Send.{IsSend, IsSync};
 
 use crate::config_path::ReadsConfigs;
 use crate::keeping::KeepsPeriods;
+use crate::reading::reading_pair;
 use crate::run::Run;
 use ilp_journal_file::PlacesFiles;
 use ilp_starting::{Host, RunFault, noticed};
 use std::fs::File;
 use std::net::{Net, TcpListener, TcpStream};
 use std::rt::Files;
+use std::thread;
 
 /// Runs a connector of the configuration at this path until it is asked to close, and prints its report.
 /// Where there is a path of a journal, it begins with what that has, keeps it there period by period, and
 /// saves it in the end, whatever became of the report. Where it is asked to, it reads the configuration
-/// again, and goes on by that.
+/// again, and goes on by that. What it reads then it waits for within a second; where the system gives back a file
+/// later, the process is over only then, with all of this done.
 ///
 /// Refusals: those of `configured`; of the journal's file and its text, before anything runs; and why a
 /// connector gave no book back (`ilp_running::ServeFault`). Then nothing is saved.
@@ -26,13 +30,28 @@ where
         + Net<Listener = TcpListener, Stream = TcpStream>,
 {
     let config = noticed(rt, path)?;
-    let run = Run {
+    let (asker, reader) = reading_pair(rt.alloc())?;
+    thread::scope(
+        thread::scope_env(),
         rt,
-        path,
-        config: &config,
-    };
-    match journal {
-        Some(path) => run.serve_journal(path),
-        None => run.serve_once(),
-    }
+        move |scope| -> Result<(), RunFault>
+            requires { IsSend R.row × IsSync R.row }
+        {
+            // Without such a thread the watcher reads.
+            let configs = match scope.spawn(move || reader.run(rt, path)) {
+                Ok(_reading) => Some(&asker),
+                Err(_) => None,
+            };
+            let run = Run {
+                rt,
+                path,
+                config: &config,
+                configs,
+            };
+            match journal {
+                Some(path) => run.serve_journal(path),
+                None => run.serve_once(),
+            }
+        },
+    )
 }
