@@ -3,7 +3,7 @@
 use crate::copies::Copies;
 use crate::held::HeldFiles;
 use crate::seen::{Part, stands_still};
-use crate::source::{LOCK, Source, beside, ending_of};
+use crate::source::{LOCK, Source, beside, ending_of, name_of};
 use ilp_journal_file::PlacesFiles;
 use ilp_refusals::Refusal;
 use ilp_starting::{Refused, RunFault};
@@ -49,7 +49,7 @@ where
     if HeldFiles::open(&source)?.is_nothing() {
         return Err(source.unread(path, &io::Error::from(ErrorKind::NotFound)));
     }
-    let mut copies = match Copies::begin(rt, folder, source.name()) {
+    let mut copies = match Copies::begin(rt, folder, name_of(path)) {
         Ok(copies) => copies,
         Err(error) => return Err(unwritten(rt.alloc(), folder, &error)),
     };

@@ -163,17 +163,18 @@ where
     pub(crate) fn kept(&self) -> Result<Vec<u32>, Refused> {
         match self.listed() {
             Ok(numbers) => Ok(numbers),
-            Err(error) => Err(self.unread(self.folder(), &error)),
+            Err(error) => Err(self.unread(folder_of(self.path), &error)),
         }
     }
 
     // The same, as the system tells it.
     fn listed(&self) -> io::Result<Vec<u32>> {
+        let journal = name_of(self.path);
         let mut numbers = Vec::new(self.rt.alloc());
-        for entry in fs::read_dir(self.rt, self.folder())? {
+        for entry in fs::read_dir(self.rt, folder_of(self.path))? {
             match entry {
                 Ok(entry) => {
-                    if let Some(period) = period_in(entry.file_name(), self.name()) {
+                    if let Some(period) = period_in(entry.file_name(), journal) {
                         numbers.push(period)?;
                     }
                 }
@@ -196,18 +197,19 @@ where
     }
 }
 
-impl<R> Source<'_, R> {
-    /// The journal's folder.
-    pub(crate) fn folder(&self) -> &str {
-        match Path::new(self.path).parent() {
-            Some(folder) if !folder.as_str().is_empty() => folder.as_str(),
-            _ => ".",
-        }
+// The folder of the journal at a path.
+fn folder_of(path: &str) -> &str {
+    match Path::new(path).parent() {
+        Some(folder) if !folder.as_str().is_empty() => folder.as_str(),
+        _ => ".",
     }
+}
 
-    /// The journal's name there.
-    pub(crate) fn name(&self) -> &str {
-        Path::new(self.path).file_name().unwrap_or("")
+/// The name there of the journal at a path.
+pub(crate) fn name_of(path: &str) -> &str {
+    match Path::new(path).file_name() {
+        Some(name) => name,
+        None => "",
     }
 }
 
