@@ -1,4 +1,5 @@
 """What lines advise an operator of a journal that is refused, each followed word for word: the start is taken then."""
+import re
 import shutil
 
 from cases.case import case, expect, expect_that
@@ -29,6 +30,27 @@ def saved_one(kept: Kept, key: str) -> None:
     expect("a credit", credit(program, 7, key=key), created(quantity(7, 2)))
     post_close(program)
     expect("the exit status", program.end(10.0), 0)
+
+
+@case
+def advice_to_move_kept_periods_away(laboratory: Laboratory) -> None:
+    """Who wants to go on from an older copy of the first period, beside which later ones are kept, moves those away
+    that its line names, and is refused no more."""
+    kept = Kept(laboratory)
+    saved_one(kept, "k0")
+    older = kept.path.read_bytes()
+    close_periods(kept, "k1", "k2", "k3")
+    kept.path.write_bytes(older)
+    kept.expect_refused(UNREAD, OLDER)
+    program = kept.start()
+    expect("the exit status", program.end(10.0), 1)
+    found = re.search(r"move the kept periods away from (\d+) on", program.errors())
+    expect_that(f"no line names them: {program.errors()!r}", found is not None)
+    for name in kept.files():
+        period = name.removeprefix("journal.")
+        if period.isdigit() and found is not None and int(period) >= int(found[1]):
+            kept.beside(period).rename(laboratory.folder() / name)
+    close(kept.serve(), bob=7)
 
 
 @case

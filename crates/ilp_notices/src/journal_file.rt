@@ -242,10 +242,11 @@ pub fn period_differs<R: Clock + Eprint>(rt: &R, kept: &str) {
     tell(rt, Level::Error, text);
 }
 
-/// Tells that a text of a period that has ended lies beside the journal, of which that and its log don't have all.
-pub fn journal_older<R: Clock + Eprint>(rt: &R, path: &str, period: u32) {
+/// Tells that a text of a period that has ended lies beside the journal, of which that and its log don't have all: the
+/// last of those that do, and of which period the journal is.
+pub fn journal_older<R: Clock + Eprint>(rt: &R, path: &str, last: u32, own: u32) {
     let text = format_args!(
-        "journal {path:?}: the period {period} has ended beside it, and it lacks what that has: put back the journal and the log that were there last, or, to go on from this one and lose what came since, move the kept periods away from {period} on"
+        "journal {path:?}: the period {last} has ended beside it, and it lacks what that has: put back the journal and the log that were there last, or, to go on from this one and lose what came since, move the kept periods away from {own} on"
     );
     tell(rt, Level::Error, text);
 }
