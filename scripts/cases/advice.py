@@ -10,6 +10,7 @@ from cases.lines import OF_ANOTHER_TEXT
 from cases.logs import killed, log_of, saved
 from cases.messages import created
 from cases.periods import Closing, closed_book, dearer
+from cases.running_periods import expect_end_of
 from connections import quantity
 
 OLDER = r"error journal .+: the period \d+ has ended beside it, and it lacks what that has: .+"
@@ -30,6 +31,13 @@ def saved_one(kept: Kept, key: str) -> None:
     expect("a credit", credit(program, 7, key=key), created(quantity(7, 2)))
     post_close(program)
     expect("the exit status", program.end(10.0), 0)
+
+
+def close_later(kept: Kept, bob: int) -> None:
+    """A connector of the period behind the first is closed, with what bob is owed."""
+    program = kept.serve()
+    post_close(program)
+    expect_end_of(program, alice=0, bob=bob, period=1)
 
 
 @case
@@ -67,7 +75,7 @@ def advice_to_put_the_last_ones_back(laboratory: Laboratory) -> None:
     kept.expect_refused(UNREAD, OLDER)
     kept.path.write_bytes(last)
     kept.beside("log").write_text(log)
-    close(kept.serve(), bob=21)
+    close_later(kept, bob=21)
 
 
 @case
@@ -79,7 +87,7 @@ def advice_to_put_a_journal_back(laboratory: Laboratory) -> None:
     kept.path.rename(aside / "journal")
     kept.expect_refused(UNREAD, GONE)
     shutil.copy(aside / "journal", kept.path)
-    close(kept.serve(), bob=7)
+    close_later(kept, bob=7)
     kept.path.unlink()
     kept.beside("0").rename(aside / "journal.0")
     close(kept.serve())
