@@ -12,8 +12,8 @@
 //! A log that was set aside is taken back where no next period could begin, and then the journal is written anew before
 //! anything is booked: so what was copied by then had all.
 //!
-//! What files give and take, no clause can say: it stands in the comments. `test_backup` ends a period between any two
-//! calls of a backup, and the cases of `scripts/check.py` do so beside the program.
+//! What files give and take, no clause can say: it stands in the comments. The cases of `scripts/check.py` make backups
+//! while periods end.
 //!
 //! # What is proved
 //!

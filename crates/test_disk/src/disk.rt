@@ -39,71 +39,16 @@ pub const LATER: &str = "journal.1";
 /// Where Linux says what a process may have.
 pub const LIMITS: &str = "/proc/self/limits";
 
-/// Of the folder that copies may be put in.
-pub const COPIES: &str = "copies";
-
 // The names that a file can have.
 const NAMES: [&str; COUNT] = [
-    JOURNAL,
-    LOCK,
-    RUNNING,
-    NEW,
-    LOG,
-    LOG_NEW,
-    ENDED,
-    NEXT,
-    PERIOD,
-    LATER,
-    LIMITS,
-    "copies/journal",
-    "copies/journal.lock",
-    "copies/journal.log",
-    "copies/journal.ended",
-    "copies/journal.next",
-    "copies/journal.0",
-    "copies/journal.1",
-    "copies/journal.part",
-    "copies/journal.lock.part",
-    "copies/journal.log.part",
-    "copies/journal.ended.part",
-    "copies/journal.next.part",
-    "copies/journal.0.part",
-    "copies/journal.1.part",
+    JOURNAL, LOCK, RUNNING, NEW, LOG, LOG_NEW, ENDED, NEXT, PERIOD, LATER, LIMITS,
 ];
 
 // How many these are.
-const COUNT: usize = 25;
+const COUNT: usize = 11;
 
 // The folder's own name.
-const FOLDER: &str = ".";
-
-// What the names begin with of the files in the other folder.
-const IN_COPIES: &str = "copies/";
-
-/// Whether a path is that of a folder.
-pub(crate) fn is_folder(path: &str) -> bool {
-    path == FOLDER || path == COPIES
-}
-
-/// What somebody else does to the files of a disk meanwhile.
-#[derive(Clone, Copy)]
-pub enum Step {
-    /// A new file comes to a name, with this text.
-    Place(&'static str, &'static [u8]),
-    /// The file of the first name takes the other one.
-    Rename(&'static str, &'static str),
-    /// The file of a name goes.
-    Remove(&'static str),
-    /// The file of a name has this text from now on.
-    Write(&'static str, &'static [u8]),
-}
-
-// A step, before the call of this number.
-#[derive(Clone, Copy)]
-struct Due {
-    call: u32,
-    step: Step,
-}
+pub(crate) const FOLDER: &str = ".";
 
 /// Which calls on a disk fail: so many from the first on, counted from 0.
 #[derive(Clone, Copy)]
@@ -196,8 +141,6 @@ pub(crate) struct State {
     pub(crate) contents: Vec<Content>,
     calls: u32,
     faults: Faults,
-    due: Vec<Due>,
-    each: Option<Step>,
     pub(crate) told: String,
     pub(crate) printed: Vec<u8>,
 }
@@ -237,15 +180,6 @@ pub(crate) fn unsupported() -> io::Error {
     io::Error::from(ErrorKind::Unsupported)
 }
 
-// The name in a folder of the file at a path, if it lies there.
-fn name_in<'p>(folder: &str, path: &'p str) -> Option<&'p str> {
-    match path.strip_prefix(IN_COPIES) {
-        Some(name) if folder.starts_with(COPIES) => Some(name),
-        None if !folder.starts_with(COPIES) => Some(path),
-        _ => None,
-    }
-}
-
 // The place of a name.
 fn place_of(path: &str) -> io::Result<usize> {
     NAMES.iter().position(|name| *name == path).ok_or(absent())
@@ -255,55 +189,9 @@ impl State {
     // Counts a call, which may be one that fails.
     pub(crate) fn call(&mut self) -> io::Result<()> {
         let call = self.calls;
-        self.take_steps(call)?;
         self.calls = call.saturating_add(1);
         if self.faults.has(call) {
             return Err(io::Error::from(ErrorKind::StorageFull));
-        }
-        Ok(())
-    }
-
-    // Takes the steps that are due before a call.
-    fn take_steps(&mut self, call: u32) -> io::Result<()> {
-        if let Some(step) = self.each {
-            self.take(step)?;
-        }
-        for place in 0..self.due.len() {
-            let Some(due) = self.due.get(place).copied() else {
-                break;
-            };
-            if due.call == call {
-                self.take(due.step)?;
-            }
-        }
-        Ok(())
-    }
-
-    // Takes a step.
-    fn take(&mut self, step: Step) -> io::Result<()> {
-        match step {
-            Step::Place(name, text) => {
-                let made = self.make(name)?;
-                self.write_whole(made, text)
-            }
-            Step::Rename(from, to) => {
-                let content = self.content_of(from)?;
-                self.name(from, None)?;
-                self.name(to, Some(content))
-            }
-            Step::Remove(name) => self.name(name, None),
-            Step::Write(name, text) => {
-                let content = self.content_of(name)?;
-                self.write_whole(content, text)
-            }
-        }
-    }
-
-    // Has a content be this text.
-    fn write_whole(&mut self, content: usize, text: &[u8]) -> io::Result<()> {
-        let alloc = self.alloc;
-        if let Some(content) = self.contents.get_mut(content) {
-            content.now = Vec::from_slice(alloc, text)?;
         }
         Ok(())
     }
@@ -343,11 +231,11 @@ impl State {
         Ok(content)
     }
 
-    // The names of the files that are there in a folder, each with a NUL behind it.
-    pub(crate) fn names(&self, folder: &str) -> io::Result<Vec<u8>> {
+    // The names of the files that are there, each with a NUL behind it.
+    pub(crate) fn names(&self) -> io::Result<Vec<u8>> {
         let mut names = Vec::new(self.alloc);
-        for (path, content) in NAMES.iter().zip(&self.now) {
-            if let (Some(_), Some(name)) = (content, name_in(folder, path)) {
+        for (name, content) in NAMES.iter().zip(&self.now) {
+            if content.is_some() {
                 names.extend_from_slice(name.as_bytes())?;
                 names.push(0)?;
             }
@@ -357,7 +245,7 @@ impl State {
 
     // Opens a file by its options.
     pub(crate) fn open(&mut self, how: &OpenOptions, path: &str) -> io::Result<Option<usize>> {
-        if is_folder(path) {
+        if path == FOLDER {
             return Ok(None);
         }
         let found = match self.content_of(path) {
@@ -432,8 +320,6 @@ impl Disk {
                 contents: Vec::new(alloc),
                 calls: 0,
                 faults,
-                due: Vec::new(alloc),
-                each: None,
                 told: String::new(alloc),
                 printed: Vec::new(alloc),
             }),
@@ -478,28 +364,6 @@ impl Disk {
         let first = state.calls.saturating_add(calls);
         state.faults = Faults { first, count };
         Ok(first)
-    }
-
-    /// Somebody else takes a step before the call of this number, behind those that are due then already.
-    pub fn step_before(&self, call: u32, step: Step) -> io::Result<()> {
-        self.state()?.due.push(Due { call, step })?;
-        Ok(())
-    }
-
-    /// Somebody else takes a step before each call.
-    pub fn step_before_each(&self, step: Step) -> io::Result<()> {
-        self.state()?.each = Some(step);
-        Ok(())
-    }
-
-    /// Somebody else takes a step now. No call is counted.
-    pub fn take_step(&self, step: Step) -> io::Result<()> {
-        self.state()?.take(step)
-    }
-
-    /// The allocator that it has.
-    pub fn allocator(&self) -> Global {
-        self.alloc
     }
 
     /// Takes a file away, as somebody else does. No call is counted.

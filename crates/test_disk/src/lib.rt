@@ -17,8 +17,8 @@ mod looks;
 mod machine;
 
 pub use disk::{
-    COPIES, Disk, EACH, ENDED, Faults, JOURNAL, LATER, LIMITS, LOCK, LOG, LOG_NEW, MOST_CALLS,
-    NEVER, NEW, NEXT, PERIOD, RUNNING, Step, When,
+    Disk, EACH, ENDED, Faults, JOURNAL, LATER, LIMITS, LOCK, LOG, LOG_NEW, MOST_CALLS, NEVER, NEW,
+    NEXT, PERIOD, RUNNING, When,
 };
 pub use handle::Handle;
 pub use log::{Log, append};

@@ -1,6 +1,6 @@
 //! What runs over a disk.
 
-use crate::disk::{Disk, When, absent, is_folder, unsupported};
+use crate::disk::{Disk, FOLDER, When, absent, unsupported};
 use crate::handle::Handle;
 use ilp_journal_file::{FileIdentity, FileThere, PlacesFiles, put_in_place};
 use std::alloc::{Alloc, Allocator, Global};
@@ -31,11 +31,11 @@ impl<'d> Files for Machine<'d> {
         })
     }
 
-    fn open_dir(&self, path: &str) -> io::Result<Listing> {
+    fn open_dir(&self, _path: &str) -> io::Result<Listing> {
         let mut state = self.0.state()?;
         state.call()?;
         Ok(Listing {
-            names: state.names(path)?,
+            names: state.names()?,
             at: 0,
         })
     }
@@ -47,7 +47,7 @@ impl<'d> Files for Machine<'d> {
     fn symlink_metadata(&self, path: &str) -> io::Result<Metadata> {
         let mut state = self.0.state()?;
         state.call()?;
-        if is_folder(path) {
+        if path == FOLDER {
             return Ok(Metadata::of_dir());
         }
         let text = state.text_of(path, When::Now)?;
