@@ -113,7 +113,7 @@ fn first_changed(alloc: Global, book: &Book, text: &[u8]) -> Result<Option<u32>,
 {
     let config = book.config();
     for peer in 0..config.peers() {
-        if is_counted(book, peer) && has_other_asset(alloc, config, text, peer)? {
+        if has_other_asset(alloc, config, text, peer)? && is_counted(book, peer) {
             return Ok(Some(peer));
         }
     }
