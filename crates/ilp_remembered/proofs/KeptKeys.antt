@@ -1,5 +1,5 @@
 -- The keys of a peer's credits, found by the credits.
-use Rattle.std.proofs.Common.{◌≡◌, ℕ, ◌+◌, ◌<◌, ◌≤◌, Bool, true, false, ◌&&◌, List, length, Option, Some, None, refl, sym, ap, ap₂, ◌∙◌, subst, arith, slice_get, option_and_then, option_map, unwrap_or, ◌==◌}
+use Rattle.std.proofs.Common.{◌≡◌, ℕ, ◌<◌, ◌≤◌, Bool, true, false, ◌&&◌, length, Option, Some, None, refl, sym, ap, ap₂, ◌∙◌, subst, arith, slice_get, option_and_then, option_map, unwrap_or, ◌==◌}
 use Rattle.std.specs.Prelude.{◌↔◌, IsNone, IsSomeAnd, IsTrue}
 use Rattle.std.specs.Str.{bytes_eq}
 use Rattle.std.proofs.lemmas.Bool.{eqb-true, eq-eqb}
@@ -46,7 +46,7 @@ is_kept j peer n its none = of (slice_get j n) refl its
 
 -- where no entry does, none is
 is_not_kept : (j : Entries) (peer : ℕ) → HasNoCreditOf j peer (length j) → KeepsNoKey j peer
-is_not_kept j peer no key = of (kept_at j peer key) refl
+is_not_kept j peer nowhere key = of (kept_at j peer key) refl
   where
     both : (a b : Bool) → (a && b) ≡ true → a ≡ true
     both true b is = refl
@@ -64,7 +64,7 @@ is_not_kept j peer no key = of (kept_at j peer key) refl
     of (Some n) is =
         let found = first_found (λ _ (e : Entry). has_key peer key e.what) 0 n j is in
         let at : slice_get j n ≡ Some found.1 = subst (λ k. slice_get j k ≡ Some found.1) (omega (arith, found.2)) found.3 in
-        absurd (no n (slice_get_within j n found.1 at) (subst (λ (o : Option Entry). IsSomeAnd (option_and_then (λ (e : Entry). as_credit e.what) o) (λ (c : Credited). c.peer ≡ peer)) (sym at) (passing found.1 found.4)))
+        absurd (nowhere n (slice_get_within j n found.1 at) (subst (λ (o : Option Entry). IsSomeAnd (option_and_then (λ (e : Entry). as_credit e.what) o) (λ (c : Credited). c.peer ≡ peer)) (sym at) (passing found.1 found.4)))
 
 -- so it is told where one was found
 pub kept : (j : Entries) (peer n : ℕ) (is : Bool) → (IsTrue is ↔ IsCreditOf j peer n) → is ≡ true → (IsTrue true ↔ ¬ (KeepsNoKey j peer))
@@ -72,4 +72,4 @@ kept j peer n is tells found = (λ _. is_kept j peer n (tells.0 found), λ _. re
 
 -- and where all were looked at
 pub not_kept : (j : Entries) (peer count : ℕ) → length j ≤ count → HasNoCreditOf j peer count → (IsTrue false ↔ ¬ (KeepsNoKey j peer))
-not_kept j peer count all no = (λ f. absurd cc, λ kept. absurd (kept (is_not_kept j peer (λ n within. no n (omega (arith, within, all))))))
+not_kept j peer count all nowhere = (λ f. absurd cc, λ kept. absurd (kept (is_not_kept j peer (λ n within. nowhere n (omega (arith, within, all))))))
