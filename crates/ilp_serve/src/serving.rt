@@ -3,8 +3,9 @@ ghost use denote.Param.Send.{IsSend, IsSync};
 
 use crate::config_path::ReadsConfigs;
 use crate::keeping::KeepsPeriods;
-use crate::reading::reading_pair;
+use crate::reading::{ConfigAsker, reading_pair};
 use crate::run::Run;
+use ilp_accounts::Config;
 use ilp_journal_file::PlacesFiles;
 use ilp_starting::{Host, RunFault, noticed};
 use std::fs::File;
@@ -42,16 +43,35 @@ where
                 Ok(_reading) => Some(&asker),
                 Err(_) => None,
             };
-            let run = Run {
-                rt,
-                path,
-                config: &config,
-                configs,
-            };
-            match journal {
-                Some(path) => run.serve_journal(path),
-                None => run.serve_once(),
-            }
+            serve_by(rt, path, &config, configs, journal)
         },
     )
+}
+
+// The same by this configuration, which is read again by that; else by the watcher.
+fn serve_by<'f, R>(
+    rt: &'f R,
+    path: &'f str,
+    config: &'f Config,
+    configs: Option<&'f ConfigAsker>,
+    journal: Option<&str>,
+) -> Result<(), RunFault>
+where
+    R: Host
+        + Files<File = File>
+        + PlacesFiles<File = File>
+        + ReadsConfigs
+        + KeepsPeriods
+        + Net<Listener = TcpListener, Stream = TcpStream>,
+{
+    let run = Run {
+        rt,
+        path,
+        config,
+        configs,
+    };
+    match journal {
+        Some(path) => run.serve_journal(path),
+        None => run.serve_once(),
+    }
 }
