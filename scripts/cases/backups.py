@@ -9,7 +9,7 @@ from cases.journals import Kept, expect_lines
 from cases.laboratory import Laboratory, close, credit, expect_served, post_close
 from cases.messages import created, post, response
 from cases.program import Program
-from cases.running_periods import of_bob, small
+from cases.running_periods import expect_end_of, of_bob, small
 from cases.stand_ins import FULFILLS
 from connections import quantity
 from killing.period_books import Periods, book_of, read_standing
@@ -82,7 +82,9 @@ def backup_of_a_closed_journal(laboratory: Laboratory) -> None:
     copy = backed_up(kept, laboratory.folder())
     expect("the copies", copy.contents(), kept.contents())
     expect("their names", copy.files(), ["journal", "journal.0", "journal.lock"])
-    close(copy.serve(), bob=30)
+    program = copy.serve()
+    post_close(program)
+    expect_end_of(program, alice=0, bob=30, period=1)
 
 
 # ---- as periods end

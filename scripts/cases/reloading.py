@@ -149,10 +149,11 @@ def reload_of_a_file_that_hangs(laboratory: Laboratory) -> None:
     program = Kept(laboratory).serve(environment=disk.environment())
     disk.hung.touch()
     try:
-        for _ in range(2):
-            expect("the line", line_of_refusal(program, reload(program)),
-                   f'refused 20 ConfigUnread: "{program.configuration}": not read within a second\n')
-            expect_packet("a packet", program, soon(1), FULFILL)
+        expect("the line", line_of_refusal(program, reload(program)),
+               f'refused 20 ConfigUnread: "{program.configuration}": not read within a second\n')
+        expect_packet("a packet", program, soon(1), FULFILL)
+        expect_that("it is read again", b": not read within a second\n" in reload(program))
+        expect_packet("another packet", program, soon(1), FULFILL)
         post_close(program)
         program.await_told(r'info journal ".+": saved with 4 entries')
     finally:
