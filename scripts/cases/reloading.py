@@ -195,7 +195,7 @@ def reload_that_leaves_a_balance_out(laboratory: Laboratory) -> None:
     expect_not_taken(program, replace(kept.setup, further=tighter),
                      "refused 43 BelowLeast -5: carol has the balance -5, below its `least` in the next "
                      "configuration\n")
-    expect("how often a line says that none can begin", len(program.told(rf"error {NO_NEXT}")), 2)
+    expect("how often a line speaks of a full journal", len(program.told(rf"error {NO_NEXT}")), 0)
     expect("the periods that have ended", ended_lines(program), [])
     expect("the files", kept.files(), ["journal", "journal.lock", "journal.log"])
     expect("carol's packet", post(port, packet_of(carol, soon(5))), response(200, FULFILL))
