@@ -9,7 +9,7 @@ from cases.program import Setup
 TOP = Path(__file__).resolve().parent.parent.parent
 USAGE = ("usage: connector packet HEX, check CONFIG, replay CONFIG, serve CONFIG [JOURNAL], "
          "new-period CONFIG JOURNAL [NEW-CONFIG], follows CONFIG JOURNAL.P NEW-CONFIG JOURNAL, "
-         "statement CONFIG JOURNAL PEER [FROM [TO]] [--csv] [--packet HEX] [--key KEY]\n")
+         "backup JOURNAL FOLDER, statement CONFIG JOURNAL PEER [FROM [TO]] [--csv] [--packet HEX] [--key KEY]\n")
 
 # What is told of `careless`, and of its file where others may read it.
 CARELESS = ["at the top: `worker` is no field of the top, and is ignored: `workers` may be meant",
@@ -35,13 +35,13 @@ def help_and_version(laboratory: Laboratory) -> None:
     from it, and the version is that of the file VERSION."""
     status, text, errors = run(laboratory, "help")
     expect("the status of help", (status, errors), (0, ""))
-    for command in ("serve", "check", "replay", "new-period", "follows", "statement", "packet", "help",
+    for command in ("serve", "check", "replay", "new-period", "follows", "backup", "statement", "packet", "help",
                     "--version"):
         lines = [line for line in text.splitlines() if line.startswith(f"connector {command} ")]
         expect(f"how many lines {command} has", len(lines), 1)
     for words in (["-h"], ["--help"], ["help", "serve"], ["serve", "--help"], ["check", "-h"], ["packet", "-h"],
                   ["replay", "--help"], ["serve", "-", "--help"], ["new-period", "-h"], ["new-period", "-", "--help"],
-                  ["follows", "--help"], ["statement", "-h"]):
+                  ["follows", "--help"], ["statement", "-h"], ["backup", "-h"], ["backup", "x", "--help"]):
         expect(f"help by {words}", run(laboratory, *words), (0, text, ""))
     version = (TOP / "VERSION").read_text().strip()
     status, line, errors = run(laboratory, "--version")

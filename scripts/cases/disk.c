@@ -1,13 +1,15 @@
-/* Preloaded before a program, it stands before the calls that write to files and have the disk keep them. Each call
+/* Preloaded before a program, it stands before the calls that open files, write to them and have the disk keep them. Each call
  * that has the disk keep one is told as a line in the file that DISK_TOLD names. Where a file lies at the path that
  * one of these names, there is
  *
  *     DISK_BUSY    no end of such a call, until that is gone
  *     DISK_BROKEN  none that succeeds (EIO)
  *     DISK_FULL    room for half of what is written to a plain file, and for no single octet (ENOSPC)
+ *     DISK_HUNG    no end of an open of a file whose name ends in .toml, until that is gone
  */
 #include <errno.h>
 #include <fcntl.h>
+#include <stdarg.h>
 #include <stdlib.h>
 #include <string.h>
 #include <sys/stat.h>
@@ -19,6 +21,35 @@ enum { PAUSE_US = 2000 };
 static int is_so(const char *name) {
     const char *path = getenv(name);
     return path != NULL && access(path, F_OK) == 0;
+}
+
+// ---- what opens one
+
+static int open_by(int folder, const char *path, int flags, mode_t mode) {
+    size_t length = strlen(path);
+    while (length > 5 && strcmp(path + length - 5, ".toml") == 0 && is_so("DISK_HUNG"))
+        usleep(PAUSE_US);
+    return (int)syscall(SYS_openat, folder, path, flags, mode);
+}
+
+static mode_t mode_of(int flags, va_list rest) {
+    return flags & O_CREAT ? va_arg(rest, mode_t) : 0;
+}
+
+int open(const char *path, int flags, ...) {
+    va_list rest;
+    va_start(rest, flags);
+    mode_t mode = mode_of(flags, rest);
+    va_end(rest);
+    return open_by(AT_FDCWD, path, flags, mode);
+}
+
+int openat(int folder, const char *path, int flags, ...) {
+    va_list rest;
+    va_start(rest, flags);
+    mode_t mode = mode_of(flags, rest);
+    va_end(rest);
+    return open_by(folder, path, flags, mode);
 }
 
 // ---- what has the disk keep a file

@@ -388,8 +388,10 @@ def sync_while_busy(laboratory: Laboratory) -> None:
 
 
 def expect_held(laboratory: Laboratory, disk: Disk, workers: int) -> None:
-    """So many workers hold a hundred packets while the disk is busy with the entries of one."""
-    kept = Kept(laboratory, Setup(bob=laboratory.stand_in(FULFILLS).port, top={"workers": workers}))
+    """So many workers hold a hundred packets while the disk is busy with the entries of one, for less than half of the
+    window."""
+    top = {"workers": workers, "window_ms": 20_000}
+    kept = Kept(laboratory, Setup(bob=laboratory.stand_in(FULFILLS).port, top=top))
     program = kept.serve(environment=disk.environment())
     crowd, port, begun = Crowd(laboratory), program.setup.peers_port, disk.syncs()
     disk.busy.touch()

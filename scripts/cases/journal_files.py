@@ -101,13 +101,35 @@ def pipes_in_place_of_files(laboratory: Laboratory) -> None:
 
 # ---- a lock that is gone
 
+class Appending:
+    """Appends octets to a file, of which none ends a line, one after the other in a thread."""
+
+    def __init__(self, path: Path) -> None:
+        self.path = path
+        self.ends = threading.Event()
+        self.thread = threading.Thread(target=self.run)
+
+    def __enter__(self) -> None:
+        self.thread.start()
+
+    def __exit__(self, *_: object) -> None:
+        self.ends.set()
+        self.thread.join()
+
+    def run(self) -> None:
+        """What the thread does."""
+        with self.path.open("ab", buffering=0) as file:
+            while not self.ends.is_set():
+                file.write(b"3")
+
+
 LOST = r'error journal ".+": ".+" was removed or replaced, so another connector may have it: .+'
 
 
 @case
 def lock_that_is_removed(laboratory: Laboratory) -> None:
     """Where the file that is locked is removed under a connector, one that starts then has the journal, with all that
-    was told. The first keeps and tells nothing more, as a line says, touches none of the files, and its end is
+    was told. The first keeps and tells nothing more, as a line says, touches none of the files, and ends by itself,
     refused."""
     kept = Kept(laboratory)
     first = kept.serve()
@@ -119,9 +141,7 @@ def lock_that_is_removed(laboratory: Laboratory) -> None:
     other.folder, other.path = kept.folder, kept.path
     second = other.serve()
     expect("a credit of the second", credit(second, 7, key="second"), created(quantity(7, 2)))
-    expect("another of the first", credit(first, 6, key="another"), response(503))
     before = kept.contents()
-    post_close(first)
     expect("the first one's exit status", first.end(END), 1)
     expect_that("it does not say why", first.output().endswith(f"refused {UNREAD}\n"))
     expect("the files behind its end", kept.contents(), before)
@@ -131,6 +151,42 @@ def lock_that_is_removed(laboratory: Laboratory) -> None:
     credits = [line.split()[3:6] for line in kept.text().splitlines()[1:-1]]
     for key, amount in ((kept.setup.key, 30), ("second", 7)):
         expect_that(f"the credit of {amount} is not kept", ["bob", key.encode().hex(), str(amount)] in credits)
+
+
+@case
+def lock_of_an_idle_connector(laboratory: Laboratory) -> None:
+    """A connector that nobody asks for anything looks at its lock too: where that is removed it says so, and ends by
+    itself, refused, with all files as they were."""
+    kept = Kept(laboratory)
+    program = kept.serve()
+    expect("a credit", credit(program, 30), created(quantity(30, 2)))
+    kept.beside("lock").unlink()
+    before = kept.contents()
+    program.await_told(LOST)
+    expect("the exit status", program.end(END), 1)
+    expect_that("it does not say why", program.output().endswith(f"refused {UNREAD}\n"))
+    expect("the files behind its end", kept.contents(), before)
+    close(kept.serve(), bob=30)
+
+
+@case
+def log_that_another_writes(laboratory: Laboratory) -> None:
+    """A start whose log changes while it is read is refused: somebody writes it who has no lock. All files stay."""
+    kept = Kept(laboratory)
+    program = kept.serve()
+    expect("a credit", credit(program, 30), created(quantity(30, 2)))
+    program.kill()
+    text, log = kept.path, kept.beside("log")
+    before = log.read_bytes()
+    with Appending(log):
+        program = kept.start()
+        expect("the exit status", program.end(START), 1)
+    expect("standard output", program.output(), f"refused {UNREAD}\n")
+    expect("how many lines", len(program.told(r'error journal ".+": ".+" has changed since it was read, .+')), 1)
+    expect_that("a journal was made", not text.exists())
+    expect_that("the log was changed", log.read_bytes().startswith(before))
+    log.write_bytes(before)
+    close(kept.serve(), bob=30)
 
 
 # ---- copies that are put back

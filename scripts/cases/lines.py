@@ -53,6 +53,8 @@ WAITS_FOR_ROOM = ("make room for it, and don't kill the connector: it tries agai
                   "its memory alone")
 
 # What is told of a disk that takes long to keep a journal, once it has, and of who is told a Fulfill too late.
+LOG_GONE = (r"error journal: its log was removed or replaced: what was told since the journal was saved stands in memory "
+            r"alone until the next entry, with which the log is made anew: don't kill the connector")
 DISK_TAKES = (rf"error journal: the disk has not kept what it was given, for {SECONDS} now: no Fulfill is told until it "
               "has")
 DISK_HAS_KEPT = rf"info journal: the disk has kept what it was given, after {SECONDS}"
@@ -95,6 +97,7 @@ FORMS = [re.compile(form) for form in (
     r"warn open files: \d+ at most, and this configuration may need \d+: set ulimit -n \d+",
     r"error can't listen at .+: .+",
     r"error a thread can't be started",
+    r"error can't open what a thread waits with: .+: raise the limit of open files",
     r"info closing: no connection is accepted any more",
     re.escape(FOLLOWS),
     rf"warn (peer|engine of) {NAME} at {PLACE}: {WHY}({HELD})?{MORE}",
@@ -132,6 +135,8 @@ FORMS = [re.compile(form) for form in (
     rf"error journal {PATH}: can't be saved: .+: (make room for it, and start again: nothing is lost|{WAITS_FOR_ROOM})",
     rf"error journal {PATH}: (not saved.+|another connector has it: .+|a connector stopped .+)",
     rf"error journal {PATH}: {PATH} was removed or replaced, so another connector may have it: .+",
+    rf"error journal {PATH}: {PATH} has changed since it was read, so another connector writes to it: .+",
+    LOG_GONE,
     rf"error journal {PATH}: (the period \d+ has ended beside it, .+|it isn't there, and what was kept beside it is: .+)",
     rf"error journal {PATH}: (it is the new one, but .+|a settlement with .+|what it counts .+)",
     r"error compare with peers and engines what was booked since, .+",

@@ -13,7 +13,7 @@ from cases.conversations import report
 from cases.disks import Disk
 from cases.journals import PACKETS, SETTLEMENTS, Kept, keys_of
 from cases.laboratory import Laboratory, close, credit, expect_packet, expect_served, send_packet
-from cases.lines import DISK_HAS_KEPT, DISK_TAKES, INCOMPLETE, KEPT_AGAIN, MORE, TOLD_LATE, UNKEPT
+from cases.lines import DISK_HAS_KEPT, DISK_TAKES, INCOMPLETE, KEPT_AGAIN, LOG_GONE, MORE, TOLD_LATE, UNKEPT
 from cases.logs import ABSENT, LOGGED, expect_begun, head, log_of
 from cases.messages import created, response, soon
 from cases.program import Program, Setup, numbers_in
@@ -147,6 +147,23 @@ def log_that_is_removed(laboratory: Laboratory) -> None:
     """A log that is removed under a connector is written anew: until then packets get T00 and credits 503, and then
     all goes on. A stop behind that loses nothing."""
     expect_written_anew(laboratory, remove)
+
+
+@case
+def log_of_an_idle_connector(laboratory: Laboratory) -> None:
+    """A log that is removed while nobody asks for anything is told of. The next entry has it made anew, with all that
+    was told, so that a stop behind that loses nothing."""
+    kept = Kept(laboratory)
+    program = kept.serve()
+    expect("a credit", credit(program, 30), created(quantity(30, 2)))
+    remove(kept)
+    program.await_told(LOG_GONE)
+    end = time.monotonic() + AGAIN
+    while (answer := credit(program, 7, key="another")) == response(503):
+        expect_that(f"credits get 503 after {AGAIN} seconds", time.monotonic() < end)
+    expect("a credit that comes then", answer, created(quantity(7, 2)))
+    program.kill()
+    close(kept.serve(), bob=37)
 
 
 @case
@@ -399,9 +416,11 @@ def disk_that_takes_long(laboratory: Laboratory) -> None:
                 packet = pool.submit(send_packet, program, soon(1, milliseconds=2_000), 3 * AGAIN)
                 disk.await_sync(begun)
                 program.await_told(DISK_TAKES, within=AGAIN)
+                expect("the answer to one that comes meanwhile", send_packet(program, soon(2)), response(200, T00))
             finally:
                 disk.busy.unlink()
             expect("the answer", packet.result(), response(200, FULFILL))
         program.await_told(DISK_HAS_KEPT)
         expect("who was told late", [line.said.split()[4] for line in program.await_told(TOLD_LATE)], ["alice"])
+        expect("what the report has of that", report(program).splitlines()[-1], f"{'late':30}{1:30}")
         close(program, alice=-2, bob=2)

@@ -6,6 +6,7 @@ from dataclasses import replace
 
 from cases.case import case, expect, expect_that, expect_within
 from cases.crowds import Client, Crowd, Hall
+from cases.disks import Disk
 from cases.in_flight import carol_of, packet_of
 from cases.journals import SETTLEMENTS, Kept, keys_of
 from cases.laboratory import (AT_ONCE, END, Laboratory, close, credit, expect_packet, packet_request, post_close,
@@ -140,6 +141,27 @@ def reload_of_a_pipe(laboratory: Laboratory) -> None:
 
 
 @case
+def reload_of_a_file_that_hangs(laboratory: Laboratory) -> None:
+    """A file that is not read within a second is not taken. The connector goes on meanwhile, and a close is served, with
+    all saved. This is left out where there is no C compiler."""
+    if (disk := Disk.of(laboratory)) is None:
+        return
+    program = Kept(laboratory).serve(environment=disk.environment())
+    disk.hung.touch()
+    try:
+        expect("the line", line_of_refusal(program, reload(program)),
+               f'refused 20 ConfigUnread: "{program.configuration}": not read within a second\n')
+        expect_packet("a packet", program, soon(1), FULFILL)
+        expect_that("it is read again", b": not read within a second\n" in reload(program))
+        expect_packet("another packet", program, soon(1), FULFILL)
+        post_close(program)
+        program.await_told(r'info journal ".+": saved with 4 entries')
+    finally:
+        disk.hung.unlink()
+    expect_end_of(program, alice=-2, bob=2, period=0)
+
+
+@case
 def reload_that_needs_a_restart(laboratory: Laboratory) -> None:
     """Its own address and run, where it listens and its workers are those of the start."""
     program = laboratory.serve(FULFILLS, workers=2)
@@ -173,7 +195,7 @@ def reload_that_leaves_a_balance_out(laboratory: Laboratory) -> None:
     expect_not_taken(program, replace(kept.setup, further=tighter),
                      "refused 43 BelowLeast -5: carol has the balance -5, below its `least` in the next "
                      "configuration\n")
-    expect("how often a line says that none can begin", len(program.told(rf"error {NO_NEXT}")), 2)
+    expect("how often a line speaks of a full journal", len(program.told(rf"error {NO_NEXT}")), 0)
     expect("the periods that have ended", ended_lines(program), [])
     expect("the files", kept.files(), ["journal", "journal.lock", "journal.log"])
     expect("carol's packet", post(port, packet_of(carol, soon(5))), response(200, FULFILL))

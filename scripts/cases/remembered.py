@@ -1,13 +1,15 @@
 """What a journal remembers of the configuration by which it was last run: the run, and each peer's asset."""
+import subprocess
 from dataclasses import replace
 
 from cases.case import case, expect
 from cases.journals import SETTLEMENTS, Kept, keys_of
 from cases.laboratory import END, Laboratory, close, credit, expect_served, post_close
-from cases.messages import created
-from cases.program import Setup
+from cases.messages import bearer, created, post, request, response, soon
+from cases.program import Program, Setup
 from cases.stand_ins import ACCEPTS, FULFILLS, engine_of, in_turn, never_answers
 from connections import quantity
+from scenes import FULFILL
 
 UNREAD = "73 JournalUnread"
 REMEMBERED = "ilp-remembered 1\nrun {}\npeer alice USD 2\npeer bob {}\nend\n"
@@ -18,6 +20,11 @@ ANOTHER_ASSET = r"error journal .+: what it counts of {} is not in the asset of 
 BTC = ("BTC/2", ["[[asset]]", 'code = "BTC"', "scale = 2",
                  "[[price]]", 'from = "USD/2"', 'to = "BTC/2"', "p = 1", "q = 1",
                  "[[price]]", 'from = "BTC/2"', 'to = "USD/2"', "p = 1", "q = 1"])
+
+
+USD_3 = ("USD/3", ["[[asset]]", 'code = "USD"', "scale = 3",
+                   "[[price]]", 'from = "USD/2"', 'to = "USD/3"', "p = 1", "q = 1",
+                   "[[price]]", 'from = "USD/3"', 'to = "USD/2"', "p = 1", "q = 1"])
 
 
 def remembered(kept: Kept) -> str:
@@ -33,6 +40,20 @@ def with_run(setup: Setup, run: str) -> Setup:
 def with_asset(setup: Setup, asset: str, further: list[str]) -> Setup:
     """The same with another asset of bob's."""
     return replace(setup, asset_of_bob=asset, further=further)
+
+
+def send_of_bob(program: Program, amount: int) -> None:
+    """A packet of bob's, which alice's server fulfills."""
+    setup = program.setup
+    sent = request("/ilp", bearer(setup.bob_token), body=soon(amount, destination=b"test.alice"))
+    expect("bob's packet", post(setup.peers_port, sent), response(200, FULFILL))
+
+
+def expect_next_period(kept: Kept, program: Program) -> None:
+    """The books are closed by the configuration of a program, and period 1 begins."""
+    words = [str(program.binary), "new-period", str(program.configuration), str(kept.path)]
+    done = subprocess.run(words, capture_output=True, text=True, timeout=10.0)
+    expect("what new-period says", (done.returncode, done.stdout.splitlines()[-1:]), (0, ["period 1"]))
 
 
 @case
@@ -79,6 +100,28 @@ def another_asset_of_a_peer(laboratory: Laboratory) -> None:
     expect("what is remembered after a refusal", remembered(kept), REMEMBERED.format("r1", "USD 2"))
     kept.setup = with_run(first, "r2")
     close(kept.serve(), bob=1000)
+
+
+@case
+def another_asset_of_a_kept_key(laboratory: Laboratory) -> None:
+    """So it is while a key of the peer is kept, of an earlier period and with nothing owed: in another scale its answer
+    would be another sum."""
+    first = Setup(alice=laboratory.stand_in(FULFILLS).port)
+    kept = Kept(laboratory, first)
+    program = kept.serve()
+    expect("a credit", credit(program, 1000), created(quantity(1000, 2)))
+    send_of_bob(program, amount=1000)
+    close(program, alice=1000, bob=0)
+    expect_next_period(kept, program)
+    for other in (USD_3, BTC):
+        kept.setup = with_asset(first, *other)
+        kept.expect_refused(UNREAD, ANOTHER_ASSET.format("bob"))
+        expect("what is remembered after a refusal", remembered(kept), REMEMBERED.format("r1", "USD 2"))
+    kept.setup = first
+    program = kept.serve()
+    expect("the key again", credit(program, 1000), created(quantity(1000, 2)))
+    post_close(program)
+    expect("the exit status", program.end(END), 0)
 
 
 @case

@@ -5,6 +5,7 @@ from demonstration.failing import expect
 from demonstration.network import CONNECTORS, Network
 from demonstration.payments import (FIRST, NO_MONEY, SECOND, SHOP, THIRD, Payment, counted, mixed, paid,
                                     preimages_of)
+from demonstration.readme import expect_shown
 from demonstration.reckoning import Reckoning
 from demonstration.sending import AT_ONCE, send_all
 
@@ -16,12 +17,13 @@ class Demonstration:
         self.network = network
         self.reckoning = Reckoning(network)
         self.first, self.second, self.third = mixed(FIRST), [paid(amount) for amount in SECOND], mixed(THIRD)
-        self.runs = self.steps = 0
+        self.runs = 0
+        self.lines: list[str] = []
 
     def say(self, text: str) -> None:
         """The line of a step."""
-        self.steps += 1
-        print(f"{self.steps:>2}  {text}", flush=True)
+        self.lines.append(f"{len(self.lines) + 1:>2}  {text}")
+        print(self.lines[-1], flush=True)
 
     # ---- parts of steps
 
@@ -195,6 +197,7 @@ class Demonstration:
         self.send_more()
         texts = self.close()
         self.compare()
+        expect_shown(self.lines)
         for name, text in texts.items():
             print(f"\n{name}:\n{text}", end="")
         print("\nBoth books agree with what was sent, and with each other.")

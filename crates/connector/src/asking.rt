@@ -29,6 +29,8 @@ pub(crate) enum Asked<'w> {
     /// Of the paths of a configuration and of the period that it has ended, and of the next configuration and of
     /// the journal.
     Follows(&'w str, &'w str, &'w str, &'w str),
+    /// Of the paths of a journal, and of the folder that gets its copies.
+    Backup(&'w str, &'w str),
     /// Of a peer's account.
     Statement(Inquiry<'w>),
 }
@@ -80,7 +82,7 @@ fn asked_alone<'w>(command: &str) -> Option<Asked<'w>> {
 fn asked_of<'w>(command: &str, argument: &'w str) -> Option<Asked<'w>> {
     match command {
         "help" => Some(Asked::Help),
-        "packet" | "check" | "replay" | "serve" | "new-period" | "follows" | "statement"
+        "packet" | "check" | "replay" | "serve" | "new-period" | "follows" | "statement" | "backup"
             if is_help(argument) => { Some(Asked::Help) }
         "packet" => Some(Asked::Packet(argument)),
         "check" => Some(Asked::Check(argument, None)),
@@ -90,10 +92,13 @@ fn asked_of<'w>(command: &str, argument: &'w str) -> Option<Asked<'w>> {
     }
 }
 
-// What a command and the paths of a configuration and a journal ask for.
+// What a command and two paths ask for: those of a configuration and a journal, or of a journal and a folder.
 fn asked_with_journal<'w>(command: &str, config: &'w str, journal: &'w str) -> Option<Asked<'w>> {
     match command {
-        "check" | "serve" | "new-period" | "follows" if is_help(journal) => Some(Asked::Help),
+        "check" | "serve" | "new-period" | "follows" | "backup" if is_help(journal) => {
+            Some(Asked::Help)
+        }
+        "backup" => Some(Asked::Backup(config, journal)),
         "check" => Some(Asked::Check(config, Some(journal))),
         "serve" => Some(Asked::Serve(config, Some(journal))),
         "new-period" => Some(Asked::NewPeriod(config, journal, None)),

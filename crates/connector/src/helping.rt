@@ -5,7 +5,7 @@ use std::rt::Runtime;
 
 /// How the program is called, for whoever called it otherwise.
 pub(crate) const USAGE: &str =
-    "usage: connector packet HEX, check CONFIG, replay CONFIG, serve CONFIG [JOURNAL], new-period CONFIG JOURNAL [NEW-CONFIG], follows CONFIG JOURNAL.P NEW-CONFIG JOURNAL, statement CONFIG JOURNAL PEER [FROM [TO]] [--csv] [--packet HEX] [--key KEY]";
+    "usage: connector packet HEX, check CONFIG, replay CONFIG, serve CONFIG [JOURNAL], new-period CONFIG JOURNAL [NEW-CONFIG], follows CONFIG JOURNAL.P NEW-CONFIG JOURNAL, backup JOURNAL FOLDER, statement CONFIG JOURNAL PEER [FROM [TO]] [--csv] [--packet HEX] [--key KEY]";
 
 // The versions of the program and of the kit that it is made with. The first stands in the file VERSION
 // too, and the manual is made from the help.
@@ -26,6 +26,9 @@ connector new-period CONFIG JOURNAL [NEW-CONFIG]
 connector follows CONFIG JOURNAL.P NEW-CONFIG JOURNAL
                                   says whether a journal begins with what the
                                   period P before it brought forward
+connector backup JOURNAL FOLDER   copies the files of a journal, which a connector
+                                  may have, as they are at one moment, into a
+                                  folder that is empty or not there yet
 connector statement CONFIG JOURNAL PEER [FROM [TO]] [OPTION ..]
                                   lists what moved a peer's balance from FROM on
                                   and before TO, days or moments in UTC; --csv

@@ -1,8 +1,9 @@
 //! The connector's command line. It describes a packet, checks a configuration and a journal, prints the statement
-//! of a peer's account, replays a script from standard input over a configuration, or runs a connector of one.
+//! of a peer's account, copies a journal, replays a script from standard input over a configuration, or runs a connector
+//! of one.
 //!
 //! All of it is proved safe, and no more: what its commands do is promised by `ilp_described`,
-//! `ilp_offline`, `ilp_statement` and `ilp_serve`.
+//! `ilp_offline`, `ilp_statement`, `ilp_backup` and `ilp_serve`.
 #![tactic(auto)]
 
 mod asking;
@@ -15,6 +16,7 @@ mod streams;
 use asking::{Asked, Words};
 use checking::{run_check, run_check_journal};
 use helping::{USAGE, run_help, run_version};
+use ilp_backup::print_backup;
 use ilp_described::{describe_packet, reject_words};
 use ilp_new_period::{follows, new_period};
 use ilp_refusals::Refusal;
@@ -118,6 +120,7 @@ where
         Asked::Follows(config, kept, next, journal) => {
             ended(follows(rt, config, kept, next, journal))
         }
+        Asked::Backup(journal, folder) => ended(print_backup(rt, journal, folder)),
         Asked::Statement(inquiry) => run_statement(rt, &inquiry),
     }
 }

@@ -37,6 +37,11 @@ impl<F> GivenFile<F> {
         })
     }
 
+    /// Which file it is.
+    pub(crate) fn identity(&self) -> FileIdentity {
+        self.identity
+    }
+
     /// Finds that the file lies at the path, with all that it was given. Past the end of one that was cut a
     /// write would leave NUL octets between.
     pub(crate) fn expect_at<R: PlacesFiles>(&self, rt: &R, path: &str) -> io::Result<()> {

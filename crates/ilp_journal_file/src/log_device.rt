@@ -3,6 +3,7 @@ ghost use Rattle.std.specs.Prelude.{[]};
 
 use crate::given::GivenFile;
 use crate::holding::HeldLock;
+use crate::named_log::NamedLog;
 use crate::placing::PlacesFiles;
 use crate::reading::TEXT_LIMIT;
 use ilp_accounts::LogSync;
@@ -13,6 +14,7 @@ use std::alloc::Global;
 use std::fs::{File, OpenFile};
 use std::io;
 use std::io::{Eprint, ErrorKind, Read, Seek, Write};
+use std::sync::Arc;
 use std::time::Clock;
 
 /// Where a log lies, and what it may be.
@@ -27,6 +29,8 @@ pub(crate) struct LogPlace {
     /// What is locked by whoever has the journal.
     pub(crate) lock: String,
     pub(crate) held: HeldLock,
+    /// Which file it is.
+    pub(crate) named: Arc<NamedLog, Global>,
     pub(crate) folder: String,
     /// The rights of its file.
     pub(crate) mode: u32,
@@ -139,7 +143,9 @@ impl<F: Write + Seek + OpenFile> GivenFile<F> {
             place.new.as_str(),
             place.path.as_str(),
             place.folder.as_str(),
-        )
+        )?;
+        place.named.set(self.identity());
+        Ok(())
     }
 }
 

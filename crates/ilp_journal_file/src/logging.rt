@@ -7,12 +7,13 @@ use crate::names::Names;
 use crate::placing::PlacesFiles;
 use crate::taking::JournalFile;
 use ilp_accounts::LogSync;
-use ilp_notices::{log_begun, log_left, not_made};
+use ilp_notices::{journal_unread, log_begun, log_grows, log_left, not_made};
 use std::alloc::{AllocError, Global};
 use std::fs;
 use std::fs::OpenFile;
 use std::io::{Eprint, ErrorKind, Read, Seek, Write};
 use std::rt::Files;
+use std::sync::Arc;
 use std::time::Clock;
 
 impl<F> JournalFile<F> {
@@ -52,6 +53,30 @@ impl<F> JournalFile<F> {
         }
     }
 
+    /// Finds that the log has so many octets as when it was read, none where there was no log: else another connector
+    /// writes to it, which has taken the journal without this lock.
+    ///
+    /// It is refused as `Unread` where it has others, and where the system doesn't say. A line says so.
+    pub fn expect_still_log<R: PlacesFiles + Clock + Eprint>(
+        &self,
+        rt: &R,
+        octets: Option<usize>,
+    ) -> Result<(), FileFault> {
+        let there = match rt.look(self.log_path()) {
+            Ok(there) => Some(there.len),
+            Err(error) if error.kind() == ErrorKind::NotFound => None,
+            Err(error) => {
+                journal_unread(rt, self.log_path(), &error);
+                return Err(FileFault::Unread);
+            }
+        };
+        if there == octets.map(|count| count as u64) {
+            return Ok(());
+        }
+        log_grows(rt, self.names.journal.as_str(), self.log_path());
+        Err(FileFault::Unread)
+    }
+
     /// Whether a log lies beside the journal. Where the system doesn't say, one may.
     pub fn may_have_log<R: Files>(&self, rt: &R) -> bool {
         !matches!(fs::exists(rt, self.log_path()), Ok(false))
@@ -89,6 +114,7 @@ impl<F> JournalFile<F> {
             lock: String::from_str(alloc, names.lock.as_str())?,
             folder: String::from_str(alloc, names.folder())?,
             held: self.held,
+            named: Arc::try_clone(&self.named)?,
             mode: names.mode(rt),
             most: most_octets(rt, alloc),
             sync,

@@ -6,7 +6,7 @@ use crate::placing::PlacesFiles;
 use crate::reading::read;
 use crate::taking::JournalFile;
 use crate::writing::Content;
-use ilp_notices::period_begun;
+use ilp_notices::{left_next, period_begun};
 use std::alloc::Global;
 use std::fs::OpenFile;
 use std::io::Eprint;
@@ -105,6 +105,11 @@ impl<F> JournalFile<F> {
     ) -> Result<(), FileFault> {
         let ended = self.names.ended.as_str();
         self.names.remove_held(rt, self.held, ended)
+    }
+
+    /// Tells that `J.next` is there, with which no period has begun, and whether it goes now.
+    pub fn tell_next<R: Clock + Eprint>(&self, rt: &R, goes: bool) {
+        left_next(rt, self.names.next.as_str(), goes);
     }
 
     /// Removes `J.next` where it is there, with which no period has begun. Where it can't be removed, a line says so.

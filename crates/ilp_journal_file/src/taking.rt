@@ -3,6 +3,7 @@
 use crate::fault::FileFault;
 use crate::holding::HeldLock;
 use crate::locking::LockFile;
+use crate::named_log::NamedLog;
 use crate::names::Names;
 use crate::placing::PlacesFiles;
 use ilp_notices::{Again, journal_in_use, journal_not_locked, left_unsaved, not_made};
@@ -10,6 +11,7 @@ use std::alloc::{AllocError, Global};
 use std::fs::{File, OpenOptions, TryLockError};
 use std::io::Eprint;
 use std::rt::Files;
+use std::sync::Arc;
 use std::thread::sleep;
 use std::time::{Clock, Duration};
 use std::{fs, io};
@@ -28,6 +30,8 @@ pub struct JournalFile<F = File> {
     pub(crate) again: Again,
     /// Which file is locked.
     pub(crate) held: HeldLock,
+    /// Which file its log is.
+    pub(crate) named: Arc<NamedLog, Global>,
     // The system unlocks it when it is closed, however the program ends.
     lock: F,
 }
@@ -64,6 +68,7 @@ impl<F: LockFile> JournalFile<F> {
             names,
             again: Again::ByCommand,
             held,
+            named: NamedLog::shared(alloc)?,
             lock,
         })
     }
@@ -76,12 +81,14 @@ impl<F> JournalFile<F> {
             names,
             again: _,
             held,
+            named,
             lock,
         } = self;
         JournalFile {
             names,
             again: Again::ByItself,
             held,
+            named,
             lock,
         }
     }
@@ -99,6 +106,7 @@ impl JournalFile<()> {
             names,
             again: Again::ByItself,
             held,
+            named: NamedLog::shared(alloc)?,
             lock: (),
         })
     }
@@ -110,6 +118,7 @@ impl JournalFile<()> {
             names,
             again: Again::ByCommand,
             held: HeldLock::NONE,
+            named: NamedLog::shared(alloc)?,
             lock: (),
         })
     }

@@ -9,12 +9,14 @@
 //! - `LogKeeper::mend` answers true only where the log has told it that of the journal which the receipt had
 //!   seen. That it shows the receipt what the desk has then, and has all of that kept, stands in the
 //!   comments.
-//! - `KeepingState` has no clause: that it is false from the first that was not kept on, until all are kept
-//!   again, stands in the comments.
+//! - `KeepingState` and `DiskWait` have no clause: that the first is false from the first that was not kept on, until
+//!   all are kept again, and what the second counts, stands in the comments.
 #![tactic(auto)]
 
+mod disk_wait;
 mod keeper;
 mod state;
 
+pub use disk_wait::DiskWait;
 pub use keeper::LogKeeper;
 pub use state::KeepingState;

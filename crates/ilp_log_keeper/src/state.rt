@@ -1,5 +1,6 @@
 //! Whether what a desk books is kept.
 
+use crate::disk_wait::DiskWait;
 use std::sync::atomic::{AtomicU64, Ordering};
 
 /// Whether what a desk books is kept, as its keepers found it last. They share it by reference.
@@ -9,6 +10,7 @@ pub struct KeepingState {
     failures: AtomicU64,
     // How many of these are made good: all that was booked before them is kept.
     mended: AtomicU64,
+    disk: DiskWait,
 }
 
 impl KeepingState {
@@ -17,12 +19,18 @@ impl KeepingState {
         KeepingState {
             failures: AtomicU64::new(0),
             mended: AtomicU64::new(0),
+            disk: DiskWait::new(),
         }
     }
 
     /// Whether all is kept that was to be.
     pub fn keeps(&self) -> bool {
         self.failures() == self.mended.load(Ordering::SeqCst)
+    }
+
+    /// How long its keepers wait for the disk.
+    pub fn disk(&self) -> &DiskWait {
+        &self.disk
     }
 
     /// How often something was not kept.

@@ -14,6 +14,7 @@ mod deeds;
 mod guest;
 mod late;
 mod payouts;
+mod report_lines;
 mod serving;
 mod turn;
 

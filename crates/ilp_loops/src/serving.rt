@@ -9,7 +9,8 @@ ghost use Rattle.ilp_server.specs.Course.{IsOfKnownPeer};
 use crate::answers::{answered_message, answered_peer, ask_close, ask_reload, give_back, responds};
 use crate::guest::{Guest, Stage};
 use crate::late::ToldBy;
-use crate::payouts::{pause_payouts, paused_lines, resume_payouts};
+use crate::payouts::{pause_payouts, resume_payouts};
+use crate::report_lines::report_lines;
 use ilp_desk::{End, Naming};
 use ilp_flight::Flight;
 use ilp_http::Buffer;
@@ -114,12 +115,12 @@ impl<J: Naming, C: Clock + Drop, K: Keeper<J> + Drop> Serving<J, C, K> {
         self.go_on_from(shared, registry, place, stage, now);
     }
 
-    // How the request goes on that these octets begin with. Where memory is denied for what a report has of
-    // paused payouts, nothing is begun.
+    // How the request goes on that these octets begin with. Where memory is denied for what a report has behind
+    // its text, nothing is begun.
     fn course_of<R: Wait>(&mut self, shared: &Shared<'_, J, R>, side: Side, octets: &[u8]) -> Course
         ensures { IsOfKnownPeer J.desk.config result }
     {
-        let Ok(paused) = paused_lines(shared, side) else {
+        let Ok(lines) = report_lines(shared, side) else {
             return Course::Answered(Response::refusal(NotServed::Memory));
         };
         begin_request(
@@ -128,7 +129,7 @@ impl<J: Naming, C: Clock + Drop, K: Keeper<J> + Drop> Serving<J, C, K> {
             shared.desk,
             side,
             octets,
-            paused.as_slice(),
+            lines.as_slice(),
             &mut self.buffer,
         )
     }

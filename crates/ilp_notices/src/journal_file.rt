@@ -159,7 +159,15 @@ pub fn journal_of_another_asset<R: Clock + Eprint>(rt: &R, path: &str, config: &
 /// Tells that the file that a connector has locked of a journal lies there no more, and what that means.
 pub fn journal_lost<R: Clock + Eprint>(rt: &R, path: &str, lock: &str) {
     let text = format_args!(
-        "journal {path:?}: {lock:?} was removed or replaced, so another connector may have it: nothing more is kept or told, and none of its files is touched: close this connector, and never remove {lock:?}"
+        "journal {path:?}: {lock:?} was removed or replaced, so another connector may have it: nothing more is kept or told, none of its files is touched, and this connector ends: never remove {lock:?}"
+    );
+    tell(rt, Level::Error, text);
+}
+
+/// Tells that a log has changed since a start read it.
+pub fn log_grows<R: Clock + Eprint>(rt: &R, path: &str, log: &str) {
+    let text = format_args!(
+        "journal {path:?}: {log:?} has changed since it was read, so another connector writes to it: close that one, and never remove its lock"
     );
     tell(rt, Level::Error, text);
 }
@@ -196,6 +204,16 @@ pub fn left_unsaved<R: Clock + Eprint>(rt: &R, new: &str) {
     tell(rt, Level::Warn, text);
 }
 
+/// Tells that what the next period was to begin with is still there, and whether it goes now.
+pub fn left_next<R: Clock + Eprint>(rt: &R, next: &str, goes: bool) {
+    let what = if goes {
+        "of a period's end that did not come about: it is removed"
+    } else {
+        "of the end of another period: nothing of it is read"
+    };
+    tell(rt, Level::Warn, format_args!("{next:?} lies there, {what}"));
+}
+
 /// Tells that the file can't be read, and why.
 pub fn journal_unread<R: Clock + Eprint>(rt: &R, path: &str, error: &io::Error) {
     let text = format_args!("can't read {path:?}: {error}");
@@ -224,10 +242,11 @@ pub fn period_differs<R: Clock + Eprint>(rt: &R, kept: &str) {
     tell(rt, Level::Error, text);
 }
 
-/// Tells that a text of a period that has ended lies beside the journal, of which that and its log don't have all.
-pub fn journal_older<R: Clock + Eprint>(rt: &R, path: &str, period: u32) {
+/// Tells that a text of a period that has ended lies beside the journal, of which that and its log don't have all: the
+/// last of those that do, and of which period the journal is.
+pub fn journal_older<R: Clock + Eprint>(rt: &R, path: &str, last: u32, own: u32) {
     let text = format_args!(
-        "journal {path:?}: the period {period} has ended beside it, and it lacks what that has: put back the journal and the log that were there last, or, to go on from this one and lose what came since, move the kept periods away from {period} on"
+        "journal {path:?}: the period {last} has ended beside it, and it lacks what that has: put back the journal and the log that were there last, or, to go on from this one and lose what came since, move the kept periods away from {own} on"
     );
     tell(rt, Level::Error, text);
 }

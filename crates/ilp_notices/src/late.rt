@@ -20,6 +20,8 @@ const BETWEEN: u64 = 60;
 #[derive(Drop)]
 pub(crate) struct SlowDisk {
     late: Repeated,
+    // How many Fulfills were told late.
+    fulfills: AtomicU64,
     // For how many seconds it had taken when that was last said; 0 where it goes on.
     told: AtomicU64,
     // For how many it was seen to take last.
@@ -31,6 +33,7 @@ impl SlowDisk {
     pub(crate) fn new() -> SlowDisk {
         SlowDisk {
             late: Repeated::new(),
+            fulfills: AtomicU64::new(0),
             told: AtomicU64::new(0),
             seconds: AtomicU64::new(0),
         }
@@ -51,6 +54,7 @@ impl Notices {
         if peer >= config.peers() {
             return;
         }
+        self.slow_disk.fulfills.fetch_add(1, Ordering::SeqCst);
         let Some(left_out) = self.slow_disk.late.failed(rt) else {
             return;
         };
@@ -60,6 +64,11 @@ impl Notices {
             "fulfill told to {name} {time} too late ({hold}): {name} may not pay for it, and the book has it paid{left_out}"
         );
         tell(rt, Level::Error, text);
+    }
+
+    /// How many Fulfills were told late.
+    pub fn fulfills_late(&self) -> u64 {
+        self.slow_disk.fulfills.load(Ordering::SeqCst)
     }
 
     /// Tells where the disk has taken so long to keep the journal that senders wait for: at 5 seconds, and each

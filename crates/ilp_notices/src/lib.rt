@@ -20,6 +20,7 @@
 
 mod carried_journal;
 mod doubling;
+mod gone_log;
 mod journal;
 mod journal_file;
 mod late;
@@ -48,10 +49,10 @@ pub use doubling::doubled;
 pub use journal_file::{
     Again, journal_absent, journal_carried, journal_gone, journal_in_use, journal_lost,
     journal_not_locked, journal_of_another_asset, journal_of_another_run, journal_older,
-    journal_saved, journal_too_long, journal_unfit, journal_unread, keys_left_out, left_unsaved,
-    log_begun, log_left, log_unwritten, no_journal, no_next_period, no_periods, not_made,
-    not_saved, not_saved_at_start, not_saved_yet, not_synced, nothing_to_save, period_begun,
-    period_differs, period_kept, period_unwritten, stopped_unsaved,
+    journal_saved, journal_too_long, journal_unfit, journal_unread, keys_left_out, left_next,
+    left_unsaved, log_begun, log_grows, log_left, log_unwritten, no_journal, no_next_period,
+    no_periods, not_made, not_saved, not_saved_at_start, not_saved_yet, not_synced,
+    nothing_to_save, period_begun, period_differs, period_kept, period_unwritten, stopped_unsaved,
 };
 pub use notices::Notices;
 pub use recovery::{RecoveryNote, recovery_note};
@@ -59,8 +60,8 @@ pub use sent_hold::SentHold;
 pub use shown_key::ShownKey;
 pub use shown_reason::ShownReason;
 pub use starting::{
-    closing, configuration_warning, few_files, listening, no_thread, not_listening, not_reloaded,
-    reloaded, report_follows,
+    ListensAt, closing, configuration_warning, few_files, listening, no_seat, no_thread,
+    not_listening, not_reloaded, reloaded, report_follows,
 };
 pub use told_payment::{ToldPayment, ToldQuantity};
 pub use unkept::log_incomplete;

@@ -1,5 +1,6 @@
 //! All that is told of one running connector.
 
+use crate::gone_log::GoneLog;
 use crate::journal::Fullness;
 use crate::late::SlowDisk;
 use crate::peers::OfPeer;
@@ -30,6 +31,7 @@ pub struct Notices {
     pub(crate) clock: Repeated,
     pub(crate) unkept: Unkept,
     pub(crate) slow_disk: SlowDisk,
+    pub(crate) gone_log: GoneLog,
     rejects: Rejects,
     wrong_tokens: WrongTokens,
 }
@@ -49,6 +51,7 @@ impl Notices {
             clock: Repeated::new(),
             unkept: Unkept::new(),
             slow_disk: SlowDisk::new(),
+            gone_log: GoneLog::new(),
             rejects: Rejects::new(alloc, config.peers())?,
             wrong_tokens: WrongTokens::new(),
         })

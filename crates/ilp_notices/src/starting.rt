@@ -5,14 +5,30 @@ use crate::line::{Level, tell};
 use ilp_accounts::Config;
 use std::fmt::Display;
 use std::io::{Eprint, ErrorKind};
+use std::net::SocketAddr;
 use std::time::Clock;
 use std::{fmt, io};
 
+/// Where both sides of a connector listen, as far as the system says.
+#[derive(Clone, Copy)]
+pub struct ListensAt {
+    pub peers: Option<SocketAddr>,
+    pub engines: Option<SocketAddr>,
+}
+
 /// Tells that the connector listens: where, with how many workers, how many packets and messages may be
-/// in flight at once, with how many octets, and for which peers.
-pub fn listening<R: Clock + Eprint>(rt: &R, config: &Config, in_flight: u32, octets: u64) {
+/// in flight at once, with how many octets, and for which peers. Where the configuration has port 0 it tells the port
+/// that was found.
+pub fn listening<R: Clock + Eprint>(
+    rt: &R,
+    config: &Config,
+    at: ListensAt,
+    in_flight: u32,
+    octets: u64,
+) {
     let text = WhereAndWho {
         config,
+        at,
         in_flight,
         octets,
     };
@@ -63,6 +79,14 @@ pub fn no_thread<R: Clock + Eprint>(rt: &R) {
     tell(rt, Level::Error, "a thread can't be started");
 }
 
+/// Tells that what a thread waits with can't be opened, and why.
+pub fn no_seat<R: Clock + Eprint>(rt: &R, error: &io::Error) {
+    let text = format_args!(
+        "can't open what a thread waits with: {error}: raise the limit of open files"
+    );
+    tell(rt, Level::Error, text);
+}
+
 /// Tells that no connection is accepted any more.
 pub fn closing<R: Clock + Eprint>(rt: &R) {
     tell(
@@ -93,6 +117,7 @@ pub fn report_follows<R: Clock + Eprint>(rt: &R) {
 #[derive(Clone, Copy)]
 struct WhereAndWho<'c> {
     config: &'c Config,
+    at: ListensAt,
     in_flight: u32,
     octets: u64,
 }
@@ -101,10 +126,18 @@ impl Display for WhereAndWho<'_> {
     fn fmt<W: fmt::Write>(&self, f: &mut fmt::Formatter<W>) -> fmt::Result {
         let WhereAndWho {
             config,
+            at,
             in_flight,
             octets,
         } = *self;
-        let (peers_at, engines_at) = (config.listen(), config.engine_listen());
+        let peers_at = Place {
+            configured: config.listen(),
+            found: at.peers,
+        };
+        let engines_at = Place {
+            configured: config.engine_listen(),
+            found: at.engines,
+        };
         let (workers, peers) = (config.workers(), config.peers());
         write!(
             f,
@@ -114,6 +147,22 @@ impl Display for WhereAndWho<'_> {
             write_peer(f, config, peer)?;
         }
         Ok(())
+    }
+}
+
+// Where a side listens: as it is configured, but for a port that was left to the system.
+#[derive(Clone, Copy)]
+struct Place<'c> {
+    configured: &'c str,
+    found: Option<SocketAddr>,
+}
+
+impl Display for Place<'_> {
+    fn fmt<W: fmt::Write>(&self, f: &mut fmt::Formatter<W>) -> fmt::Result {
+        match self.found {
+            Some(address) if self.configured.ends_with(":0") => write!(f, "{address}"),
+            _ => write!(f, "{}", self.configured),
+        }
     }
 }
 

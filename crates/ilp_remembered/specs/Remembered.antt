@@ -1,11 +1,12 @@
 -- What is kept beside a journal of the configuration by which it was run: the run, and the asset of each peer.
-use Rattle.std.specs.Prelude.{◌≡◌, ◌≢◌, ◌⊎◌, ◌<◌, ℕ, pos, Bool, true, false, not, ◌==◌, ◌&&◌, ◌||◌, List, ◌++◌, length, codes, Option, Some, None, slice_get, unwrap_or, bytes_eq, nat_eq}
+use Rattle.std.specs.Prelude.{◌≡◌, ◌≢◌, ◌⊎◌, ◌<◌, ℕ, pos, Bool, true, false, not, ◌==◌, ◌&&◌, ◌||◌, List, ◌++◌, length, codes, Option, Some, None, slice_get, unwrap_or, bytes_eq, nat_eq, IsNone}
 use Rattle.std.specs.List.{find, flat_map, slice_split, starts_with, ends_with}
 use Rattle.std.specs.Fmt.{decimal}
 use Rattle.ilp_assets.specs.Assets.{PlainAsset, no_asset}
 use Rattle.ilp_accounts.specs.Configuration.{Configuration, PlainPeer, peer_at}
 use Rattle.ilp_journal.specs.Journal.{Entries, open_holds}
 use Rattle.ilp_journal.specs.Balance.{balance}
+use Rattle.ilp_journal.specs.Credits.{kept_at}
 use Rattle.ilp_book.specs.SettleStep.{open_settlement}
 use Rattle.ilp_remembered.specs.declared.change.Change.{Change}
 use Rattle.ilp_remembered.specs.declared.change.Change.TheVariants as change
@@ -84,9 +85,13 @@ is_of_another C text peer = is_whole text && (has_other_run C text || has_other_
 abbrev pub IsUnsettled : Entries → ℕ → Type 0
 IsUnsettled j peer = open_settlement j peer None ≢ None
 
--- something is counted in units of the peer's asset: its balance, a hold that it sent, a settlement to it
+-- no key of a credit of the peer is kept, as a next period wants it of one whose asset differs
+abbrev pub KeepsNoKey : Entries → ℕ → Type 0
+KeepsNoKey j peer = (key : List ℕ) → IsNone (kept_at j peer key)
+
+-- something is counted in units of the peer's asset: its balance, a hold that it sent, a settlement to it, or what a key of it answers
 abbrev pub IsCounted : Entries → ℕ → Type 0
-IsCounted j peer = (balance j peer ≢ pos 0) ⊎ ((open_holds j peer ≢ 0) ⊎ IsUnsettled j peer)
+IsCounted j peer = (balance j peer ≢ pos 0) ⊎ ((open_holds j peer ≢ 0) ⊎ (IsUnsettled j peer ⊎ ¬ (KeepsNoKey j peer)))
 
 -- something is counted in another asset than a text has of the peer
 abbrev pub IsChanged : Configuration → Entries → List ℕ → ℕ → Type 0

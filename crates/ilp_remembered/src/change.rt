@@ -1,5 +1,5 @@
 //! What a start would change of what is remembered.
-ghost use Rattle.std.specs.Prelude.{◌≡◌, ◌<◌, length, IfOk};
+ghost use Rattle.std.specs.Prelude.{◌≡◌, ◌<◌, ◌↔◌, length, IfOk, IsTrue};
 ghost use Rattle.ilp_remembered.specs.Remembered as remembered;
 ghost use Rattle.ilp_remembered.specs.Remembered.{FindsChange, FindsRun, FirstOf, IsChanged, is_of_another};
 
@@ -113,9 +113,20 @@ fn first_changed(alloc: Global, book: &Book, text: &[u8]) -> Result<Option<u32>,
 {
     let config = book.config();
     for peer in 0..config.peers() {
-        if is_counted(book, peer) && has_other_asset(alloc, config, text, peer)? {
+        if is_changed(alloc, book, text, peer)? {
             return Ok(Some(peer));
         }
     }
     Ok(None)
+}
+
+// Whether something is counted in a peer's asset, of which a text has another. Few are other ones, so that is asked first.
+fn is_changed(alloc: Global, book: &Book, text: &[u8], peer: u32) -> Result<bool, AllocError>
+    requires { peer < length book.now.config.peers }
+    ensures { IfOk result (λ is. IsTrue is ↔ IsChanged book.now.config book.now.entries text.now peer) }
+{
+    if !has_other_asset(alloc, book.config(), text, peer)? {
+        return Ok(false);
+    }
+    Ok(is_counted(book, peer))
 }

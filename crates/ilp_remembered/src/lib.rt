@@ -7,8 +7,9 @@
 //! - `remembered_text` is the text of a configuration (`specs/Remembered.antt`, `remembered_text`).
 //!   `run_line` and `peer_line` are its lines.
 //! - `change_of` finds, of a text that is whole, another run where a settlement is open, or a peer with
-//!   another asset where something is counted in it; and it finds nothing only where there is neither
-//!   (`FindsChange`).
+//!   another asset where something is counted in it: a balance, a hold, a settlement, or what a key of
+//!   it answers, as a next period looks at (`KeepsNoOtherKeys` of `ilp_next_period`). It finds nothing
+//!   only where there is neither (`FindsChange`).
 //! - `is_of_another`: whether a text that is whole names another run, or another asset of a peer.
 #![tactic(auto)]
 

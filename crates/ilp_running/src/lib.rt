@@ -26,14 +26,14 @@
 
 mod fault;
 mod logging;
-mod no_configurations;
+mod nothing_on_disk;
 mod periods;
 mod printing;
 mod serving;
 
 pub use fault::ServeFault;
 pub use ilp_threads::{
-    Asker, Configurations, MEMORY_IS_SHORT, NextConfig, Sides, SidesRoom, Unprinted, without_end,
+    Asker, MEMORY_IS_SHORT, NextConfig, OnDisk, Sides, SidesRoom, Unprinted, without_end,
 };
 pub use logging::ClosedRun;
 pub use periods::{BegunPeriod, RunPeriod};

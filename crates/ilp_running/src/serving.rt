@@ -11,7 +11,7 @@ ghost use Rattle.ilp_running.specs.Serving.{IsWhyUnclosed, Prints, Refuses};
 
 use crate::fault::ServeFault;
 use crate::logging::{AckList, ClosedRun, RunningLog};
-use crate::no_configurations::NoConfigurations;
+use crate::nothing_on_disk::NothingOnDisk;
 use crate::periods::{BegunPeriod, RunPeriod};
 use crate::printing::tell_report;
 use ilp_accounts::{Config, LogSync};
@@ -22,9 +22,9 @@ use ilp_keeping::{Forgetful, SharedKeeper};
 use ilp_line_file::{Device, MemoryDevice};
 use ilp_links::Links;
 use ilp_log::{BegunLog, LogNaming};
-use ilp_log_keeper::{KeepingState, LogKeeper};
+use ilp_log_keeper::{DiskWait, KeepingState, LogKeeper};
 use ilp_report::{Snapshot, print};
-use ilp_threads::{Configurations, KeepingWay, RunDesk, Sides, Unprinted, run_desk};
+use ilp_threads::{KeepingWay, KeptBy, OnDisk, RunDesk, Sides, Unprinted, run_desk};
 use std::io::Eprint;
 use std::marker::Brand;
 use std::net::{Net, TcpListener, TcpStream};
@@ -107,7 +107,7 @@ where
     ensures refused { IfErr result (IsWhyUnclosed (desk_of config.now book)) }
 {
     let sides = open_sides(rt, config, false)?;
-    match run_period(rt, config, book, log, links, NoConfigurations, sides) {
+    match run_period(rt, config, book, log, links, NothingOnDisk, sides) {
         Ok(RunPeriod { run, sides: _ }) => Ok(run),
         Err(fault) => Err(fault),
     }
@@ -121,14 +121,14 @@ pub fn run_begun<R, L, D, P>(
     rt: &R,
     begun: BegunPeriod<D>,
     links: &L,
-    configs: P,
+    on_disk: P,
     sides: Sides,
 ) -> Result<RunPeriod<D>, ServeFault>
 where
     R: Net<Listener = TcpListener, Stream = TcpStream> + Threads + Wait + Clock + Eprint + Sync,
     L: Links,
     D: Device + Drop + Send,
-    P: Configurations + Drop + Send,
+    P: OnDisk + Drop + Send,
     requires begun { D.claims → IfSome begun.log (IsBegun D.seen D.may_leave) }
     ensures closed { IfOk result (λ period. IsClosed (desk_of_book begun.book) period.run.book) }
     ensures logged { D.claims → IfOk result (λ period. EndsLog D.seen D.may_leave D.left_since
@@ -140,7 +140,7 @@ where
         return Err(ServeFault::Unprinted(Unprinted::Memory));
     };
     let BegunPeriod { book, log } = begun;
-    run_period(rt, &config, book, log, links, configs, sides)
+    run_period(rt, &config, book, log, links, on_disk, sides)
 }
 
 /// Listens at both sides, at the places of the configuration. Periods of a desk between them may end by
@@ -163,14 +163,14 @@ fn run_period<R, L, D, P>(
     book: Book,
     log: Option<BegunLog<D>>,
     links: &L,
-    configs: P,
+    on_disk: P,
     sides: Sides,
 ) -> Result<RunPeriod<D>, ServeFault>
 where
     R: Net<Listener = TcpListener, Stream = TcpStream> + Threads + Wait + Clock + Eprint + Sync,
     L: Links,
     D: Device + Drop + Send,
-    P: Configurations + Drop + Send,
+    P: OnDisk + Drop + Send,
     requires config { book.config ≡ config.now }
     requires opening { length book.entries ≡ book.base }
     requires base { IfSome log (λ l. l.start.base ≤ length book.entries) }
@@ -190,17 +190,17 @@ where
     };
     let between = Between {
         links,
-        configs,
+        on_disk,
         sides,
     };
     serve_desk::<Brand, Brand, R, L, D, P>(rt, config, book, blanks, list, log, acks, between)
 }
 
-// Between what a desk is run: its links, where its configuration is read again, and its sides.
+// Between what a desk is run: its links, what it has on the disk, and its sides.
 #[derive(Drop)]
 struct Between<'l, L, P> {
     links: &'l L,
-    configs: P,
+    on_disk: P,
     sides: Sides,
 }
 
@@ -221,7 +221,7 @@ where
     R: Net<Listener = TcpListener, Stream = TcpStream> + Threads + Wait + Clock + Eprint + Sync,
     L: Links,
     D: Device + Drop + Send,
-    P: Configurations + Drop + Send,
+    P: OnDisk + Drop + Send,
     requires config { (config.now ≡ J.desk.config) × (book.config ≡ J.desk.config) }
     requires workers { config.now.settings.workers ≡ J.desk.workers }
     requires period { book.period ≡ J.desk.period }
@@ -251,8 +251,13 @@ where
     };
     match log {
         None => {
-            let way = KeepingWay::InLoops;
-            let RunDesk { ends, sides } = run_between(rt, &desk, shares, between, Forgetful, way)?;
+            let disk = DiskWait::new();
+            let kept_by = KeptBy {
+                keeper: Forgetful,
+                way: KeepingWay::InLoops,
+                disk: &disk,
+            };
+            let RunDesk { ends, sides } = run_between(rt, &desk, shares, between, kept_by)?;
             let book = close_desk(desk, ends)?.into_book();
             let run = ClosedRun { book, log: None };
             Ok(RunPeriod { run, sides })
@@ -278,7 +283,7 @@ where
     R: Net<Listener = TcpListener, Stream = TcpStream> + Threads + Wait + Clock + Eprint + Sync,
     L: Links,
     D: Device + Drop + Send,
-    P: Configurations + Drop + Send,
+    P: OnDisk + Drop + Send,
     requires shares { 2 ≤ vec_len shares }
     requires begun { D.claims → IfSome log.begun (λ first. first.lines ≡ K.form.head) }
     ensures closed { IfOk result (λ period. IsClosed J.desk period.run.book) }
@@ -287,38 +292,40 @@ where
     ensures refused { IfErr result (IsWhyUnclosed J.desk) }
 {
     let state = KeepingState::new();
-    let keeper = LogKeeper::new(rt, &desk, &log.log, &state);
-    let way = keeping_way(desk.config());
-    let RunDesk { ends, sides } = run_between(rt, &desk, shares, between, keeper, way)?;
+    let kept_by = KeptBy {
+        keeper: LogKeeper::new(rt, &desk, &log.log, &state),
+        way: keeping_way(desk.config()),
+        disk: state.disk(),
+    };
+    let RunDesk { ends, sides } = run_between(rt, &desk, shares, between, kept_by)?;
     let book = close_desk(desk, ends)?;
     let run = log.close(rt, book);
     Ok(RunPeriod { run, sides })
 }
 
-// Runs a desk between these, with a keeper of its journal.
+// Runs a desk between these, whose journal is kept so.
 fn run_between<J, R, L, P, K>(
     rt: &R,
     desk: &Desk<J>,
     shares: Vec<Share<J>>,
     between: Between<'_, L, P>,
-    keeper: K,
-    way: KeepingWay,
+    kept_by: KeptBy<'_, K>,
 ) -> Result<RunDesk<J>, ServeFault>
 where
     J: Naming + Send + Sync,
     R: Net<Listener = TcpListener, Stream = TcpStream> + Threads + Wait + Clock + Eprint + Sync,
     L: Links,
-    P: Configurations + Drop + Send,
+    P: OnDisk + Drop + Send,
     K: SharedKeeper<J> + Drop + Send,
     requires shares { 2 ≤ vec_len shares }
     ensures refused { IfErr result (IsWhyUnclosed J.desk) }
 {
     let Between {
         links,
-        configs,
+        on_disk,
         sides,
     } = between;
-    match run_desk(rt, desk, shares, links, configs, sides, keeper, way) {
+    match run_desk(rt, desk, shares, links, on_disk, sides, kept_by) {
         Ok(run) => Ok(run),
         Err(why) => Err(ServeFault::Unprinted(why)),
     }

@@ -1,13 +1,19 @@
-//! Where the configuration of a connector that runs is read again.
+//! What a connector that runs has on the disk: where its configuration is read again, and its journal.
 
+use crate::keeping::KeepsPeriods;
+use crate::reading::ConfigAsker;
 use crate::restart::needs_restart;
 use crate::telling::line_of_refusal;
 use ilp_accounts::Config;
+use ilp_journal_file::JournalWatch;
 use ilp_refusals::Refusal;
-use ilp_running::Configurations;
+use ilp_running::OnDisk;
 use ilp_starting::{Refused, Telling, config_octets, config_of, tell_warnings};
+use std::alloc::Global;
 use std::fs;
 use std::rt::{Files, Runtime};
+use std::sync::Wait;
+use std::time::Clock;
 
 /// A runtime that reads configurations. It is asked for beside what else a runtime has: the kit's prover
 /// carries to another thread what is asked for so.
@@ -43,17 +49,36 @@ fn is_no_file(rt: &impl Files, path: &str) -> bool {
     }
 }
 
-/// The path of the configuration.
-#[derive(Clone, Copy)]
-pub(crate) struct ConfigPath<'f, R> {
+/// The path of the configuration, and the journal, where there is one.
+#[derive(Drop)]
+pub(crate) struct ConnectorFiles<'f, R> {
     pub(crate) rt: R,
-    pub(crate) path: &'f str,
+    pub(crate) config_path: &'f str,
+    /// By what the configuration is read again; none where no thread could be started for that.
+    pub(crate) configs: Option<ConfigAsker>,
+    pub(crate) journal: Option<JournalWatch>,
 }
 
-impl<R: ReadsConfigs> Configurations for ConfigPath<'_, R> {
+impl<R: ReadsConfigs + KeepsPeriods + Wait + Clock> ConnectorFiles<'_, R> {
+    // The configuration that stands at the path. It is refused as `ConfigUnread` too where that isn't read within a
+    // second.
+    fn read(&self, alloc: Global) -> Result<Config, Refused> {
+        let Some(configs) = &self.configs else {
+            return self.rt.read_config(self.config_path);
+        };
+        if let Some(read) = configs.read(&self.rt) {
+            return read;
+        }
+        let path = self.config_path;
+        let why = format!(in alloc; "{path:?}: not read within a second");
+        Err(Refused::because(Refusal::ConfigUnread, why))
+    }
+}
+
+impl<R: ReadsConfigs + KeepsPeriods + Wait + Clock> OnDisk for ConnectorFiles<'_, R> {
     fn read_again(&self, in_force: &Config) -> Result<Config, Option<String>> {
         let alloc = in_force.allocator();
-        let next = match self.rt.read_config(self.path) {
+        let next = match self.read(alloc) {
             Ok(next) => next,
             Err(refused) => return Err(line_of_refusal(alloc, &refused)),
         };
@@ -63,6 +88,20 @@ impl<R: ReadsConfigs> Configurations for ConfigPath<'_, R> {
                 let line = format!(in alloc; "`{field}` needs a restart\n");
                 Err(line.ok())
             }
+        }
+    }
+
+    fn has_journal(&self) -> bool {
+        match &self.journal {
+            Some(watch) => self.rt.has_journal(watch),
+            None => true,
+        }
+    }
+
+    fn has_log(&self) -> bool {
+        match &self.journal {
+            Some(watch) => self.rt.has_log(watch),
+            None => true,
         }
     }
 }

@@ -5,7 +5,7 @@ ghost use Rattle.ilp_running.specs.Serving.{desk_of_book, IsClosed, IsOfNoDesk, 
 ghost use Rattle.ilp_serve.specs.Following.{BeginsAs, FollowsAs};
 ghost use Rattle.ilp_serve.specs.declared.followed.Change.TheVariants as changes;
 
-use crate::config_path::{ConfigPath, ReadsConfigs};
+use crate::config_path::{ConnectorFiles, ReadsConfigs};
 use crate::followed::{Change, Followed, FollowedBy};
 use crate::keeping::KeepsPeriods;
 use crate::next_books::{NextBooks, next_books, opened_anew};
@@ -18,7 +18,7 @@ use ilp_log::BegunLog;
 use ilp_new_period::{Kept, keep_behind};
 use ilp_notices::no_next_period;
 use ilp_running::{BegunPeriod, RunPeriod, ServeFault, Sides, run_begun};
-use ilp_starting::{BookFile, Host, Refused};
+use ilp_starting::{BookFile, Host, JournalWarnings, Refused, Telling};
 use std::fs::File;
 use std::net::{Net, TcpListener, TcpStream};
 use std::rt::Files;
@@ -55,7 +55,7 @@ where
         begun: BegunPeriod<LogDevice<'r, R, File>>,
         unkept: Option<Book>,
         links: &TcpLinks<SystemClock<R>>,
-        configs: ConfigPath<'r, R>,
+        on_disk: ConnectorFiles<'r, R>,
         sides: Sides,
     ) -> Result<RunPeriod<LogDevice<'r, R, File>>, ServeFault>
         ensures closed { IfOk result (λ period. IsClosed (desk_of_book begun.entry.book) period.run.book) }
@@ -63,7 +63,7 @@ where
     {
         let (rt, path, held) = (self.rt, self.path, self.file.held());
         let Some(ended) = unkept else {
-            return run_begun(rt, begun, links, configs, sides);
+            return run_begun(rt, begun, links, on_disk, sides);
         };
         thread::scope(
             thread::scope_env(),
@@ -75,7 +75,7 @@ where
             {
                 // Where no thread can be started it is kept at the end of this one.
                 let _keeping = scope.spawn(move || rt.keep_set_aside(path, held, &ended));
-                run_begun(rt, begun, links, configs, sides)
+                run_begun(rt, begun, links, on_disk, sides)
             },
         )
     }
@@ -94,14 +94,26 @@ where
         ensures unkept { IfOk result (λ f. IfSome f.unkept (λ ended. ended ≡ book)) }
         ensures refused { IfErr result IsOfNoDesk }
     {
+        let is_asked = next.is_some();
         match next_books(self.rt.alloc(), book, next)? {
             NextBooks::Next { ended, next, told } => self.begin(ended, next, told, is_logged),
             NextBooks::Same {
                 book,
                 refused,
                 told,
-            } => self.go_on(book, &refused, told),
+            } => {
+                // Who asked is told why, and a line says it.
+                if !is_asked {
+                    self.tell_same(&refused);
+                }
+                self.go_on(book, told)
+            }
         }
+    }
+
+    // Tells that the period goes on that was to end.
+    fn tell_same(&self, refused: &Refused) {
+        no_next_period(self.rt, self.path, &refused.refusal, why_of(refused));
     }
 
     // Keeps the books of a period, and begins the next one with these. Where they can't be kept those that
@@ -120,34 +132,32 @@ where
     {
         let rt = self.rt;
         match keep_behind(rt, self.file, self.path, &ended, &next, is_logged) {
-            Ok(kept) => Ok(Followed {
-                period: self.logged(next, kept)?,
-                unkept: unless_whole(ended, kept),
-                change: Change::NewPeriod,
-                told,
-            }),
+            Ok(kept) => {
+                JournalWarnings::of(rt, &next).tell(rt, self.path, Telling::Notice);
+                Ok(Followed {
+                    period: self.logged(next, kept)?,
+                    unkept: unless_whole(ended, kept),
+                    change: Change::NewPeriod,
+                    told,
+                })
+            }
             Err(refused) => {
                 drop(next);
                 let told = line_of_refusal(rt.alloc(), &refused);
                 let book = opened_anew(ended, &refused)?;
-                self.go_on(book, &refused, told)
+                self.tell_same(&refused);
+                self.go_on(book, told)
             }
         }
     }
 
-    // Goes on with a book behind which no period can begin, for this reason.
-    fn go_on(
-        &self,
-        book: Book,
-        refused: &Refused,
-        told: Option<String>,
-    ) -> Result<FollowedBy<'r, R>, ServeFault>
+    // Goes on with a book behind which no period can begin.
+    fn go_on(&self, book: Book, told: Option<String>) -> Result<FollowedBy<'r, R>, ServeFault>
         requires opening { length book.entries ≡ book.base }
         ensures book { IfOk result (λ f. (f.change ≡ changes.None) × (f.period.book ≡ book)) }
         ensures unkept { IfOk result (λ f. f.unkept ≡ None) }
         ensures refused { IfErr result IsOfNoDesk }
     {
-        no_next_period(self.rt, self.path, &refused.refusal, why_of(refused));
         Ok(Followed {
             period: self.logged(book, Kept::Whole)?,
             unkept: None,

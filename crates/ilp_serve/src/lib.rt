@@ -27,6 +27,7 @@ mod keeping;
 mod memory_periods;
 mod next_books;
 mod periods;
+mod reading;
 mod report;
 mod restart;
 mod run;

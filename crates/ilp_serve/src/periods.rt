@@ -5,15 +5,16 @@ ghost use Rattle.ilp_running.specs.Serving.{desk_of_book, IsClosed, IsOfNoDesk, 
 ghost use Rattle.ilp_serve.specs.Following.{Follows, FollowsAs};
 ghost use Rattle.ilp_serve.specs.Periods.{ComesTo, EndsBy};
 
-use crate::config_path::{ConfigPath, ReadsConfigs};
+use crate::config_path::{ConnectorFiles, ReadsConfigs};
 use crate::followed::{Change, Followed, FollowedBy, NextPeriod};
 use crate::journal_periods::JournalPeriods;
 use crate::keeping::KeepsPeriods;
 use crate::memory_periods::follow_unkept;
+use crate::reading::ConfigAsker;
 use crate::telling::tell_asker;
 use ilp_accounts::Config;
 use ilp_book::Book;
-use ilp_journal_file::{LogDevice, PlacesFiles};
+use ilp_journal_file::{JournalWatch, LogDevice, PlacesFiles};
 use ilp_links::{SystemClock, TcpLinks};
 use ilp_notices::Notices;
 use ilp_running::{
@@ -21,7 +22,7 @@ use ilp_running::{
     open_sides, run_begun,
 };
 use ilp_starting::Host;
-use std::alloc::AllocError;
+use std::alloc::{AllocError, Global};
 use std::fs::File;
 use std::net::{Net, TcpListener, TcpStream};
 use std::rt::{Files, Runtime};
@@ -30,8 +31,9 @@ use std::rt::{Files, Runtime};
 #[derive(Clone, Copy)]
 pub(crate) struct Periods<'r, 'f, R> {
     pub(crate) rt: &'r R,
-    /// Where the configuration is read again.
+    /// Where the configuration is read again, and by what.
     pub(crate) config_path: &'r str,
+    pub(crate) configs: Option<&'f ConfigAsker>,
     pub(crate) kept: Option<JournalPeriods<'r, 'f, R>>,
 }
 
@@ -88,13 +90,33 @@ where
         let Ok(links) = links_of(rt, begun.book.config()) else {
             return Err(ServeFault::Unprinted(Unprinted::Memory));
         };
-        let configs = ConfigPath {
-            rt: *rt,
-            path: self.config_path,
+        let Ok(on_disk) = self.on_disk(begun.book.config().allocator()) else {
+            return Err(ServeFault::Unprinted(Unprinted::Memory));
         };
         match &self.kept {
-            Some(kept) => kept.run(begun, unkept, &links, configs, sides),
-            None => run_begun(rt, begun, &links, configs, sides),
+            Some(kept) => kept.run(begun, unkept, &links, on_disk, sides),
+            None => run_begun(rt, begun, &links, on_disk, sides),
+        }
+    }
+
+    // What its watcher looks at on the disk.
+    fn on_disk(&self, alloc: Global) -> Result<ConnectorFiles<'r, R>, AllocError> {
+        let configs = match self.configs {
+            Some(configs) => Some(configs.try_clone()?),
+            None => None,
+        };
+        Ok(ConnectorFiles {
+            rt: *self.rt,
+            config_path: self.config_path,
+            configs,
+            journal: self.watch(alloc)?,
+        })
+    }
+
+    fn watch(&self, alloc: Global) -> Result<Option<JournalWatch>, AllocError> {
+        match &self.kept {
+            Some(kept) => Ok(Some(kept.file.watch(alloc)?)),
+            None => Ok(None),
         }
     }
 
@@ -167,6 +189,8 @@ where
         } = self.follow(ended, Some(config))?;
         if change == Change::NewPeriod {
             sides.take_over(room);
+        } else {
+            sides.go_on_for_now(self.rt);
         }
         tell_asker(self.rt, sides, asker, change, &told);
         Ok(NextPeriod { period, unkept })

@@ -6,6 +6,7 @@ use crate::ending::{end, leave_unsaved, run_fault};
 use crate::journal_periods::JournalPeriods;
 use crate::keeping::KeepsPeriods;
 use crate::periods::Periods;
+use crate::reading::ConfigAsker;
 use crate::report::{print_report, room_for_report};
 use ilp_accounts::Config;
 use ilp_book::Book;
@@ -25,6 +26,8 @@ pub(crate) struct Run<'r, R> {
     /// Where the configuration was read.
     pub(crate) path: &'r str,
     pub(crate) config: &'r Config,
+    /// By what that is read again; none where no thread could be started for it.
+    pub(crate) configs: Option<&'r ConfigAsker>,
 }
 
 impl<'r, R> Run<'r, R>
@@ -59,6 +62,7 @@ where
         let periods = Periods {
             rt,
             config_path: self.path,
+            configs: self.configs,
             kept: None,
         };
         match periods.run(first) {
@@ -104,6 +108,7 @@ where
         let periods = Periods {
             rt,
             config_path: self.path,
+            configs: self.configs,
             kept: Some(JournalPeriods {
                 rt,
                 file: taken,

@@ -101,16 +101,27 @@ impl Intakes {
     /// Has both sides accept no more, and counts the time from here. A second close changes nothing. Who asks
     /// is answered once neither accepts.
     pub fn close<R: Wait + Clock>(&self, rt: &R, closer: Asker) {
+        self.count_from_now(rt);
+        let answered = self.closing.lock(rt).add(closer);
+        match answered {
+            Some(closer) => closer.closed(rt, self),
+            None => self.accept_no_more(),
+        }
+    }
+
+    /// Has both sides accept no more, as a close does, though nobody asked for one.
+    pub fn end<R: Clock>(&self, rt: &R) {
+        self.count_from_now(rt);
+        self.accept_no_more();
+    }
+
+    // Counts the time from here, unless it is counted.
+    fn count_from_now<R: Clock>(&self, rt: &R) {
         if let Ok(now) = rt.monotonic() {
             let over = in_milliseconds(now.saturating_add(self.after));
             let _ = self
                 .over
                 .compare_exchange(u64::MAX, over, Ordering::SeqCst, Ordering::SeqCst);
-        }
-        let answered = self.closing.lock(rt).add(closer);
-        match answered {
-            Some(closer) => closer.closed(rt, self),
-            None => self.accept_no_more(),
         }
     }
 

@@ -1,14 +1,12 @@
 //! The journal is kept for the loops, while they go on.
 
-use crate::moment::monotonic;
 use crate::shared::Shared;
 use crossbeam_channel::{Receiver, Sender, bounded};
 use ilp_desk::Naming;
 use ilp_workers::{HandedJournal, JournalKeeper, Keeper};
 use std::alloc::{AllocError, Global};
-use std::sync::atomic::{AtomicU32, AtomicU64, Ordering};
+use std::sync::atomic::{AtomicU32, Ordering};
 use std::sync::{Mutex, MutexGuard, Wait};
-use std::time::{Clock, Duration};
 
 /// The journal that was kept last. Threads share it by reference.
 #[derive(Drop)]
@@ -16,10 +14,6 @@ pub struct KeptJournal<J: Naming> {
     handed: Mutex<HandedJournal<J>>,
     // How many entries it had.
     entries: AtomicU32,
-    // How many threads have one kept now.
-    keepers: AtomicU64,
-    // When the first of them began, or one of them ended last; milliseconds of the clock that never goes back.
-    moved: AtomicU64,
 }
 
 impl<J: Naming> KeptJournal<J> {
@@ -28,8 +22,6 @@ impl<J: Naming> KeptJournal<J> {
         KeptJournal {
             handed: Mutex::new(HandedJournal::none()),
             entries: AtomicU32::new(0),
-            keepers: AtomicU64::new(0),
-            moved: AtomicU64::new(0),
         }
     }
 
@@ -43,41 +35,12 @@ impl<J: Naming> KeptJournal<J> {
         self.handed.lock(rt)
     }
 
-    /// Somebody begins to have one kept at this moment, who is to tell its end.
-    pub fn begin(&self, now: Duration) {
-        if self.keepers.load(Ordering::SeqCst) == 0 {
-            self.moved.store(milliseconds(now), Ordering::SeqCst);
-        }
-        self.keepers.fetch_add(1, Ordering::SeqCst);
-    }
-
-    /// That is over at this moment.
-    pub fn end(&self, now: Duration) {
-        self.moved.store(milliseconds(now), Ordering::SeqCst);
-        self.keepers.fetch_sub(1, Ordering::SeqCst);
-    }
-
-    /// For how long those who have one kept at this moment have waited since the last of them ended, or since they
-    /// began.
-    pub fn waited(&self, now: Duration) -> Duration {
-        if self.keepers.load(Ordering::SeqCst) == 0 {
-            return Duration::from_millis(0);
-        }
-        let moved = self.moved.load(Ordering::SeqCst);
-        Duration::from_millis(milliseconds(now).saturating_sub(moved))
-    }
-
     // This one was kept.
     fn set(&self, rt: &impl Wait, handed: HandedJournal<J>) {
         let entries = handed.entries();
         *self.handed.lock(rt) = handed;
         self.entries.store(entries, Ordering::SeqCst);
     }
-}
-
-// In milliseconds, of which no machine sees 2^64.
-fn milliseconds(time: Duration) -> u64 {
-    u64::try_from(time.as_millis()).unwrap_or(u64::MAX)
 }
 
 /// By this a loop asks for the journal to be kept.
@@ -106,7 +69,8 @@ impl KeepingAsker {
         })
     }
 
-    /// Asks for all to be kept that is booked by now, without waiting for it.
+    /// Asks for all to be kept that is booked by now, without waiting for it. Where there is no room for the question one
+    /// stands there that serves this too.
     pub fn ask(&self, rt: &impl Wait) {
         let _ = self.sender.try_send(rt, ());
     }
@@ -114,16 +78,14 @@ impl KeepingAsker {
 
 /// Has the journal kept as often as loops ask, until all of them are over. What is booked while one is
 /// kept, the next one has: so one sync serves as many packets as there are.
-pub fn keep_for_loops<J: Naming, K: Keeper<J> + Drop, R: Wait + Clock>(
+pub fn keep_for_loops<J: Naming, K: Keeper<J> + Drop, R: Wait>(
     shared: Shared<'_, J, R>,
     keeper: JournalKeeper<J, K>,
     asks: KeepingAsks,
 ) {
     let mut keeper = keeper;
     for () in asks.receiver.iter(shared.rt) {
-        shared.kept.begin(monotonic(shared.rt));
         let handed = keeper.keep(shared.rt, shared.desk);
-        shared.kept.end(monotonic(shared.rt));
         shared.kept.set(shared.rt, handed);
         shared.bells.ring_all();
     }

@@ -39,7 +39,7 @@ pub use nobody::Nobody;
 pub use payouts::{LeftTurns, Payouts};
 pub use period_due::PeriodDue;
 pub use places::{HeldBack, Places};
-pub use reloading::{Configurations, NextConfig, Reloading};
+pub use reloading::{NextConfig, OnDisk, Reloading};
 pub use seen::Seen;
 pub use shared::Shared;
 pub use shutdown::{KeepRunning, Shutdown, shutdown_pair};

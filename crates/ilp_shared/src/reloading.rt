@@ -6,11 +6,18 @@ use ilp_accounts::Config;
 use std::sync::atomic::{AtomicBool, Ordering};
 use std::sync::{Mutex, Wait};
 
-/// Where a connector's configuration is read again.
-pub trait Configurations {
+/// What a running connector has on the disk, beside the log that it writes.
+pub trait OnDisk {
     /// The configuration as it stands there now, where a connector of this one may go on by it. Else a line
     /// that says why not; none where memory for that is short.
     fn read_again(&self, in_force: &Config) -> Result<Config, Option<String>>;
+
+    /// Whether its journal, if it has one, is still its own, as far as the system says: another connector may have taken
+    /// it. Where it isn't a line says so, each time.
+    fn has_journal(&self) -> bool;
+
+    /// Whether the log of its journal, if it has one, lies at its path, as far as the system says.
+    fn has_log(&self) -> bool;
 }
 
 /// A configuration by which the next period is to begin, and who asks for that.

@@ -10,6 +10,7 @@ use crate::reloading::Reloading;
 use crate::seen::Seen;
 use ilp_desk::{Desk, Naming};
 use ilp_links::Outside;
+use ilp_log_keeper::DiskWait;
 use ilp_notices::Notices;
 use std::sync::Wait;
 use std::time::Duration;
@@ -23,6 +24,8 @@ pub struct Shared<'a, J: Naming, R> {
     pub intakes: &'a Intakes,
     pub bells: &'a Bells,
     pub kept: &'a KeptJournal<J>,
+    /// For how long whoever has the journal kept has waited.
+    pub disk: &'a DiskWait,
     pub notices: &'a Notices,
     pub seen: &'a Seen,
     pub reloading: &'a Reloading,
@@ -53,6 +56,7 @@ impl<'a, J: Naming, R> Shared<'a, J, R> {
             intakes: self.intakes,
             bells: self.bells,
             kept: self.kept,
+            disk: self.disk,
             notices: self.notices,
             seen: self.seen,
             reloading: self.reloading,

@@ -65,8 +65,8 @@ where
     ///
     /// A sudden stop of the machine in between leaves what a start finds the same book in.
     ///
-    /// Refusals: those of `book_of`; `JournalUnread`, also where a text lies beside it that it lacks, and `WriteFault`,
-    /// of which a line on standard error says more.
+    /// Refusals: those of `book_of`; `JournalUnread`, also where a text lies beside it that it lacks, and where the log is
+    /// another by then than was read, and `WriteFault`, of which a line on standard error says more.
     pub fn begin(&self) -> Result<Begun<LogDevice<'r, R, F>>, Refused>
         ensures config { IfOk result (λ b. b.book.config ≡ self.now.config.now) }
         ensures opening { IfOk result (λ b. length b.book.entries ≡ b.book.base) }
@@ -217,12 +217,22 @@ where
         let found = self.found()?;
         match last_found(self.rt, self.config, self.path, &found) {
             Ok(carried) => {
+                self.expect_still(&found)?;
                 self.tell(&carried, found.text.is_some());
                 let Carried { book, source: _ } = carried;
                 Ok(book)
             }
             Err(refused) => Err(refused),
         }
+    }
+
+    // Finds that the log is still what was found: nobody else writes to it.
+    fn expect_still(&self, found: &Found) -> Result<(), FileFault> {
+        let octets = match &found.log {
+            Some(log) => Some(log.len()),
+            None => None,
+        };
+        self.file.expect_still_log(self.rt, octets)
     }
 
     // Tells with what a run begins, and whether there was a file.

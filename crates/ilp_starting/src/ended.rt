@@ -95,7 +95,8 @@ where
     file.remove_ended(rt)
 }
 
-/// Removes what a period behind this one was to begin with, where it is there: this one goes on.
+/// Removes what a period behind this one was to begin with, where it is there: this one goes on. A line says so, and of
+/// one that is of another period and stays.
 ///
 /// Refusals: those of `JournalFile::read_next`; `Unwritten` where it can't be removed, and a line says so.
 pub(crate) fn forget_next<R, F>(rt: &R, file: &JournalFile<F>, period: u32) -> Result<(), FileFault>
@@ -103,8 +104,12 @@ where
     R: AllocGlobal + Files + PlacesFiles + Clock + Eprint,
 {
     match file.read_next(rt, rt.alloc())? {
-        Some(text) if period_of(text.as_slice()) > period => file.forget_next(rt),
-        _ => Ok(()),
+        Some(text) => {
+            let goes = period_of(text.as_slice()) > period;
+            file.tell_next(rt, goes);
+            if goes { file.forget_next(rt) } else { Ok(()) }
+        }
+        None => Ok(()),
     }
 }
 

@@ -29,7 +29,7 @@ where
     if last == book.period() && has_kept(rt, path, book)? {
         return Ok(());
     }
-    journal_older(rt, path, last);
+    journal_older(rt, path, last, book.period());
     Err(Refused::from(Refusal::JournalUnread))
 }
 

@@ -4,14 +4,18 @@ ghost use Rattle.std.specs.Prelude.{◌≤◌, vec_len};
 use ilp_desk::{Desk, JournalReceipt, Naming, Share};
 use ilp_keeping::SharedKeeper;
 use ilp_links::Links;
+use ilp_log_keeper::DiskWait;
 use ilp_loops::{Seat, ServingLoop};
+use ilp_notices::no_seat;
 use ilp_settler::{Settler, Sweeper};
 use ilp_settling::{SettlerBell, SettlingLoop};
 use ilp_shared::{Bells, KeepingAsker, KeepingAsks, Nobody, keeping_pair};
 use ilp_workers::{Clock, JournalKeeper, Keeper, Worker};
 use std::alloc::AllocError;
+use std::io::{Eprint, ErrorKind};
 use std::net::Net;
 use std::sync::Wait;
+use std::{io, time};
 
 /// What the watcher is given: a clock, a keeper, and what was seen of the journal.
 #[derive(Drop)]
@@ -48,6 +52,15 @@ pub(crate) struct Keeping<J: Naming, K: Keeper<J> + Drop> {
     pub(crate) asks: KeepingAsks,
 }
 
+/// By what the journal of a desk is kept before senders are told: a keeper, and the same for others; how; and for how
+/// long these have waited for the disk.
+#[derive(Drop)]
+pub struct KeptBy<'k, K: Drop> {
+    pub keeper: K,
+    pub way: KeepingWay,
+    pub disk: &'k DiskWait,
+}
+
 /// How the journal is kept before senders are told.
 #[derive(Clone, Copy, Debug, PartialEq, Eq)]
 pub enum KeepingWay {
@@ -65,7 +78,12 @@ type LoopOf<J, L, K> = ServingLoop<J, <L as Links>::Clock, K>;
 
 /// The actors whose shares these are, the settler's last and the sweeper's before it. Each has a keeper of
 /// its own of the same journal. It is refused where memory is denied, or what a loop waits with.
-pub(crate) fn actors_of<J: Naming, N: Wait + Net, L: Links, K: SharedKeeper<J> + Drop>(
+pub(crate) fn actors_of<
+    J: Naming,
+    N: Wait + Net + time::Clock + Eprint,
+    L: Links,
+    K: SharedKeeper<J> + Drop,
+>(
     rt: &N,
     desk: &Desk<J>,
     shares: Vec<Share<J>>,
@@ -110,7 +128,16 @@ pub(crate) fn actors_of<J: Naming, N: Wait + Net, L: Links, K: SharedKeeper<J> +
     })
 }
 
-fn new_loops<J: Naming, N: Wait + Net, L: Links, K: SharedKeeper<J> + Drop>(
+// That memory is short, where it isn't the limit of open files that refuses what a thread waits with, of which a line
+// tells.
+fn told<R: time::Clock + Eprint>(rt: &R, error: &io::Error) -> AllocError {
+    if error.kind() != ErrorKind::OutOfMemory {
+        no_seat(rt, error);
+    }
+    AllocError
+}
+
+fn new_loops<J: Naming, N: Wait + Net + time::Clock + Eprint, L: Links, K: SharedKeeper<J> + Drop>(
     rt: &N,
     desk: &Desk<J>,
     shares: Vec<Share<J>>,
@@ -122,8 +149,9 @@ fn new_loops<J: Naming, N: Wait + Net, L: Links, K: SharedKeeper<J> + Drop>(
     let mut loops = Vec::new(alloc);
     let mut bells = Bells::new(alloc);
     for (number, share) in shares.into_iter().enumerate() {
-        let Ok((seat, waker)) = Seat::new(rt, alloc, number) else {
-            return Err(AllocError);
+        let (seat, waker) = match Seat::new(rt, alloc, number) {
+            Ok(made) => made,
+            Err(error) => return Err(told(rt, &error)),
         };
         bells.add(waker)?;
         let asker = match &asker {
@@ -155,7 +183,7 @@ fn new_loop<J: Naming, L: Links, K: Keeper<J> + Drop>(
     }
 }
 
-fn new_settling<J: Naming, N: Wait + Net, L: Links, K: Keeper<J> + Drop>(
+fn new_settling<J: Naming, N: Wait + Net + time::Clock + Eprint, L: Links, K: Keeper<J> + Drop>(
     rt: &N,
     desk: &Desk<J>,
     share: Share<J>,
@@ -168,7 +196,7 @@ fn new_settling<J: Naming, N: Wait + Net, L: Links, K: Keeper<J> + Drop>(
     match Settler::new(alloc, share, receipt, links.clock(), Nobody, keeper) {
         Ok(settler) => match SettlingLoop::new(rt, alloc, settler, config.peers()) {
             Ok(settling) => Ok(settling),
-            Err(_) => Err(AllocError),
+            Err(error) => Err(told(rt, &error)),
         },
         Err(_) => Err(AllocError),
     }

@@ -20,7 +20,7 @@ mod sweeping;
 mod threads;
 mod watching;
 
-pub use actors::KeepingWay;
+pub use actors::{KeepingWay, KeptBy};
 pub use fault::Unprinted;
-pub use ilp_shared::{Asker, Configurations, MEMORY_IS_SHORT, NextConfig, without_end};
+pub use ilp_shared::{Asker, MEMORY_IS_SHORT, NextConfig, OnDisk, without_end};
 pub use sides::{RunDesk, Sides, SidesRoom, run_desk};

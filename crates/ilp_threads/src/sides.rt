@@ -2,7 +2,7 @@
 ghost use Rattle.std.specs.Prelude.{◌≤◌, vec_len};
 
 use crate::accepting::{Acceptor, SideRoom, last_sender};
-use crate::actors::{Actors, KeepingWay, actors_of};
+use crate::actors::{Actors, KeptBy, actors_of};
 use crate::busy::Busy;
 use crate::fault::Unprinted;
 use crate::open_files::{in_flight_by, open_files, waiting_by, wanted};
@@ -13,15 +13,15 @@ use ilp_http::Buffer;
 use ilp_intake::{Intake, IntakeHandle, MOST_WAITING, listen};
 use ilp_keeping::SharedKeeper;
 use ilp_links::Links;
-use ilp_notices::{few_files, listening, no_thread, not_listening};
+use ilp_notices::{ListensAt, few_files, listening, no_thread, not_listening};
 use ilp_server::Side;
 use ilp_shared::{
-    Asker, Configurations, Intakes, KeptJournal, NextConfig, Payouts, PeriodDue, Places, Reloading,
-    Seen, Shared, ending_after, monotonic,
+    Asker, Intakes, KeptJournal, NextConfig, OnDisk, Payouts, PeriodDue, Places, Reloading, Seen,
+    Shared, ending_after, monotonic,
 };
 use std::alloc::AllocError;
 use std::io::{Eprint, ErrorKind};
-use std::net::{Net, TcpListener, TcpStream};
+use std::net::{Net, SocketAddr, TcpListener, TcpStream};
 use std::rt::Files;
 use std::sync::Wait;
 use std::thread::Threads;
@@ -46,6 +46,8 @@ pub struct Sides {
     not_before: Duration,
     // Whether no desk was run between them yet.
     is_first: bool,
+    // Where they listen.
+    at: ListensAt,
 }
 
 impl Sides {
@@ -64,25 +66,27 @@ impl Sides {
     {
         let open_files = open_files(rt, config.allocator());
         let most = most_waiting(open_files, config);
-        let (peers, peer_handle) = open_side(rt, config, Side::Ilp, config.listen(), most)?;
-        let (engines, engine_handle) = open_side(
-            rt,
-            config,
-            Side::Engine,
-            config.engine_listen(),
-            most,
-        )?;
+        let peers = open_side(rt, config, Side::Ilp, config.listen(), most)?;
+        let engines = open_side(rt, config, Side::Engine, config.engine_listen(), most)?;
+        let at = ListensAt {
+            peers: peers.at,
+            engines: engines.at,
+        };
         let after = ending_after(config.max_hold_ms());
         let alloc = config.allocator();
         Ok(Sides {
-            acceptors: Acceptors { peers, engines },
-            intakes: Intakes::new(alloc, peer_handle, engine_handle, after)?,
+            acceptors: Acceptors {
+                peers: peers.acceptor,
+                engines: engines.acceptor,
+            },
+            intakes: Intakes::new(alloc, peers.handle, engines.handle, after)?,
             reloading: Reloading::new(),
             payouts: Payouts::new(alloc),
             open_files,
             has_periods,
             not_before: Duration::ZERO,
             is_first: true,
+            at,
         })
     }
 
@@ -93,14 +97,14 @@ impl Sides {
 
     /// Who asked for that is told that it is in force, as this line says.
     pub fn tell_taken(&self, rt: &impl Wait, asker: Asker, line: &str) {
-        asker.taken(rt, &self.intakes, line);
         self.reloading.free();
+        asker.taken(rt, &self.intakes, line);
     }
 
     /// Who asked for that is told that it is not taken, as this line says.
     pub fn tell_refused(&self, rt: &impl Wait, asker: Asker, line: &str) {
-        asker.refused(rt, &self.intakes, line);
         self.reloading.free();
+        asker.refused(rt, &self.intakes, line);
     }
 
     /// Room for another configuration, so that taking it over needs no memory.
@@ -144,13 +148,22 @@ fn most_waiting(open_files: Option<u64>, config: &Config) -> usize {
     }
 }
 
+// A side that listens.
+#[derive(Drop)]
+struct OpenedSide {
+    acceptor: Acceptor,
+    handle: IntakeHandle,
+    // Where, as far as the system says.
+    at: Option<SocketAddr>,
+}
+
 fn open_side<R>(
     rt: &R,
     config: &Config,
     side: Side,
     place: &str,
     most: usize,
-) -> Result<(Acceptor, IntakeHandle), Unprinted>
+) -> Result<OpenedSide, Unprinted>
 where
     R: Net<Listener = TcpListener, Stream = TcpStream> + Clock + Eprint,
 {
@@ -158,20 +171,25 @@ where
     let buffer = Buffer::new(alloc)?;
     let busy = Busy::new(alloc, config)?;
     let after = ending_after(config.max_hold_ms());
+    let mut at = None;
     let opened = match listen(rt, place) {
-        Ok(listener) => Intake::new(rt, alloc, listener, most, last_sender(config), after),
+        Ok(listener) => {
+            at = listener.address().ok();
+            Intake::new(rt, alloc, listener, most, last_sender(config), after)
+        }
         Err(error) => Err(error),
     };
     match opened {
-        Ok((intake, handle)) => Ok((
-            Acceptor {
+        Ok((intake, handle)) => Ok(OpenedSide {
+            acceptor: Acceptor {
                 side,
                 intake,
                 buffer,
                 busy,
             },
             handle,
-        )),
+            at,
+        }),
         Err(error) if error.kind() == ErrorKind::OutOfMemory => Err(Unprinted::Memory),
         Err(error) => {
             not_listening(rt, place, &error);
@@ -193,7 +211,8 @@ pub struct RunDesk<J: Naming> {
 /// between these sides, until the connector is closed and what was accepted is answered, or the period of
 /// the desk ends and nothing waits for anybody outside. Then it gives what they hand in. Each has a keeper
 /// of its own of the same journal, which is kept in that way before senders are told. Where somebody asks for
-/// the configuration to be read again, that is done there, and the period ends where it is taken.
+/// the configuration to be read again, that is done there, and the period ends where it is taken. Where the journal
+/// is had no more the sides accept nobody, and it ends as at a close.
 ///
 /// Refusals: `Spawn` where a thread can't be started, and a line says so; `Memory`. All that ran has ended
 /// then, and the sides are closed.
@@ -202,17 +221,16 @@ pub fn run_desk<J, R, L, K, P>(
     desk: &Desk<J>,
     shares: Vec<Share<J>>,
     links: &L,
-    configs: P,
+    on_disk: P,
     sides: Sides,
-    keeper: K,
-    way: KeepingWay,
+    kept_by: KeptBy<'_, K>,
 ) -> Result<RunDesk<J>, Unprinted>
 where
     J: Naming + Send + Sync,
     R: Net<Listener = TcpListener, Stream = TcpStream> + Threads + Wait + Clock + Eprint + Sync,
     L: Links,
     K: SharedKeeper<J> + Drop + Send,
-    P: Configurations + Drop + Send,
+    P: OnDisk + Drop + Send,
     requires { 2 ≤ vec_len shares }
 {
     let config = desk.config();
@@ -225,7 +243,9 @@ where
         has_periods,
         not_before,
         is_first,
+        at,
     } = sides;
+    let KeptBy { keeper, way, disk } = kept_by;
     let in_flight = most_in_flight(open_files, config);
     let Actors {
         loops,
@@ -243,7 +263,7 @@ where
         None
     };
     if is_first {
-        tell_start(rt, config, in_flight, places.room(), open_files);
+        tell_start(rt, config, at, in_flight, places.room(), open_files);
     }
     let shared = Shared {
         rt,
@@ -252,6 +272,7 @@ where
         intakes: &intakes,
         bells: &bells,
         kept: &kept,
+        disk,
         notices: links.notices(),
         seen: &seen,
         reloading: &reloading,
@@ -262,7 +283,7 @@ where
         loops,
         keeping,
         turning,
-        configs,
+        on_disk,
     };
     match run(shared, running, acceptors, &settler_bell) {
         Ok(RunPeriod { ends, acceptors }) => {
@@ -276,6 +297,7 @@ where
                     has_periods,
                     not_before,
                     is_first: false,
+                    at,
                 }),
                 None => {
                     reloading.turn_away(rt, &intakes);
@@ -305,11 +327,12 @@ fn most_in_flight(open_files: Option<u64>, config: &Config) -> u32 {
 fn tell_start<R: Clock + Eprint>(
     rt: &R,
     config: &Config,
+    at: ListensAt,
     in_flight: u32,
     octets: u64,
     open_files: Option<u64>,
 ) {
-    listening(rt, config, in_flight, octets);
+    listening(rt, config, at, in_flight, octets);
     let wanted = wanted(config.workers(), config.peers(), config.in_flight());
     if let Some(limit) = open_files {
         if limit < wanted {

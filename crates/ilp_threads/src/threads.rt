@@ -14,8 +14,7 @@ use ilp_notices::closing;
 use ilp_settler::Sweeper;
 use ilp_settling::{SettlerBell, SettlingLoop};
 use ilp_shared::{
-    Configurations, Job, KeepRunning, LOCAL_AT_ONCE, Shared, Shutdown, keep_for_loops,
-    shutdown_pair,
+    Job, KeepRunning, LOCAL_AT_ONCE, OnDisk, Shared, Shutdown, keep_for_loops, shutdown_pair,
 };
 use ilp_workers::{Clock, Keeper};
 use std::io::Eprint;
@@ -158,14 +157,14 @@ fn start_watcher<'s, S, J, C, K, P, R>(
     scope: &'s Scope<'s, S>,
     shared: &Shared<'s, J, R>,
     links: WatcherLinks<J, C, K>,
-    configs: P,
+    on_disk: P,
     shutdown: Shutdown,
 ) -> Result<JoinHandle<()>, Unprinted>
 where
     J: Naming + Send + Sync + 's,
     C: Clock + Drop + Send + 's,
     K: SharedKeeper<J> + Drop + Send + 's,
-    P: Configurations + Drop + Send + 's,
+    P: OnDisk + Drop + Send + 's,
     R: Wait + time::Clock + Eprint + Sync + 's,
 {
     let rt = shared.rt;
@@ -174,12 +173,13 @@ where
         links,
         places: shared.places,
         intakes: shared.intakes,
-        kept: shared.kept,
+        disk: shared.disk,
         notices: shared.notices,
         seen: shared.seen,
         reloading: shared.reloading,
         due: shared.due,
-        configs,
+        on_disk,
+        is_lost: false,
     };
     Ok(scope.spawn(move || watch(rt, watcher, shutdown))?)
 }
@@ -189,14 +189,14 @@ fn start_turns<'s, S, J, C, K, P, R>(
     scope: &'s Scope<'s, S>,
     shared: &Shared<'s, J, R>,
     turning: Turning<J, C, K>,
-    configs: P,
+    on_disk: P,
     shutdown: &Shutdown,
 ) -> Result<TurnThreads<J>, Unprinted>
 where
     J: Naming + Send + Sync + 's,
     C: Clock + Drop + Send + 's,
     K: SharedKeeper<J> + Drop + Send + 's,
-    P: Configurations + Drop + Send + 's,
+    P: OnDisk + Drop + Send + 's,
     R: Net<Listener = TcpListener, Stream = TcpStream> + Wait + time::Clock + Eprint + Sync + 's,
 {
     let Turning {
@@ -206,7 +206,7 @@ where
     } = turning;
     let sweeping = start_sweeper(scope, shared, sweeper, shutdown.try_clone()?)?;
     let settling = start_settler(scope, shared, settling, shutdown.try_clone()?)?;
-    let watching = start_watcher(scope, shared, watching, configs, shutdown.try_clone()?)?;
+    let watching = start_watcher(scope, shared, watching, on_disk, shutdown.try_clone()?)?;
     Ok(TurnThreads {
         sweeping,
         settling,
@@ -322,7 +322,7 @@ pub(crate) struct Running<J: Naming, C: Clock + Drop, K: Keeper<J> + Drop, P> {
     pub(crate) loops: Vec<ServingLoop<J, C, K>>,
     pub(crate) keeping: Option<Keeping<J, K>>,
     pub(crate) turning: Turning<J, C, K>,
-    pub(crate) configs: P,
+    pub(crate) on_disk: P,
 }
 
 // Starts the threads of all actors. The loops serve the jobs that are sent.
@@ -336,14 +336,14 @@ where
     J: Naming + Send + Sync + 's,
     C: Clock + Drop + Send + 's,
     K: SharedKeeper<J> + Drop + Send + 's,
-    P: Configurations + Drop + Send + 's,
+    P: OnDisk + Drop + Send + 's,
     R: Net<Listener = TcpListener, Stream = TcpStream> + Wait + time::Clock + Eprint + Sync + 's,
 {
     let Running {
         loops,
         keeping,
         turning,
-        configs,
+        on_disk,
     } = actors;
     let alloc = shared.desk.config().allocator();
     let room = Vec::with_capacity(alloc, loops.len().saturating_add(2))?;
@@ -353,7 +353,7 @@ where
         None => None,
     };
     let (keep_running, shutdown) = shutdown_pair(alloc)?;
-    let turns = start_turns(scope, shared, turning, configs, &shutdown)?;
+    let turns = start_turns(scope, shared, turning, on_disk, &shutdown)?;
     Ok(ActorThreads {
         workers,
         keeping,
@@ -409,7 +409,7 @@ where
     J: Naming + Send + Sync,
     C: Clock + Drop + Send,
     K: SharedKeeper<J> + Drop + Send,
-    P: Configurations + Drop + Send,
+    P: OnDisk + Drop + Send,
     R: Net<Listener = TcpListener, Stream = TcpStream>
         + Threads
         + Wait

@@ -4,10 +4,11 @@ use crate::actors::WatcherLinks;
 use ilp_book::Book;
 use ilp_desk::{Desk, Naming};
 use ilp_keeping::SharedKeeper;
+use ilp_log_keeper::DiskWait;
 use ilp_notices::{Notices, not_reloaded};
 use ilp_shared::{
-    Configurations, Intakes, KeptJournal, MEMORY_IS_SHORT, NextConfig, PeriodDue, Places,
-    Reloading, Seen, Shutdown, monotonic, without_end,
+    Intakes, MEMORY_IS_SHORT, NextConfig, OnDisk, PeriodDue, Places, Reloading, Seen, Shutdown,
+    monotonic, without_end,
 };
 use ilp_workers::{Clock, Keeper};
 use std::io::Eprint;
@@ -21,6 +22,9 @@ const REST_MS: u64 = 1_000;
 // By how many milliseconds the clock may lie behind the book before that is told.
 const SLACK_MS: u64 = 1_000;
 
+// For how many milliseconds the disk may have taken where the watcher has a log mended: it would wait for the same disk.
+const BUSY_MS: u64 = 100;
+
 /// What the watcher looks at.
 #[derive(Drop)]
 pub(crate) struct Watcher<'a, J: Naming, C: Clock + Drop, K: Keeper<J> + Drop, P> {
@@ -28,12 +32,14 @@ pub(crate) struct Watcher<'a, J: Naming, C: Clock + Drop, K: Keeper<J> + Drop, P
     pub(crate) links: WatcherLinks<J, C, K>,
     pub(crate) places: &'a Places,
     pub(crate) intakes: &'a Intakes,
-    pub(crate) kept: &'a KeptJournal<J>,
+    pub(crate) disk: &'a DiskWait,
     pub(crate) notices: &'a Notices,
     pub(crate) seen: &'a Seen,
     pub(crate) reloading: &'a Reloading,
     pub(crate) due: Option<PeriodDue>,
-    pub(crate) configs: P,
+    pub(crate) on_disk: P,
+    /// Whether another connector may have the journal, so that this one ends.
+    pub(crate) is_lost: bool,
 }
 
 /// Has the watcher look each second until the connector ends, and once more then.
@@ -42,7 +48,7 @@ where
     J: Naming,
     C: Clock + Drop,
     K: SharedKeeper<J> + Drop,
-    P: Configurations + Drop,
+    P: OnDisk + Drop,
     R: Wait + time::Clock + Eprint,
 {
     let mut watcher = watcher;
@@ -88,7 +94,7 @@ where
     J: Naming,
     C: Clock + Drop,
     K: SharedKeeper<J> + Drop,
-    P: Configurations + Drop,
+    P: OnDisk + Drop,
 {
     fn look<R: Wait + time::Clock + Eprint>(&mut self, rt: &R) {
         // The lock is free again before the clock is asked and anything is told.
@@ -96,8 +102,8 @@ where
         self.look_at_clock(rt, state.last);
         self.look_at_journal(rt, state);
         self.look_at_work(rt);
-        self.notices.disk_takes(rt, self.kept.waited(monotonic(rt)));
-        self.look_at_keeper(rt);
+        self.look_at_lock(rt);
+        self.look_at_disk(rt);
         self.look_at_period(rt);
         self.look_at_reload(rt);
     }
@@ -157,7 +163,7 @@ where
         let Some(asker) = self.reloading.take_asker(rt) else {
             return;
         };
-        match self.configs.read_again(self.desk.config()) {
+        match self.on_disk.read_again(self.desk.config()) {
             Ok(config) => {
                 self.reloading.put(rt, NextConfig { config, asker });
                 self.end_period(rt);
@@ -168,19 +174,48 @@ where
                     None => MEMORY_IS_SHORT,
                 };
                 not_reloaded(rt, without_end(line));
-                asker.refused(rt, self.intakes, line);
+                // Who is answered may ask again at once.
                 self.reloading.free();
+                asker.refused(rt, self.intakes, line);
             }
         }
     }
 
-    // Where entries were not kept it is tried again.
+    // Where somebody waits long for the disk, who mends a log would too.
+    fn look_at_disk<R: time::Clock + Eprint>(&mut self, rt: &R) {
+        let waited = self.disk.waited(monotonic(rt));
+        self.notices.disk_takes(rt, waited);
+        if waited < Duration::from_millis(BUSY_MS) {
+            self.look_at_keeper(rt);
+        }
+    }
+
+    // Where entries were not kept it is tried again. Where all are, the log is to lie there that has them.
     fn look_at_keeper<R: time::Clock + Eprint>(&mut self, rt: &R) {
         let links = &mut self.links;
-        if links.keeper.keeps() || links.keeper.mend(&mut links.receipt) {
+        if links.keeper.keeps() {
+            self.notices.journal_kept();
+            self.look_at_log(rt);
+        } else if links.keeper.mend(&mut links.receipt) {
             self.notices.journal_kept();
         } else {
             self.notices.journal_unkept(rt);
+        }
+    }
+
+    fn look_at_log<R: time::Clock + Eprint>(&self, rt: &R) {
+        if self.on_disk.has_log() {
+            self.notices.log_there();
+        } else {
+            self.notices.log_gone(rt);
+        }
+    }
+
+    // Whoever else has the journal by now answers for it: this connector ends.
+    fn look_at_lock<R: time::Clock>(&mut self, rt: &R) {
+        if !self.is_lost && !self.on_disk.has_journal() {
+            self.is_lost = true;
+            self.intakes.end(rt);
         }
     }
 }

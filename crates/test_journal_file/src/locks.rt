@@ -119,3 +119,47 @@ fn expect_lost(rt: &impl Abort, disk: &Disk, log: &mut Log<'_>) -> Result<(), Fa
     assert!(rt; !is_there(disk, LOG_NEW, When::Now)?);
     Ok(())
 }
+
+#[test]
+fn who_looks_sees_a_lock_and_a_log_that_are_gone(rt: HostRuntime) -> Result<(), Fail> {
+    let disk = saved_disk(&rt)?;
+    let machine = Machine(&disk);
+    let file = JournalFile::take(&machine, rt.alloc(), JOURNAL)?;
+    let watch = file.watch(rt.alloc())?;
+    // None was begun yet.
+    assert!(rt; watch.has_log(&machine));
+    let mut log = begin(&machine, rt.alloc(), &file)?;
+    append(&mut log, LINES[0])?;
+    assert!(rt; watch.has_log(&machine) && watch.has_journal(&machine));
+    disk.take_away(LOG)?;
+    assert!(rt; !watch.has_log(&machine));
+    disk.put(LOG, OTHER)?;
+    assert!(rt; !watch.has_log(&machine));
+    assert_eq!(rt; append(&mut log, LINES[1]), Err(DeviceFault::Failed));
+    renew(&mut log)?;
+    assert!(rt; watch.has_log(&machine) && watch.has_journal(&machine));
+    for deed in [Deed::Removed, Deed::Replaced] {
+        deed.do_to_lock(&disk)?;
+        assert!(rt; !watch.has_journal(&machine));
+    }
+    assert!(rt; disk.has_told(IS_LOST)?);
+    Ok(())
+}
+
+#[test]
+fn a_log_that_changes_is_of_another(rt: HostRuntime) -> Result<(), Fail> {
+    let disk = saved_disk(&rt)?;
+    let machine = Machine(&disk);
+    let file = JournalFile::take(&machine, rt.alloc(), JOURNAL)?;
+    file.expect_still_log(&machine, None)?;
+    disk.put(LOG, OTHER)?;
+    file.expect_still_log(&machine, Some(OTHER.len()))?;
+    for octets in [None, Some(0), Some(1_000)] {
+        assert_eq!(rt;
+            file.expect_still_log(&machine, octets),
+            Err(FileFault::Unread)
+        );
+    }
+    assert!(rt; disk.has_told("has changed since it was read")?);
+    Ok(())
+}

@@ -5,7 +5,7 @@ use crate::deeds::tell_deed;
 use crate::guest::Stage;
 use crate::serving::Serving;
 use ilp_desk::Naming;
-use ilp_shared::{KeepingAsker, Shared, monotonic};
+use ilp_shared::{KeepingAsker, Shared};
 use ilp_workers::{Clock, HandedJournal, Keeper};
 use mio::Registry;
 use std::io::Eprint;
@@ -62,9 +62,7 @@ impl<J: Naming, C: Clock + Drop, K: Keeper<J> + Drop> Serving<J, C, K> {
             asker.ask(shared.rt);
             return;
         }
-        shared.kept.begin(now);
         let handed = self.flight.keep();
-        shared.kept.end(monotonic(shared.rt));
         self.answer_behind(&handed, now);
         self.send_answers(shared, registry, now);
     }

@@ -1,4 +1,4 @@
-//! Replies that found no memory.
+//! When connections are looked at again, whatever comes, and replies that found no memory.
 
 use crate::guest::Stage;
 use crate::serving::Serving;
@@ -14,6 +14,10 @@ use std::time::Duration;
 
 // After how many milliseconds a reply is looked at again that found neither memory nor the room.
 const UNREAD_MS: u64 = 10;
+
+// After how many milliseconds the journal is asked for again that is to be kept for who waits for it, and looked at
+// again, should a bell not have been heard.
+const BOOKED_MS: u64 = 1_000;
 
 impl<J: Naming, C: Clock + Drop, K: Keeper<J> + Drop> Serving<J, C, K> {
     /// Has the room for a reply again, if memory is there, and goes on with the replies that are unread.
@@ -36,13 +40,18 @@ impl<J: Naming, C: Clock + Drop, K: Keeper<J> + Drop> Serving<J, C, K> {
         }
     }
 
-    /// When one of the connections is to be looked at, whatever comes: soon, where a reply is unread.
+    /// When one of the connections is to be looked at, whatever comes: soon, where a reply is unread, and in a while
+    /// where one waits for the journal.
     pub(crate) fn due(&self, now: Duration) -> Option<Duration> {
-        if !self.has_unread {
+        let again = if self.has_unread {
+            UNREAD_MS
+        } else if self.booked.is_empty() {
             return self.due;
-        }
-        let soon = now.saturating_add(Duration::from_millis(UNREAD_MS));
-        Some(self.due.unwrap_or(soon).min(soon))
+        } else {
+            BOOKED_MS
+        };
+        let again = now.saturating_add(Duration::from_millis(again));
+        Some(self.due.unwrap_or(again).min(again))
     }
 }
 

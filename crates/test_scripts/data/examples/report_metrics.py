@@ -41,9 +41,11 @@ OF_ALL = ("entries", "fulfilled")
 OF_LATER = "period"
 # The last lines, of peers to whom no new settlement is asked for. The report of an end has none.
 OF_PAUSED = "paused"
+# The very last one, where a Fulfill was told late in this period.
+OF_LATE = "late"
 MAY_BE_NEGATIVE = ("balance", "settled")
 
-MOST_LINES = (len(OF_PEERS) + 1) * MOST_PEERS + len(OF_ASSETS) * MOST_ASSETS + len(OF_ALL) + 1
+MOST_LINES = (len(OF_PEERS) + 1) * MOST_PEERS + len(OF_ASSETS) * MOST_ASSETS + len(OF_ALL) + 2
 MOST_OCTETS = MOST_LINES * (WIDTH + 1)
 
 PEER = re.compile(r"[a-z0-9_-]{1,16}")
@@ -78,6 +80,7 @@ METRICS = {
         "ilp_payouts_paused",
         "1 where new settlements to the peer are paused, and 0 where they go on.",
     ),
+    "late": ("ilp_late_fulfills", "How many Fulfills were told late in this period."),
 }
 UNAUTHORIZED = {
     "unauthorized": ("ilp_unauthorized", "How many requests got 401, by the lines of standard error.")
@@ -230,6 +233,7 @@ def read_report(octets: bytes) -> Report:
     totals = {label: lines.take(label, "").number for label in OF_ALL}
     totals[OF_LATER] = take_period(lines)
     paused = take_paused(lines, list(peers))
+    totals[OF_LATE] = take_late(lines)
     lines.end()
     for name, numbers in peers.items():
         numbers[OF_PAUSED] = int(name in paused)
@@ -259,6 +263,16 @@ def take_paused(lines: Lines, names: list[str]) -> set[str]:
         names = names[names.index(line.name) + 1 :]
         paused.add(line.name)
     return paused
+
+
+def take_late(lines: Lines) -> int:
+    """How many Fulfills were told late: the number of the last line, or 0 where there is none."""
+    if not lines.comes(OF_LATE):
+        return 0
+    line = lines.take(OF_LATE, "")
+    if line.number == 0:
+        raise NoReport(f"line {line.place}: without a late Fulfill there is no line")
+    return line.number
 
 
 def check_books(peers: dict[str, dict[str, int]], assets: dict[str, dict[str, int]]) -> None:
@@ -322,7 +336,7 @@ def metrics_of(report: Report, unauthorized: int | None = None) -> str:
     for label in OF_ASSETS:
         of = [(of_asset(name), numbers[label]) for name, numbers in report.assets.items()]
         lines += family(label, of)
-    for label in (*OF_ALL, OF_LATER):
+    for label in (*OF_ALL, OF_LATER, OF_LATE):
         lines += family(label, [("", report.totals[label])])
     lines += family(OF_PAUSED, of_peers(report, OF_PAUSED))
     if unauthorized is not None:
@@ -394,9 +408,10 @@ def run(source: Path | None, output: Path | None, log: Path | None = None) -> No
 # ---- the test
 
 
-def sample(period: object = None, paused: Iterable[str] = (), **changed: object) -> bytes:
+def sample(period: object = None, paused: Iterable[str] = (), late: object = None, **changed: object) -> bytes:
     """The report after one hold of 100 by alice to bob that was fulfilled, or one with other numbers
-    under some labels, with a line of the period where that is given, and of each peer that is paused."""
+    under some labels, with a line of the period and one of late Fulfills where these are given, and one of each peer
+    that is paused."""
     rows = [
         ("balance", "alice", -100),
         ("balance", "bob", 100),
@@ -412,6 +427,7 @@ def sample(period: object = None, paused: Iterable[str] = (), **changed: object)
     ]
     rows += [] if period is None else [("period", "", period)]
     rows += [("paused", name, 1) for name in paused]
+    rows += [] if late is None else [("late", "", late)]
     return "".join(
         f"{label:10}{name:20}{changed.get(label, number):>30}\n" for label, name, number in rows
     ).encode("ascii")
@@ -446,6 +462,10 @@ def refusal(octets: bytes) -> str:
     ['line 12: paused is not 1', 'line 12: paused is not 1']
     >>> refusal(sample(period=3, paused=["bob"]))
     'none'
+    >>> [read_report(sample(late=late)).totals["late"] for late in (None, 3)]
+    [0, 3]
+    >>> refusal(sample(late=0))
+    'line 12: without a late Fulfill there is no line'
     >>> refusal(sample(paused=["bob"]) + sample(period=3)[-61:])
     'line 13: nothing is to come after paused'
     >>> refusal(sample()[:-1])
@@ -488,7 +508,7 @@ def refusal(octets: bytes) -> str:
     >>> refusal(b"\\xff" + sample()[1:])
     'it has an octet that is no ASCII'
     >>> refusal(b" " * MOST_OCTETS + b"\\n")
-    'it has more than 66551 octets'
+    'it has more than 66612 octets'
     """
     try:
         read_report(octets)

@@ -3,7 +3,7 @@
 use super::events::{Event, Row, configuration, play};
 use super::hearing::{At, Hearing};
 use ilp_accounts::{Config, LogSync};
-use ilp_notices::{Again, RecoveryNote};
+use ilp_notices::{Again, ListensAt, RecoveryNote};
 use std::io;
 use std::io::{Eprint, ErrorKind};
 use std::test::*;
@@ -363,7 +363,11 @@ fn a_journal_that_is_not_kept(rt: HostRuntime) -> Result<(), Fail> {
 
 // What is told once.
 fn tell_once<R: Clock + Eprint>(rt: &R, config: &Config) {
-    ilp_notices::listening(rt, config, 374, 3_063_808);
+    let unknown = ListensAt {
+        peers: None,
+        engines: None,
+    };
+    ilp_notices::listening(rt, config, unknown, 374, 3_063_808);
     ilp_notices::not_listening(rt, "here", &io::Error::from(ErrorKind::InvalidInput));
     ilp_notices::not_listening(rt, "127.0.0.1:1", &io::Error::from(ErrorKind::AddrInUse));
     ilp_notices::no_thread(rt);
