@@ -1,7 +1,8 @@
 -- What a change makes of a file is one of what a crash may leave of it.
 use Rattle.std.proofs.Common.{◌≡◌, ◌⊎◌, inl, inr, ℕ, zero, suc, ◌+◌, ◌<◌, ◌≤◌, List, [], ◌∷◌, ◌++◌, length, take, drop, min, refl, sym, ◌∙◌, ap, subst, arith, append_assoc}
 use Rattle.std.proofs.lemmas.Grind.{common_steps}
-use Rattle.std.proofs.lemmas.List.{take_at, drop_at, length-take-le}
+use Rattle.std.specs.Prelude.{get_or}
+use Rattle.std.proofs.lemmas.List.{take_at, drop_at, drop_all, drop_more, length-take-le}
 use Rattle.ilp_line_file.specs.Device.{IsMixed, Torn, Cut, Holds, Follows}
 use Rattle.test_tearing.specs.declared.change.Change.{Change}
 use Rattle.test_tearing.specs.declared.change.Change.TheVariants as change
@@ -52,6 +53,25 @@ put_holds (suc at) octets (o ∷ old) le =
     ap (λ (l : List ℕ). o ∷ l) (put_holds at octets old (omega (arith, le)))
       ∙ ap (λ (k : ℕ). (o ∷ take at old) ++ octets ++ drop k (o ∷ old)) more
 
+-- all of what is written, as three pieces
+pub put_made : (at : ℕ) (octets old : List ℕ) → at ≤ length old → put at octets old ≡ (take at old ++ octets) ++ drop (at + length octets) old
+put_made at octets old le = put_holds at octets old le
+
+-- a part of it, behind what was there before
+pub torn_some : (at : ℕ) (octets old range new : List ℕ) → at ≤ length old → IsMixed (drop at old) octets range → new ≡ take at old ++ range → Torn at octets old new
+torn_some at octets old range new le mixed is =
+    let n : length (take at old) ≡ at = length-take-le at old le in
+    record {
+      before = ap (take at) is ∙ take_at (take at old) range at n;
+      range = subst (λ (l : List ℕ). IsMixed (drop at old) octets l) (sym (ap (drop at) is ∙ drop_at (take at old) range at n)) mixed;
+    }
+
+-- some of what is cut off
+pub cut_some : (len end : ℕ) (old : List ℕ) → min len (length old) ≤ end → end ≤ length old → Cut (min len (length old)) old (take end old)
+cut_some len end old low high =
+    let n : length (take end old) ≡ end = length-take-le end old high in
+    record { no_shorter = omega (arith, n, low); front = ap (λ (k : ℕ). take k old) n }
+
 cut_whole : (len : ℕ) (old : List ℕ) → Cut (min len (length old)) old (take len old)
 cut_whole len old = record { no_shorter = grind (arith, common_steps); front = grind (arith, common_steps) }
 
@@ -80,3 +100,16 @@ left_of_one_more synced [] c left is = (synced, refl, subst (λ (l : List ℕ). 
 left_of_one_more synced (x ∷ changes) c left is =
     let last = left_of_one_more is.0 changes c left is.2 in
     (last.0, (is.0, is.1, last.1), last.2)
+
+-- ---- one change after the other
+
+module _ (synced left : List ℕ) (changes : List Change) (n : ℕ) (all : (c : List ℕ) → MayLeave left (drop n changes) c → MayLeave synced changes c) where
+  -- what is left of the next one
+  pub left_next : (x : Change) (next : List ℕ) → n < length changes → x ≡ get_or changes n x → MayChange x left next → (c : List ℕ) → MayLeave next (drop (n + 1) changes) c → MayLeave synced changes c
+  left_next x next within is step c behind =
+      let head : drop n changes ≡ x ∷ drop (n + 1) changes = drop_more changes n x within ∙ ap (λ (y : Change). y ∷ drop (n + 1) changes) (sym is) in
+      all c (subst (λ (l : List Change). MayLeave left l c) (sym head) (next, step, behind))
+
+  -- and of all of them
+  pub left_whole : length changes ≤ n → MayLeave synced changes left
+  left_whole le = all left (subst (λ (l : List Change). MayLeave left l left) (sym (drop_all n changes le)) refl)

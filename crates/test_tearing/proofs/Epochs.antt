@@ -2,7 +2,7 @@
 use Rattle.std.proofs.Common.{◌≡◌, ◌⊎◌, inl, inr, ⊎_elim, ℕ, zero, suc, ◌≤◌, List, [], ◌∷◌, ◌++◌, length, drop, refl, sym, ◌∙◌, subst, arith, length-append}
 use Rattle.ilp_line_file.specs.Device.{Elapses}
 use Rattle.test_tearing.specs.declared.change.Change.{Change}
-use Rattle.test_tearing.specs.declared.tearing_file.Epoch.{Epoch}
+use Rattle.test_tearing.specs.declared.disk.Epoch.{Epoch}
 use Rattle.test_tearing.specs.Tearing.{MayLeave}
 use Rattle.test_tearing.specs.Past.{HadLeft, LeftSince}
 

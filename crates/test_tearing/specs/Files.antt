@@ -1,10 +1,17 @@
--- What a file has, and what a crash may leave of it.
+-- What a disk has of a file, and what a crash may leave of it.
 use Rattle.std.specs.Prelude.{ℕ, List}
 use Rattle.test_tearing.specs.Tearing.{after, MayLeave}
-use Rattle.test_tearing.specs.declared.tearing_file.TearingFile.{TearingFile}
+use Rattle.test_tearing.specs.Past.{LeftSince}
+use Rattle.test_tearing.specs.declared.disk.Disk.{Disk}
 
-abbrev pub seen : TearingFile → List ℕ
-seen f = after f.synced.items f.changes.items
+-- what a read returns
+abbrev pub seen : Disk → List ℕ
+seen d = after d.synced.items d.changes.items
 
-abbrev pub leaves : TearingFile → List ℕ → Type 0
-leaves f = MayLeave f.synced.items f.changes.items
+-- a crash may leave this now
+abbrev pub Leaves : Disk → List ℕ → Type 0
+Leaves d = MayLeave d.synced.items d.changes.items
+
+-- and this since there were so many syncs
+abbrev pub LeavesSince : Disk → ℕ → List ℕ → Type 0
+LeavesSince d = LeftSince d.past.items d.synced.items d.changes.items

@@ -3,9 +3,9 @@ use Rattle.std.specs.Prelude.{ℕ, ◌⊎◌, List, [], ◌∷◌, length, drop}
 use mathlib.Core.Logic.{inl, inr}
 use Rattle.test_tearing.specs.Tearing.{MayLeave}
 use Rattle.test_tearing.specs.declared.change.Change.{Change}
-use Rattle.test_tearing.specs.declared.tearing_file.Epoch.{Epoch}
+use Rattle.test_tearing.specs.declared.disk.Epoch.{Epoch}
 
--- in one of these
+-- between two syncs, of which there are these
 abbrev pub HadLeft : List Epoch → List ℕ → Type 0
 HadLeft [] left = ⊥
 HadLeft (e ∷ past) left = MayLeave e.synced.items e.changes.items left ⊎ HadLeft past left

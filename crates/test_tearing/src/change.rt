@@ -1,5 +1,5 @@
 //! What changes a file, and what a crash may leave of it.
-ghost use Rattle.std.specs.Prelude.{◌≡◌, IfOk};
+ghost use Rattle.std.specs.Prelude.{◌≡◌, ◌⊎◌, ℕ, ◌≤◌, length, drop, get_or, IfOk};
 ghost use Rattle.ilp_line_file.specs.Device.{IsMixed, Torn};
 ghost use Rattle.test_tearing.specs.Tearing.{put, changed, MayChange};
 
@@ -17,18 +17,18 @@ pub(crate) enum Change {
     Place { octets: Vec<u8> },
 }
 
-impl Change {
-    /// What a read returns behind it.
-    pub(crate) fn made(&self, alloc: Global, old: &[u8]) -> Result<Vec<u8>, AllocError>
-        ensures { IfOk result (λ new. new.items ≡ changed self.now old.now) }
-    {
-        match self {
-            Change::Write { at, octets } => written(alloc, old, *at, octets),
-            Change::Cut { len } => old[..old.len().min(*len)].to_vec(alloc),
-            Change::Place { octets: _ } => old.to_vec(alloc),
-        }
+/// What a read returns behind a change.
+pub(crate) fn made(alloc: Global, change: &Change, old: &[u8]) -> Result<Vec<u8>, AllocError>
+    ensures { IfOk result (λ new. new.items ≡ changed change.now old.now) }
+{
+    match change {
+        Change::Write { at, octets } => written(alloc, old, *at, octets),
+        Change::Cut { len } => old[..old.len().min(*len)].to_vec(alloc),
+        Change::Place { octets: _ } => old.to_vec(alloc),
     }
+}
 
+impl Change {
     /// What a crash leaves of it, with this loss.
     pub(crate) fn left(&self, alloc: Global, old: &[u8], loss: &Loss) -> Result<Vec<u8>, AllocError>
         ensures { IfOk result (λ new. MayChange self.now old.now new.items) }
@@ -50,6 +50,13 @@ impl Change {
     }
 }
 
+// What a file has from an offset on.
+fn behind(old: &[u8], from: usize) -> &[u8]
+    ensures { result.now ≡ drop from old.now }
+{
+    &old[from.min(old.len())..]
+}
+
 // A file with octets at an offset.
 fn written(alloc: Global, old: &[u8], at: usize, octets: &[u8]) -> Result<Vec<u8>, AllocError>
     ensures { IfOk result (λ new. new.items ≡ put at octets.now old.now) }
@@ -59,9 +66,7 @@ fn written(alloc: Global, old: &[u8], at: usize, octets: &[u8]) -> Result<Vec<u8
     }
     let mut new = old[..at].to_vec(alloc)?;
     new.extend_from_slice(octets)?;
-    if octets.len() < old.len() - at {
-        new.extend_from_slice(&old[at + octets.len()..])?;
-    }
+    new.extend_from_slice(behind(old, at + octets.len()))?;
     Ok(new)
 }
 
@@ -93,12 +98,21 @@ fn mixed(alloc: Global, old: &[u8], octets: &[u8], loss: &Loss) -> Result<Vec<u8
         if place >= old.len() && place >= loss.front {
             return Ok(mixed);
         }
-        let was = if place < old.len() { old[place] } else { 0 };
-        let is_kept = loss.keeps(place);
-        mixed.push(if is_kept { *octet } else { was })?;
+        mixed.push(octet_left(old, place, *octet, loss))?;
     }
-    if octets.len() < old.len() {
-        mixed.extend_from_slice(&old[octets.len()..])?;
-    }
+    mixed.extend_from_slice(behind(old, octets.len()))?;
     Ok(mixed)
+}
+
+// What a crash leaves of one octet.
+fn octet_left(old: &[u8], place: usize, octet: u8, loss: &Loss) -> u8
+    ensures { (result ≡ octet) ⊎ (result ≡ get_or old.now place 0) }
+{
+    if loss.keeps(place) {
+        octet
+    } else if place < old.len() {
+        old[place]
+    } else {
+        0
+    }
 }

@@ -10,6 +10,7 @@
 #![tactic(auto)]
 
 mod change;
+mod disk;
 mod loss;
 mod stops;
 mod tearing_file;
