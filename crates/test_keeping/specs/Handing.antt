@@ -1,7 +1,8 @@
 -- A journal of a desk that a keeper has heard of.
-use Rattle.std.specs.Prelude.{◌≡◌, List, [], ◌∷◌, ◌++◌, map}
+use Rattle.std.specs.Prelude.{◌≡◌, List, [], ◌∷◌, ◌++◌, length, map}
 use Rattle.ilp_journal.specs.Journal.{Entries}
-use Rattle.ilp_desk.specs.Desk.{PlainDesk, IsSeenSince}
+use Rattle.ilp_desk.specs.Desk.{PlainDesk}
+use Rattle.ilp_desk.specs.Session.{IsSeenSince}
 use Rattle.ilp_keeping.specs.Keeping.{kept, keeping}
 use Rattle.ilp_workers.specs.Booked.{PlainHandedJournal}
 use Rattle.test_keeping.specs.declared.telling_keeper.Heard.{Heard}
@@ -11,4 +12,5 @@ use Rattle.test_keeping.specs.Telling.{to_keeper}
 pub record HeardJournal (desk : PlainDesk) (seen : Entries) (heard : List Heard) (handed : PlainHandedJournal) (heard' : List Heard) : Type 0 where
   pub journal : Entries
   pub shown : IsSeenSince desk seen journal
+  pub entries : handed.entries ≡ length journal
   pub heard_of : map to_keeper heard' ≡ map to_keeper heard ++ kept (keeping journal handed.said) ∷ []

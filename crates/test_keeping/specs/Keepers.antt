@@ -3,5 +3,5 @@ use Rattle.std.specs.Prelude.{List}
 use Rattle.test_keeping.specs.declared.telling_keeper.Heard.{Heard}
 use Rattle.test_keeping.specs.declared.telling_keeper.TellingKeeper.{TellingKeeper}
 
-abbrev pub heard_by : {J K : _} → TellingKeeper J K → List Heard
+abbrev pub heard_by : {J K : Type 0} → TellingKeeper J K → List Heard
 heard_by k = k.heard

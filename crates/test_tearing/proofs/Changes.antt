@@ -51,7 +51,7 @@ put_holds (suc at) octets [] le = absurd (omega (arith, le))
 put_holds (suc at) octets (o ∷ old) le =
     let more : suc (at + length octets) ≡ suc at + length octets = omega arith in
     ap (λ (l : List ℕ). o ∷ l) (put_holds at octets old (omega (arith, le)))
-      ∙ ap (λ (k : ℕ). (o ∷ take at old) ++ octets ++ drop k (o ∷ old)) more
+    ∙ ap (λ (k : ℕ). (o ∷ take at old) ++ octets ++ drop k (o ∷ old)) more
 
 -- all of what is written, as three pieces
 pub put_made : (at : ℕ) (octets old : List ℕ) → at ≤ length old → put at octets old ≡ (take at old ++ octets) ++ drop (at + length octets) old

@@ -1,6 +1,6 @@
 //! What a disk has of a file.
 ghost use Rattle.std.specs.Prelude.{◌≡◌, ◌<◌, [], ◌∷◌, ◌++◌, length, vec_len, vec_capacity, IfOk, OnOk, OnErr};
-ghost use Rattle.ilp_line_file.specs.Device.{Elapses};
+ghost use Rattle.ilp_line_file.specs.Device.{Elapses, Only};
 ghost use Rattle.test_tearing.specs.Tearing.{after, changed};
 
 use crate::change::Change;
@@ -36,6 +36,7 @@ impl Disk {
     // It has these octets for sure.
     pub(crate) fn new(alloc: Global, octets: Vec<u8>) -> Disk
         ensures seen { seen result ≡ octets.items }
+        ensures only { Only octets.items (Leaves result) }
     {
         Disk {
             alloc,
@@ -93,7 +94,13 @@ impl Disk {
             return;
         }
         let octets = mem::replace(&mut self.octets, Vec::new(self.alloc));
-        settle(self.alloc, &mut self.synced, &mut self.changes, &mut self.past, octets);
+        settle(
+            self.alloc,
+            &mut self.synced,
+            &mut self.changes,
+            &mut self.past,
+            octets,
+        );
     }
 
     // From now on a crash leaves these octets, which the last change may have left.
@@ -104,7 +111,13 @@ impl Disk {
         ensures time { Elapses (length self.old.past.items) (length self.new.past.items)
             (LeavesSince self.old) (LeavesSince self.new) (Leaves self.new) }
     {
-        settle(self.alloc, &mut self.synced, &mut self.changes, &mut self.past, octets);
+        settle(
+            self.alloc,
+            &mut self.synced,
+            &mut self.changes,
+            &mut self.past,
+            octets,
+        );
     }
 }
 

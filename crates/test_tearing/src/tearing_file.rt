@@ -1,6 +1,7 @@
 //! The file.
 ghost use Rattle.std.specs.Prelude.{◌≡◌, length, IfOk};
 ghost use Rattle.std.proofs.Common.{inl};
+ghost use Rattle.ilp_line_file.specs.Device.{Only};
 ghost use Rattle.test_tearing.specs.Past.{only_now};
 
 use crate::change::{Change, made};
@@ -26,7 +27,8 @@ impl TearingFile {
 
     /// A file with these octets, all of them on the disk, whose machine stops then.
     pub fn new(alloc: Global, octets: Vec<u8>, stops: Stops) -> TearingFile
-        ensures { seen result.disk ≡ octets.items }
+        ensures seen { seen result.disk ≡ octets.items }
+        ensures only { Only octets.items (Leaves result.disk) }
     {
         TearingFile {
             alloc,

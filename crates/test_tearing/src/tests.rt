@@ -1,21 +1,30 @@
 //! Files that crash: one of which not all was synced, and a file of lines, in each of its calls.
 
+ghost use Rattle.std.specs.Prelude.{OnOk};
+ghost use Rattle.ilp_line_file.specs.Device.{Only};
+ghost use Rattle.ilp_line_file.specs.File.{IsSettled};
+ghost use Rattle.ilp_line_file.specs.Text.{IsText};
+ghost use Rattle.test_tearing.specs.Files.{seen, Leaves, seen_of, left_of};
+
 use super::*;
-use ilp_line_file::{Device, LineFile, MemoryDevice, recover};
+use ilp_line_file::{Device, DeviceFault, LineFile, MemoryDevice, recover};
 use std::alloc::{AllocError, Global};
 use std::process::Abort;
 use std::test::*;
 
-// The lines that are there, those that are added one after the other, and all of them.
+// The lines that are there, and those with the ones that are added.
 const HEAD: &[u8] = b"first\n";
-const LINES: [&[u8]; 3] = [b"second\n", b"third\nfourth\n", b"fifth\n"];
+
 const ALL: &[u8] = b"first\nsecond\nthird\nfourth\nfifth\n";
 
-// How many calls add them.
-const CALLS: usize = 6;
+// How many calls recover the first, and how many there are until all are added.
+const RECOVERING: usize = 3;
+
+const CALLS: usize = 9;
 
 // More octets than a write has, and how many a hole in it has.
 const MOST_LOST: usize = 16;
+
 const HOLE: usize = 3;
 
 // More than the file has.
@@ -56,17 +65,38 @@ fn expect_left(
     Ok(())
 }
 
+// Writes octets at an offset, which may not be behind the end.
+fn write(
+    alloc: Global,
+    file: &mut TearingFile,
+    at: usize,
+    octets: &[u8],
+) -> Result<(), DeviceFault> {
+    if file.read(alloc)?.len() < at {
+        return Err(DeviceFault::Failed);
+    }
+    file.write_at(at, octets)
+}
+
+// Cuts it to a length, which may not be greater than its own.
+fn cut(alloc: Global, file: &mut TearingFile, len: usize) -> Result<(), DeviceFault> {
+    if file.read(alloc)?.len() < len {
+        return Err(DeviceFault::Failed);
+    }
+    file.cut(len)
+}
+
 #[test]
 fn what_was_not_synced_is_lost(rt: HostRuntime) -> Result<(), Fail> {
     let alloc = rt.alloc();
     let mut file = file_of(alloc, b"abcdef")?;
-    file.write_at(4, b"WXYZ")?;
+    write(alloc, &mut file, 4, b"WXYZ")?;
     expect_left(&rt, &file, b"abcdef", b"abcdWX\0Z", b"abcdWXYZ")?;
-    file.write_at(0, b"1234")?;
+    write(alloc, &mut file, 0, b"1234")?;
     expect_left(&rt, &file, b"abcdef", b"12c4WX\0Z", b"1234WXYZ")?;
     file.sync()?;
     expect_left(&rt, &file, b"1234WXYZ", b"1234WXYZ", b"1234WXYZ")?;
-    file.cut(5)?;
+    cut(alloc, &mut file, 5)?;
     expect_left(&rt, &file, b"1234WXYZ", b"1234WX", b"1234W")?;
     assert_eq!(rt; file.read(alloc)?.as_slice(), b"1234W".as_slice());
     Ok(())
@@ -96,20 +126,42 @@ fn loss(front: usize, from: usize) -> Loss {
     }
 }
 
-// Opens what a crash left, and adds lines one after the other until its machine stops. How many octets of them it said to
-// be on the disk, with those from before.
-fn append_each(alloc: Global, file: TearingFile) -> Result<(usize, TearingFile), AllocError> {
+// Adds lines to a file that is not too long.
+fn append(file: &mut LineFile<TearingFile>, lines: &[u8]) -> Result<(), DeviceFault>
+    requires settled { IsSettled seen_of left_of file.old }
+    requires text { IsText lines.now }
+    ensures settled { OnOk result (IsSettled seen_of left_of file.new) }
+{
+    if file.end > MOST_OCTETS || lines.len() > MOST_OCTETS {
+        return Err(DeviceFault::Failed);
+    }
+    file.append(lines)
+}
+
+// Adds the lines one after the other.
+fn append_each(file: &mut LineFile<TearingFile>) -> Result<(), DeviceFault>
+    requires { IsSettled seen_of left_of file.old }
+{
+    append(file, b"second\n")?;
+    append(file, b"third\nfourth\n")?;
+    append(file, b"fifth\n")
+}
+
+// Recovers the lines, and adds others until the machine stops. How many octets of them are said to be on the disk.
+fn run(alloc: Global, file: TearingFile) -> (usize, TearingFile)
+    requires { Only (seen file.disk) (Leaves file.disk) }
+{
+    let mut file = file;
+    let Ok(text) = recover(alloc, &mut file) else {
+        return (HEAD.len(), file);
+    };
     let mut file = LineFile {
         device: file,
-        end: HEAD.len(),
+        end: text.len(),
     };
-    for lines in LINES {
-        if file.end > MOST_OCTETS || file.append(lines).is_err() {
-            break;
-        }
-    }
+    let _ = append_each(&mut file);
     let LineFile { device, end } = file;
-    Ok((end, device))
+    (end, device)
 }
 
 // All that this crash may leave begins with what was told, and has no other lines. How many octets are recovered at
@@ -126,8 +178,14 @@ fn recover_each(
             let left = file.left(&loss(front, from))?;
             let mut again = MemoryDevice::new(alloc, left);
             let text = recover(alloc, &mut again)?;
-            assert!(rt; text.as_slice().len() >= told, "{front} octets, and not from {from}");
-            assert!(rt; ALL.starts_with(text.as_slice()), "{front} octets, and not from {from}");
+            assert!(rt;
+                text.as_slice().len() >= told,
+                "{front} octets, and not from {from}"
+            );
+            assert!(rt;
+                ALL.starts_with(text.as_slice()),
+                "{front} octets, and not from {from}"
+            );
             least = least.min(text.as_slice().len());
             most = most.max(text.as_slice().len());
         }
@@ -145,12 +203,12 @@ fn lines_that_were_told_are_recovered(rt: HostRuntime) -> Result<(), Fail> {
                 octets.push(0)?;
             }
             let file = TearingFile::new(alloc, octets, Stops::after(stop));
-            let (told, file) = append_each(alloc, file)?;
+            let (told, file) = run(alloc, file);
             assert_eq!(rt; file.has_stopped(), stop < CALLS);
             assert_eq!(rt; told == ALL.len(), stop == CALLS);
             let (least, most) = recover_each(&rt, alloc, told, &file)?;
             assert_eq!(rt; least, told);
-            assert_eq!(rt; most > told, stop < CALLS);
+            assert_eq!(rt; most > told, RECOVERING <= stop && stop < CALLS);
         }
     }
     Ok(())

@@ -29,5 +29,5 @@ returns-clause-time c holds =
     (added_time old mid c.add.ensures.synced (change.Place v) more (λ d. inl refl) c.add.ensures.past)
     c.place.ensures.time
     (λ t x le left.
-        let from = added_left old mid c.add.ensures.synced (change.Place v) more x left in
-        ⊎_elim (λ is. inl (inl (rw is from.1))) (λ is. inr (synced_leaves new c.place.ensures.changes x (is ∙ same ∙ sym c.place.ensures.synced))) from.2)
+    let from = added_left old mid c.add.ensures.synced (change.Place v) more x left in
+    ⊎_elim (λ is. inl (inl (rw is from.1))) (λ is. inr (synced_leaves new c.place.ensures.changes x (is ∙ same ∙ sym c.place.ensures.synced))) from.2)
