@@ -45,7 +45,7 @@ module _ (opening told : Entries) (book : PlainBook) (saved : Option (List ℕ))
       let begins = left.between.begins in
       let whole : recovered octets ≡ first ∷ second_line C ∷ (least ++ has.0) = sym has.1 in
       let all : first ∷ second_line C ∷ ((least ++ has.0) ++ begins.0) ≡ first ∷ second_line C ∷ entry_lines C (drop base book.entries) =
-          ap (λ (ls : List (List ℕ)). ls ++ begins.0) (sym whole) ∙ begins.1 in
+      ap (λ (ls : List (List ℕ)). ls ++ begins.0) (sym whole) ∙ begins.1 in
       let rest : (least ++ has.0) ++ begins.0 ≡ entry_lines C (drop base book.entries) = cc all in
       record {
         lines = least ++ has.0;

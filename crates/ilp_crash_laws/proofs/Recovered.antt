@@ -97,8 +97,8 @@ module _ (opening told : Entries) (book : PlainBook) (saved : Option (List ℕ))
   not_recovered : (refusal : Refusal) → IsWhyNotRecoveredBy book.config (saved_or_none saved) (text_of log.lines) refusal → refusal ≡ refusals.Memory
   not_recovered refusal (fault, why, is) =
       let memory : fault ≡ recover_fault.Memory = logged_not_refused book opening rest n run.lawful run.typed all own run.valid fault
-          (subst (λ (t : List ℕ). IsWhyNotRecovered book.config (journal_text book.config book.period opening) t fault) log_text
-          (subst (λ (t : List ℕ). IsWhyNotRecovered book.config t (text_of log.lines) fault) left.saved why)) in
+      (subst (λ (t : List ℕ). IsWhyNotRecovered book.config (journal_text book.config book.period opening) t fault) log_text
+      (subst (λ (t : List ℕ). IsWhyNotRecovered book.config t (text_of log.lines) fault) left.saved why)) in
       is ∙ ap recover_refusal memory
 
   pub is_not_refused : (refusal : Refusal) → IsWhyNotBegunBy book.config saved (Some octets) refusal → refusal ≡ refusals.Memory

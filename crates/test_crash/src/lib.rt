@@ -4,8 +4,8 @@
 //!
 //! Of a log over any device of which it is claimed that it keeps what was synced:
 //!
-//! - `keep`: who is told so has all that it had seen in what was told (`Told`).
-//! - `told_to_two`: two threads at one desk, each of which books and has it kept, are each told so.
+//! - `told_to_two`: of two threads at one desk each books a credit and has it kept; what each is told has all that it had
+//!   seen (`Told`).
 //! - `find_whole`: whatever crash comes once an actor was told, a start finds a book with all that the actor had seen
 //!   (`specs/Whole.antt`).
 //!
@@ -13,12 +13,12 @@
 #![tactic(auto)]
 
 mod booking;
+#[cfg(test)]
+mod tests;
 mod told;
 mod two_actors;
 mod whole;
-#[cfg(test)]
-mod tests;
 
-pub use told::{Told, keep};
+pub use told::Told;
 pub use two_actors::{BothTold, Opening, told_to_two};
 pub use whole::find_whole;

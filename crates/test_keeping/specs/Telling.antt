@@ -20,7 +20,7 @@ heard_not_kept entries list = list ++ heard.NotKept entries ∷ []
 abbrev pub to_keeper : Heard → ToKeeper
 to_keeper (heard.Asked said) = asked said
 to_keeper (heard.Kept entries) = kept (keeping entries (Ok tt))
-to_keeper (heard.NotKept entries) = kept (keeping entries (Err (record { })))
+to_keeper (heard.NotKept entries) = kept (keeping entries (Err (record {})))
 
 abbrev pub telling : List Heard → Option (List ToKeeper)
 telling list = Some (map to_keeper list)
