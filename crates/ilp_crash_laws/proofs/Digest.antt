@@ -22,11 +22,11 @@ word_bytes w (suc (suc (suc (suc i)))) = omega arith
 digest_is_bytes : (h : List ℕ) (n : ℕ) → IsBytes (digest_bytes h n)
 unfolding digest_bytes
 digest_is_bytes h zero i = omega arith
-digest_is_bytes h (suc n) = bytes-append (digest_bytes h n) (to_be_bytes w32 (slice_index h n)) (digest_is_bytes h n) (word_bytes (slice_index h n))
+digest_is_bytes h (suc n) i = bytes-append (digest_bytes h n) (to_be_bytes w32 (slice_index h n)) (digest_is_bytes h n) (word_bytes (slice_index h n)) i
+
+are_bytes : (m : List ℕ) → IsBytes (sha256 m)
+unfolding sha256
+are_bytes m = digest_is_bytes _ 8
 
 pub digest_octets : (m : List ℕ) → AreOctets 32 (sha256 m)
-digest_octets m = (length-sha256 m, are_bytes)
-  where
-    are_bytes : IsBytes (sha256 m)
-    unfolding sha256
-    are_bytes = digest_is_bytes _ 8
+digest_octets m = (length-sha256 m, are_bytes m)

@@ -7,9 +7,8 @@ use Rattle.sha2.specs.Sha256.{sha256}
 use Rattle.ilp_journal.specs.Journal.{Entries}
 use Rattle.ilp_journal_text.specs.Text as text
 use Rattle.ilp_line_file.specs.Text.{recovered, text_of, IsBetween}
-use Rattle.ilp_log.specs.Lines.{words_of, entry_lines}
+use Rattle.ilp_log.specs.Lines.{LogForm, words_of, entry_lines, HasJournalLines}
 use Rattle.ilp_log.proofs.Begins.{prefix_length, in_take}
-use Rattle.ilp_log.proofs.Grouping.{has_journal_lines}
 use Rattle.ilp_log_text.specs.Head.{first_line, second_line}
 use Rattle.ilp_rules.specs.Book.{PlainBook}
 use Rattle.ilp_starting.specs.Beginning.{text_or_nothing}
@@ -59,7 +58,7 @@ module _ (opening told : Entries) (book : PlainBook) (saved : Option (List ℕ))
   count = length behind.lines
 
   -- the entries that were saved, and those that the log has
-  pub reached : Entries
+  abbrev pub reached : Entries
   reached = opening ++ take count (drop base book.entries)
 
   -- what the run began with begins its journal
@@ -72,7 +71,6 @@ module _ (opening told : Entries) (book : PlainBook) (saved : Option (List ℕ))
       sym (take-append-drop base book.entries) ∙ ap (λ (es : Entries). es ++ drop base book.entries) front
 
   are_first : take (base + count) book.entries ≡ reached
-  unfolding reached
   are_first = ap (take (base + count)) whole ∙ take-append-add opening (drop base book.entries) count
 
   -- all that was told is among them
@@ -85,6 +83,6 @@ module _ (opening told : Entries) (book : PlainBook) (saved : Option (List ℕ))
   was_booked = subst (λ (es : Entries). IsPrefix es book.entries) are_first (drop (base + count) book.entries, take-append-drop (base + count) book.entries)
 
   -- the text of the log's lines of entries
-  pub same_text : text_of behind.lines ≡ text.entry_lines book.config (take count (drop base book.entries))
+  pub same_text : ((form : LogForm) (entries : Entries) → HasJournalLines form entries) → text_of behind.lines ≡ text.entry_lines book.config (take count (drop base book.entries))
   unfolding count
-  same_text = ap text_of behind.of_entries ∙ has_journal_lines (record { config = book.config; head = []; base = 0 }) (take (length behind.lines) (drop base book.entries))
+  same_text has_lines = ap text_of behind.of_entries ∙ has_lines (record { config = book.config; head = []; base = 0 }) (take (length behind.lines) (drop base book.entries))

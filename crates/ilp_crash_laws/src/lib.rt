@@ -1,4 +1,4 @@
-//! What a crash leaves of a journal, from the octets of its files to the book that goes on.
+//! What a crash leaves of a journal, and what a start makes of that.
 //!
 //! # What is proved
 //!

@@ -2,7 +2,6 @@
 use Rattle.std.specs.Prelude.{Bool, List, [], ◌∷◌, ◌++◌, map, Option, Some, Ok, Err}
 use Rattle.ilp_journal.specs.Journal.{Entries}
 use Rattle.ilp_keeping.specs.Keeping.{ToKeeper, asked, kept, keeping}
-use Rattle.ilp_keeping.specs.declared.keeper.NotKept.{NotKept}
 use Rattle.test_keeping.specs.declared.telling_keeper.Heard.{Heard}
 use Rattle.test_keeping.specs.declared.telling_keeper.Heard.TheVariants as heard
 
