@@ -9,14 +9,22 @@ use Rattle.ilp_journal_text.specs.Text.{journal_text}
 use Rattle.ilp_line_file.specs.Text.{IsBetween}
 use Rattle.ilp_log.specs.Lines.{LogForm, lines_of}
 use Rattle.ilp_log.proofs.Begins.{wider}
+use Rattle.ilp_refusals.specs.declared.refusal.Refusal.{Refusal}
+use Rattle.ilp_refusals.specs.declared.refusal.Refusal.TheVariants as refusals
 use Rattle.ilp_rules.specs.Book.{PlainBook}
 use Rattle.ilp_desk.specs.Desk.{PlainDesk, IsBookOf}
 use Rattle.ilp_starting.specs.Beginning.{saved_or_none, BeginsBy, IsWhyNotBegunBy}
-use Rattle.ilp_crash_laws.specs.Crash.{log_behind, IsLeft, IsOfRun}
-use Rattle.ilp_crash_laws.proofs.Recovered.{is_whole, is_not_refused}
+use Rattle.ilp_crash_laws.specs.Crash.{log_behind, IsLeft, IsOfRun, IsWhole}
 use Rattle.test_crash.specs.Whole.{IsWholeBehind}
 
-module _ (desk : PlainDesk) (form : LogForm) (text : Option (List ℕ)) (book : PlainBook) (seen : Entries) (told : List (List ℕ)) where
+-- what the law says of a crash
+pub record Known : Type 0 where
+  pub whole : (opening told : Entries) (book : PlainBook) (text : Option (List ℕ)) (octets : List ℕ) → IsOfRun opening book → IsLeft opening told book text octets → (now : ℤ) (again : PlainBook)
+      → BeginsBy book.config text (Some octets) now again → IsWhole told book again
+  pub refused : (opening told : Entries) (book : PlainBook) (text : Option (List ℕ)) (octets : List ℕ) → IsOfRun opening book → IsLeft opening told book text octets → (refusal : Refusal)
+      → IsWhyNotBegunBy book.config text (Some octets) refusal → refusal ≡ refusals.Memory
+
+module _ (known : Known) (desk : PlainDesk) (form : LogForm) (text : Option (List ℕ)) (book : PlainBook) (seen : Entries) (told : List (List ℕ)) where
   pub found : (crash : List ℕ → Type 0) → form ≡ log_behind desk.config desk.opening text → saved_or_none text ≡ journal_text desk.config desk.period desk.opening
       → IsBookOf desk book → IsValid book.config → All IsTyped book.entries → length book.entries < 2 ^ 32
       → IsPrefix desk.opening seen → IsPrefix seen book.entries → IsPrefix (lines_of form seen) told
@@ -25,10 +33,10 @@ module _ (desk : PlainDesk) (form : LogForm) (text : Option (List ℕ)) (book : 
     book = book;
     of_desk = of_desk;
     whole = λ octets left now again by.
-        is_whole desk.opening seen book text octets run (is_left octets left) now again
+        known.whole desk.opening seen book text octets run (is_left octets left) now again
         (subst (λ C. BeginsBy C text (Some octets) now again) (sym of_desk.config) by);
     refused = λ octets left refusal why.
-        is_not_refused desk.opening seen book text octets run (is_left octets left) refusal
+        known.refused desk.opening seen book text octets run (is_left octets left) refusal
         (subst (λ C. IsWhyNotBegunBy C text (Some octets) refusal) (sym of_desk.config) why);
   }
     where

@@ -49,7 +49,7 @@ impl Gate {
     }
 
     // Stops here until the gate is open.
-    fn stop<R: Wait + Clock>(&self, rt: &R) {
+    fn stop(&self, rt: &HostRuntime) {
         let mut state = self.state.lock(rt);
         state.is_reached = true;
         self.changed.notify_all();
@@ -81,13 +81,13 @@ impl Gate {
 
 // A file in memory whose disk stops at a gate before it begins a new file.
 #[derive(Drop)]
-struct GatedDevice<'g, R: Wait + Clock> {
-    rt: &'g R,
+struct GatedDevice<'g> {
+    rt: &'g HostRuntime,
     gate: &'g Gate,
     disk: TearingDevice,
 }
 
-impl<R: Wait + Clock> Device for GatedDevice<'_, R> {
+impl Device for GatedDevice<'_> {
     ghost claims = { ⊥ };
 
     ghost seen = { λ _. [] };
@@ -138,17 +138,17 @@ impl<R: Wait + Clock> Device for GatedDevice<'_, R> {
 
 // What a log is opened with whose disk fails in its first call.
 #[derive(Drop)]
-struct GatedParts<'g, R: Wait + Clock> {
-    file: LineFile<GatedDevice<'g, R>>,
+struct GatedParts<'g> {
+    file: LineFile<GatedDevice<'g>>,
     start: LogStart,
-    acks: NewList<LineFile<GatedDevice<'g, R>>, Ack>,
+    acks: NewList<LineFile<GatedDevice<'g>>, Ack>,
 }
 
-fn gated_parts<'g, R: Wait + Clock>(
-    rt: &'g R,
+fn gated_parts<'g>(
+    rt: &'g HostRuntime,
     alloc: Global,
     gate: &'g Gate,
-) -> Result<GatedParts<'g, R>, AllocError>
+) -> Result<GatedParts<'g>, AllocError>
     ensures { IfOk result (λ parts. parts.start.base ≡ 0) }
 {
     let failures = Failures {
@@ -249,18 +249,17 @@ where
 }
 
 // Opens a desk and its log for that.
-fn open_gated<'g, J, K, R>(
-    rt: &'g R,
+fn open_gated<'g, J, K>(
+    rt: &'g HostRuntime,
     config: &Config,
     parts: DeskParts,
     blanks: Blank,
-    log: GatedParts<'g, R>,
+    log: GatedParts<'g>,
     gate: &'g Gate,
 ) -> Option<Outcome>
 where
     J: Naming + Send + Sync,
     K: LogNaming + Send + Sync,
-    R: Threads + Wait + Clock + Sync,
     requires config { (config.now ≡ J.desk.config) × (parts.book.config ≡ J.desk.config) }
     requires workers { 1 ≡ J.desk.workers }
     requires period { parts.book.period ≡ J.desk.period }
@@ -281,15 +280,12 @@ where
 }
 
 // The same over a book of no entries, and a log that has its head.
-fn mend_beside_anew<R: Threads + Wait + Clock + Sync>(
-    rt: &R,
-    config: &Config,
-) -> Result<Option<Outcome>, Fail> {
+fn mend_beside_anew(rt: &HostRuntime, config: &Config) -> Result<Option<Outcome>, Fail> {
     let alloc = config.allocator();
     let gate = Gate::new();
     let log = gated_parts(rt, alloc, &gate)?;
     let desk = desk_parts(alloc, config)?;
-    Ok(open_gated::<Brand, Brand, R>(rt, config, desk, Blank::new(3), log, &gate))
+    Ok(open_gated::<Brand, Brand>(rt, config, desk, Blank::new(3), log, &gate))
 }
 
 #[test]
