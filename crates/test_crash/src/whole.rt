@@ -28,8 +28,8 @@ pub fn find_whole<J: Naming, K: LogNaming, D: Device + Drop>(
     told: Told<J, K, D>,
 )
     requires form { K.form ≡ log_behind J.desk.config J.desk.opening
-        (option_map (λ t. t.now) text.entry) }
-    requires saved { saved_or_none (option_map (λ t. t.now) text.entry)
+        (option_map (λ t. t.now) text) }
+    requires saved { saved_or_none (option_map (λ t. t.now) text)
         ≡ journal_text J.desk.config J.desk.period J.desk.opening }
     requires kept { D.claims → IsPrefix (lines_of K.form told.seen) told.kept.lines }
     ensures device { log.new.device ≡ log.old.device }
@@ -48,8 +48,8 @@ fn find_in<J: Naming, K: LogNaming, D: Device + Drop>(
     told: Told<J, K, D>,
 )
     requires form { K.form ≡ log_behind J.desk.config J.desk.opening
-        (option_map (λ t. t.now) text.entry) }
-    requires saved { saved_or_none (option_map (λ t. t.now) text.entry)
+        (option_map (λ t. t.now) text) }
+    requires saved { saved_or_none (option_map (λ t. t.now) text)
         ≡ journal_text J.desk.config J.desk.period J.desk.opening }
     requires kept { D.claims → IsPrefix (lines_of K.form told.seen) told.kept.lines }
     ensures device { log.new.device ≡ log.old.device }
