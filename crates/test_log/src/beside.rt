@@ -49,7 +49,7 @@ impl Gate {
     }
 
     // Stops here until the gate is open.
-    fn stop(&self, rt: &HostRuntime) {
+    fn stop<R: Wait + Clock>(&self, rt: &R) {
         let mut state = self.state.lock(rt);
         state.is_reached = true;
         self.changed.notify_all();
@@ -81,13 +81,13 @@ impl Gate {
 
 // A file in memory whose disk stops at a gate before it begins a new file.
 #[derive(Drop)]
-struct GatedDevice<'g> {
-    rt: &'g HostRuntime,
+struct GatedDevice<'g, R: Wait + Clock> {
+    rt: &'g R,
     gate: &'g Gate,
     disk: TearingDevice,
 }
 
-impl Device for GatedDevice<'_> {
+impl<R: Wait + Clock> Device for GatedDevice<'_, R> {
     ghost claims = { ⊥ };
 
     ghost seen = { λ _. [] };
@@ -136,19 +136,20 @@ impl Device for GatedDevice<'_> {
     }
 }
 
-// What a log is opened with whose disk fails in its first call.
+// What a log is opened with.
 #[derive(Drop)]
-struct GatedParts<'g> {
-    file: LineFile<GatedDevice<'g>>,
+struct GatedParts<D: Device + Drop> {
+    file: LineFile<D>,
     start: LogStart,
-    acks: NewList<LineFile<GatedDevice<'g>>, Ack>,
+    acks: NewList<LineFile<D>, Ack>,
 }
 
-fn gated_parts<'g>(
-    rt: &'g HostRuntime,
+// That of a log whose disk fails in its first call.
+fn gated_parts<'g, R: Wait + Clock>(
+    rt: &'g R,
     alloc: Global,
     gate: &'g Gate,
-) -> Result<GatedParts<'g>, AllocError>
+) -> Result<GatedParts<GatedDevice<'g, R>>, AllocError>
     ensures { IfOk result (λ parts. parts.start.base ≡ 0) }
 {
     let failures = Failures {
@@ -249,17 +250,19 @@ where
 }
 
 // Opens a desk and its log for that.
-fn open_gated<'g, J, K>(
-    rt: &'g HostRuntime,
+fn open_gated<J, K, D, R>(
+    rt: &R,
     config: &Config,
     parts: DeskParts,
     blanks: Blank,
-    log: GatedParts<'g>,
-    gate: &'g Gate,
+    log: GatedParts<D>,
+    gate: &Gate,
 ) -> Option<Outcome>
 where
     J: Naming + Send + Sync,
     K: LogNaming + Send + Sync,
+    D: Device + Drop + Send,
+    R: Threads + Wait + Clock + Sync,
     requires config { (config.now ≡ J.desk.config) × (parts.book.config ≡ J.desk.config) }
     requires workers { 1 ≡ J.desk.workers }
     requires period { parts.book.period ≡ J.desk.period }
@@ -280,12 +283,22 @@ where
 }
 
 // The same over a book of no entries, and a log that has its head.
-fn mend_beside_anew(rt: &HostRuntime, config: &Config) -> Result<Option<Outcome>, Fail> {
+fn mend_beside_anew<R: Threads + Wait + Clock + Sync>(
+    rt: &R,
+    config: &Config,
+) -> Result<Option<Outcome>, Fail> {
     let alloc = config.allocator();
     let gate = Gate::new();
-    let log = gated_parts(rt, alloc, &gate)?;
     let desk = desk_parts(alloc, config)?;
-    Ok(open_gated::<Brand, Brand>(rt, config, desk, Blank::new(3), log, &gate))
+    let log = gated_parts(rt, alloc, &gate)?;
+    Ok(open_gated::<Brand, Brand, GatedDevice<'_, R>, R>(
+        rt,
+        config,
+        desk,
+        Blank::new(3),
+        log,
+        &gate,
+    ))
 }
 
 #[test]
