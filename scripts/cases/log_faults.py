@@ -1,11 +1,12 @@
 """A log that can't be written while its connector runs: what is told meanwhile, and how all goes on once it can; and
 when a log is synced."""
+import contextlib
 import json
 import os
 import re
 import time
 from collections import Counter
-from collections.abc import Callable
+from collections.abc import Callable, Iterator
 from concurrent.futures import ThreadPoolExecutor
 
 from cases.case import case, expect, expect_that
@@ -399,6 +400,21 @@ def packets_that_share_a_sync(laboratory: Laboratory) -> None:
     close(program, alice=-7, bob=7)
 
 
+@contextlib.contextmanager
+def packet_that_waits(disk: Disk, program: Program) -> Iterator[None]:
+    """A packet of 1 waits for the disk, which is busy meanwhile, and is fulfilled behind that, too late."""
+    begun = disk.syncs()
+    with ThreadPoolExecutor(1) as pool:
+        disk.busy.touch()
+        try:
+            packet = pool.submit(send_packet, program, soon(1, milliseconds=2_000), 3 * AGAIN)
+            disk.await_sync(begun)
+            yield
+        finally:
+            disk.busy.unlink()
+        expect("the answer", packet.result(), response(200, FULFILL))
+
+
 @case
 def disk_that_takes_long(laboratory: Laboratory) -> None:
     """A sync that takes longer than a packet has left is told of while it lasts, and once it is over; then so is that
@@ -410,17 +426,9 @@ def disk_that_takes_long(laboratory: Laboratory) -> None:
         kept = Kept(laboratory, Setup(bob=laboratory.stand_in(FULFILLS).port, top={"workers": workers}))
         program = kept.serve(environment=disk.environment())
         expect_served(program, amount=1)
-        begun = disk.syncs()
-        with ThreadPoolExecutor(1) as pool:
-            disk.busy.touch()
-            try:
-                packet = pool.submit(send_packet, program, soon(1, milliseconds=2_000), 3 * AGAIN)
-                disk.await_sync(begun)
-                program.await_told(DISK_TAKES, within=AGAIN)
-                expect("the answer to one that comes meanwhile", send_packet(program, soon(2)), response(200, T00))
-            finally:
-                disk.busy.unlink()
-            expect("the answer", packet.result(), response(200, FULFILL))
+        with packet_that_waits(disk, program):
+            program.await_told(DISK_TAKES, within=AGAIN)
+            expect("the answer to one that comes meanwhile", send_packet(program, soon(2)), response(200, T00))
         program.await_told(DISK_HAS_KEPT)
         expect("who was told late", [line.said.split()[4] for line in program.await_told(TOLD_LATE)], ["alice"])
         expect("what the report has of that", report(program).splitlines()[-1], f"{'late':30}{1:30}")
@@ -436,17 +444,9 @@ def close_beside_a_busy_disk(laboratory: Laboratory) -> None:
     kept = Kept(laboratory)
     program = kept.serve(environment=disk.environment())
     expect_served(program, amount=1)
-    begun = disk.syncs()
-    with ThreadPoolExecutor(1) as pool:
-        disk.busy.touch()
-        try:
-            packet = pool.submit(send_packet, program, soon(1, milliseconds=2_000), 3 * AGAIN)
-            disk.await_sync(begun)
-            post_close(program)
-            program.await_told(DISK_TAKES, within=AGAIN)
-            program.expect_running()
-        finally:
-            disk.busy.unlink()
-        expect("the answer", packet.result(), response(200, FULFILL))
+    with packet_that_waits(disk, program):
+        post_close(program)
+        program.await_told(DISK_TAKES, within=AGAIN)
+        program.expect_running()
     expect_end(program, alice=-2, bob=2)
     expect("the entries", kept.entries(), 4)
