@@ -2,7 +2,6 @@
 use Rattle.std.specs.Prelude.{◌≡◌, ◌⊎◌, ℕ, List, length, codes, Result, Ok, Err, ⊤}
 use Rattle.http_header.specs.FieldValue.{FieldValue}
 use Rattle.http_header.specs.HeaderMap.{Entries}
-use Rattle.ilp_oer.specs.Octets.{OctetsWithRoom}
 use Rattle.ilp_settlement.specs.declared.quantity.Quantity.{Quantity}
 use Rattle.ilp_settlement.specs.declared.quantity.QuantityFault.{QuantityFault}
 use Rattle.ilp_settlement.specs.Quantity.{quantity_in}
@@ -17,34 +16,18 @@ use Rattle.ilp_keeping.specs.declared.keeper.NotKept.{NotKept}
 use Rattle.ilp_workers.specs.declared.crediting.NotCredited.{NotCredited}
 use Rattle.ilp_workers.specs.declared.crediting.NotCredited.TheVariants as not_credited
 use Rattle.ilp_workers.specs.Worker.{PlainWorker}
-use Rattle.ilp_workers.specs.Crediting.{PlainBookedCredit, answer_kept, BooksCredit}
+use Rattle.ilp_workers.specs.Crediting.{PlainBookedCredit, BooksCredit}
 use Rattle.ilp_workers.specs.Halves.{IsHandedOn}
-use Rattle.ilp_server.specs.declared.handled.ToldChange.{ToldChange}
 use Rattle.ilp_server.specs.declared.unserved.NotServed.{NotServed}
 use Rattle.ilp_server.specs.declared.unserved.NotServed.TheVariants as unserved
 use Rattle.ilp_server.specs.declared.served.Served.{Served}
-use Rattle.ilp_server.specs.declared.served.Served.TheVariants.{Booked}
 use Rattle.ilp_server.specs.declared.pending_credit.CreditCourse.{CreditCourse}
 use Rattle.ilp_server.specs.declared.pending_credit.CreditCourse.TheVariants.{Waits, Over}
 use Rattle.ilp_server.specs.Fields.{values_in, IsKeyAmong}
 use Rattle.ilp_server.specs.Corrections.{kind_of}
 use Rattle.ilp_server.specs.Serving.{IsNoQuantity, IsCreditOutcome, IsNoCorrection, IsCorrectionOutcome}
 use Rattle.ilp_server.specs.Response.{NeedsNoWorker}
-
--- a credit that is booked, of which peer, as what it was told, and what is answered where it is kept
-pub record PlainPendingCredit : Type 0 where
-  pub booked : PlainBookedCredit
-  pub peer : ℕ
-  pub told : ToldChange
-  pub text : OctetsWithRoom
-
-abbrev pub pending_credit : PlainBookedCredit → ℕ → ToldChange → OctetsWithRoom → PlainPendingCredit
-pending_credit booked peer told text = record { booked = booked; peer = peer; told = told; text = text }
-
--- what becomes of it, by what the keeper says of the journal that has it
-abbrev pub outcome_of : PlainPendingCredit → Result (Unit {0}) NotKept → Result Served NotServed
-outcome_of c (Ok x) = Ok (Booked c.peer c.booked.credit c.text)
-outcome_of c (Err fault) = Err (unserved.Credit c.peer c.told (not_credited.NotKept c.booked.credit))
+use Rattle.ilp_server.specs.PendingCredits.{PlainPendingCredit, kept_outcome, unkept_outcome, outcome_of}
 
 -- ---- the first half
 
@@ -52,11 +35,12 @@ outcome_of c (Err fault) = Err (unserved.Credit c.peer c.told (not_credited.NotK
 abbrev pub IsOverFor : {J : Type 0} → NotServed → PlainWorker → PlainWorker → CreditCourse J → Type 0
 IsOverFor why before after course = (course ≡ Over (Err why)) × (after ≡ before)
 
--- By what the outcome is of each answer of a worker: one that is booked waits, and has that outcome whatever the keeper says; one that is
--- refused is over with it.
+-- By what the outcome is of each answer of a worker: one that is booked waits, and has that outcome whether the keeper keeps the journal or
+-- not; one that is refused is over with it.
 abbrev pub IsCourseFor : {J : Type 0} → (Result Kept NotCredited → Result Served NotServed → Type 0) → Result PlainBookedCredit CreditFault → CreditCourse J → Type 0
 IsCourseFor IsOutcome (Ok b) course =
-    (c : PlainPendingCredit) × (course ≡ Waits c) × (c.booked ≡ b) × ((said : Result (Unit {0}) NotKept) → IsOutcome (answer_kept b.credit said) (outcome_of c said))
+    (c : PlainPendingCredit) × (course ≡ Waits c) × (c.booked ≡ b)
+    × IsOutcome (Ok b.credit) (kept_outcome c) × IsOutcome (Err (not_credited.NotKept b.credit)) (unkept_outcome c)
 IsCourseFor IsOutcome (Err fault) course =
     (outcome : Result Served NotServed) × (course ≡ Over outcome) × IsOutcome (Err (not_credited.Refused fault)) outcome
 

@@ -6,6 +6,7 @@ pub mod Corrections
 pub mod Serving
 pub mod Connection
 pub mod Response
+pub mod PendingCredits
 pub mod CreditHalves
 pub mod Course
 pub mod Work

@@ -2,7 +2,7 @@
 ghost use Rattle.std.specs.Prelude.{◌≡◌, ◌≤◌};
 ghost use Rattle.ilp_workers.specs.Worker.{PlainWorker};
 ghost use Rattle.ilp_server.specs.Response.{NeedsNoWorker, response_to};
-ghost use Rattle.ilp_server.specs.CreditHalves.{pending_credit, outcome_of};
+ghost use Rattle.ilp_server.specs.PendingCredits.{pending_credit, outcome_of};
 
 use crate::handled::ToldChange;
 use crate::response::Response;
@@ -34,7 +34,7 @@ pub(crate) enum CreditCourse<J: Naming> {
 }
 
 impl<J: Naming> Model for PendingCredit<J> {
-    ghost use Rattle.ilp_server.specs.CreditHalves.{PlainPendingCredit, pending_credit};
+    ghost use Rattle.ilp_server.specs.PendingCredits.{PlainPendingCredit, pending_credit};
 
     ghost Value = { PlainPendingCredit };
 
