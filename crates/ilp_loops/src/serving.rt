@@ -117,7 +117,12 @@ impl<J: Naming, C: Clock + Drop, K: Keeper<J> + Drop> Serving<J, C, K> {
 
     // How the request goes on that these octets begin with. Where memory is denied for what a report has behind
     // its text, nothing is begun.
-    fn course_of<R: Wait>(&mut self, shared: &Shared<'_, J, R>, side: Side, octets: &[u8]) -> Course<J>
+    fn course_of<R: Wait>(
+        &mut self,
+        shared: &Shared<'_, J, R>,
+        side: Side,
+        octets: &[u8],
+    ) -> Course<J>
         ensures { IsOfKnownPeer J.desk.config result }
     {
         let Ok(lines) = report_lines(shared, side) else {

@@ -1,8 +1,8 @@
 //! Serving a correction of a balance, which an operator asks for.
 ghost use Rattle.std.specs.Prelude.{◌≡◌, ◌≤◌, []};
 ghost use Rattle.ilp_journal.specs.Keys.{IsKey};
-ghost use Rattle.ilp_book.specs.Configured.{IsKnown};
-ghost use Rattle.ilp_server.specs.Corrections.{kind_of, change_of, moved_by};
+ghost use Rattle.ilp_book.specs.Configured.{IsKnown, scale_at};
+ghost use Rattle.ilp_server.specs.Corrections.{kind_of, change_of, change_text, moved_by};
 ghost use Rattle.ilp_server.specs.Serving.{ServesCorrection, IsCorrectionOutcome};
 ghost use Rattle.ilp_server.specs.CreditHalves.{BeginsCorrection, BeginsCorrectionBody, BeginsChange, IsCourseFor, IsBehindSeen, NeedsNone};
 
@@ -13,7 +13,7 @@ use crate::pending_credit::{CreditCourse, PendingCredit};
 use crate::served::Served;
 use crate::serving::end_credit;
 use crate::unserved::NotServed;
-use ilp_book::CreditFault;
+use ilp_book::{CreditFault, Kept};
 use ilp_desk::{Desk, Naming};
 use ilp_http::Request;
 use ilp_journal::{CreditKind, Key, Reason};
@@ -176,17 +176,15 @@ fn course_of_change<J: Naming>(
     ensures course { IsCourseFor (IsCorrectionOutcome J.desk peer correction.now) half result }
     ensures whole { NeedsNone result }
 {
-    let scale = desk.config().scale(peer);
     let told = change_of(correction);
-    let mut text = room;
     match half {
         Ok(booked) => {
-            let amount = booked.credit().amount;
-            put_change(&mut text, moved_by(correction.lowers, amount), scale);
+            let text = change_answer(desk, peer, correction, booked.credit(), room);
             CreditCourse::Waits(PendingCredit::new(booked, peer, told, text))
         }
         Err(CreditFault::BelowLeast { balance, least }) => {
-            put_least(&mut text, balance, least, scale);
+            let mut text = room;
+            put_least(&mut text, balance, least, desk.config().scale(peer));
             CreditCourse::Over(Ok(Served::BelowLeast(text)))
         }
         Err(fault) => CreditCourse::Over(Err(NotServed::Credit {
@@ -195,6 +193,25 @@ fn course_of_change<J: Naming>(
             fault: NotCredited::Refused(fault),
         })),
     }
+}
+
+// What is answered to a correction, by what is kept under its key.
+fn change_answer<J: Naming>(
+    desk: &Desk<J>,
+    peer: u32,
+    correction: &Correction,
+    kept: Kept,
+    room: Octets,
+) -> Octets
+    requires known { IsKnown J.desk.config peer }
+    requires empty { room.octets ≡ [] }
+    requires room { ANSWER_ROOM ≤ room.spare }
+    ensures { result.octets ≡ change_text (moved_by correction.now.lowers kept.amount) (scale_at J.desk.config peer) }
+{
+    let mut text = room;
+    let change = moved_by(correction.lowers, kept.amount);
+    put_change(&mut text, change, desk.config().scale(peer));
+    text
 }
 
 // What a balance is moved by.

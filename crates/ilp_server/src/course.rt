@@ -3,6 +3,7 @@ ghost use Rattle.std.specs.Prelude.{◌≡◌};
 ghost use Rattle.ilp_book.specs.Configured.{IsKnown};
 ghost use Rattle.ilp_server.specs.Serving.{inquiry};
 ghost use Rattle.ilp_server.specs.Response.{IsToPacket};
+ghost use Rattle.ilp_accounts.specs.Configuration.{Configuration};
 ghost use Rattle.ilp_workers.specs.Worker.{PlainWorker};
 ghost use Rattle.ilp_server.specs.CreditHalves.{NeedsNone};
 ghost use Rattle.ilp_server.specs.Course.{flight_of, course_of_credit, BeginsPacket, BeginsMessage, BeginsInquiry, BeginsRequest, IsOfKnownPeer};
@@ -130,7 +131,8 @@ fn begin<J: Naming, C: Clock + Drop, U: Uplink + Drop, E: EngineLink + Drop, K: 
 // How a settlement or a correction goes on.
 fn course_for<J: Naming>(credit: CreditCourse<J>) -> Course<J>
     requires { NeedsNone credit }
-    ensures { (worker : PlainWorker) → result ≡ course_of_credit worker credit }
+    ensures course { (worker : PlainWorker) → result ≡ course_of_credit worker credit }
+    ensures peer { (config : Configuration) → IsOfKnownPeer config result }
 {
     match credit {
         CreditCourse::Waits(pending) => Course::Credit(pending),

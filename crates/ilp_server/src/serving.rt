@@ -1,9 +1,9 @@
 //! Serving a request that was read, by what its target asks for.
-ghost use Rattle.std.specs.Prelude.{◌≡◌};
+ghost use Rattle.std.specs.Prelude.{◌≡◌, ◌+◌, ◌≤◌, length};
 ghost use Rattle.ilp_journal.specs.Keys.{IsKey};
 ghost use Rattle.ilp_book.specs.Configured.{IsKnown};
-ghost use Rattle.ilp_server.specs.Serving.{inquiry, Serves, ServesPacket, ServesSettlement, ServesMessage, TellsReport, ServesReport};
-ghost use Rattle.ilp_server.specs.CreditHalves.{BeginsSettlement, BeginsPayment, IsEndedAs, IsBehindSeen, NeedsNone};
+ghost use Rattle.ilp_server.specs.Serving.{IsCreditOutcome, inquiry, Serves, ServesPacket, ServesSettlement, ServesMessage, TellsReport, ServesReport};
+ghost use Rattle.ilp_server.specs.CreditHalves.{BeginsSettlement, BeginsPayment, IsCourseFor, IsEndedAs, IsBehindSeen, NeedsNone};
 
 use crate::correcting::serve_correction;
 use crate::fields::{key_of, sender_of};
@@ -12,13 +12,14 @@ use crate::pending_credit::{CreditCourse, PendingCredit};
 use crate::served::Served;
 use crate::target::{Side, Target, target_of};
 use crate::unserved::NotServed;
+use ilp_book::CreditFault;
 use ilp_desk::{Desk, Naming};
 use ilp_http::Request;
 use ilp_journal::{CreditKind, Key};
 use ilp_oer::Octets;
 use ilp_report::print;
 use ilp_settlement::{LONGEST_QUANTITY, Quantity, put_quantity};
-use ilp_workers::{Clock, EngineLink, Keeper, NotCredited, Uplink, Worker};
+use ilp_workers::{BookedCredit, Clock, EngineLink, Keeper, NotCredited, Uplink, Worker};
 use std::alloc::{Allocator, Global};
 use std::sync::Wait;
 
@@ -183,8 +184,26 @@ fn begin_payment<
     let Ok(Some(key)) = Key::new(alloc, key) else {
         return CreditCourse::Over(Err(NotServed::Memory));
     };
+    let half = worker.begin_credit(rt, desk, peer, key, &quantity, CreditKind::Settled);
+    course_of_payment(desk, peer, quantity, half, text)
+}
+
+// How a settlement goes on, by what the worker booked. Its text is written into the room that there is.
+fn course_of_payment<J: Naming>(
+    desk: &Desk<J>,
+    peer: u32,
+    quantity: Quantity,
+    half: Result<BookedCredit<J>, CreditFault>,
+    room: Octets,
+) -> CreditCourse<J>
+    requires known { IsKnown J.desk.config peer }
+    requires room { LONGEST_QUANTITY ≤ length room.octets + room.spare }
+    ensures course { IsCourseFor (IsCreditOutcome J.desk peer quantity) half result }
+    ensures whole { NeedsNone result }
+{
     let told = ToldChange::Settlement(quantity);
-    match worker.begin_credit(rt, desk, peer, key, &quantity, CreditKind::Settled) {
+    let mut text = room;
+    match half {
         Ok(booked) => {
             put_quantity(&mut text, booked.credit().amount, desk.config().scale(peer));
             CreditCourse::Waits(PendingCredit::new(booked, peer, told, text))
@@ -205,10 +224,7 @@ pub(crate) fn end_credit<
     E: EngineLink + Drop,
     K: Keeper<J> + Drop,
     A: Allocator + Copy,
->(
-    worker: &mut Worker<J, C, U, E, K, A>,
-    course: CreditCourse<J>,
-) -> Result<Served, NotServed>
+>(worker: &mut Worker<J, C, U, E, K, A>, course: CreditCourse<J>) -> Result<Served, NotServed>
     requires behind { IsBehindSeen worker.old course }
     ensures ended { IsEndedAs course worker.old worker.new result }
     ensures pending { worker.new.pending ≡ worker.old.pending }

@@ -16,8 +16,8 @@ use ilp_links::Links;
 use ilp_notices::{ListensAt, few_files, listening, no_thread, not_listening};
 use ilp_server::Side;
 use ilp_shared::{
-    Asker, Intakes, KeptJournal, Moments, NextConfig, OnDisk, Payouts, PeriodDue, Places, Reloading, Seen,
-    Shared, ending_after,
+    Asker, Intakes, KeptJournal, Moments, NextConfig, OnDisk, Payouts, PeriodDue, Places,
+    Reloading, Seen, Shared, ending_after,
 };
 use std::alloc::AllocError;
 use std::io::{Eprint, ErrorKind};

@@ -7,8 +7,8 @@ use ilp_keeping::SharedKeeper;
 use ilp_log_keeper::DiskWait;
 use ilp_notices::{Notices, not_reloaded};
 use ilp_shared::{
-    Intakes, MEMORY_IS_SHORT, Moments, NextConfig, OnDisk, PeriodDue, Places, Reloading, Seen, Shutdown,
-    without_end,
+    Intakes, MEMORY_IS_SHORT, Moments, NextConfig, OnDisk, PeriodDue, Places, Reloading, Seen,
+    Shutdown, without_end,
 };
 use ilp_workers::{Clock, Keeper};
 use std::io::Eprint;

@@ -373,8 +373,8 @@ impl<
     {
         match self.begin_credit(rt, desk, peer, key, quantity, kind) {
             Ok(booked) => {
-                let handed = self.keep();
-                booked.tell(&handed)
+                let kept = self.keep();
+                booked.tell(&kept)
             }
             Err(fault) => Err(NotCredited::Refused(fault)),
         }
