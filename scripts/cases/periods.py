@@ -114,6 +114,40 @@ def periods_one_after_the_other(laboratory: Laboratory) -> None:
     expect("the files", kept.files(), ["journal", "journal.0", "journal.1", "journal.lock"])
 
 
+def in_another_order(setup: Setup) -> str:
+    """The text of a configuration with the table of bob before that of alice."""
+    top, alice, behind = setup.text().split("[[peer]]\n")
+    bob, mark, rest = behind.partition("[[route]]\n")
+    return f"{top}[[peer]]\n{bob}[[peer]]\n{alice}{mark}{rest}"
+
+
+@case
+def next_period_of_other_order(laboratory: Laboratory) -> None:
+    """A period that began by a configuration with its peers in another order follows, whichever of the two is given of
+    it, also once it went on by the old one. One that opens another balance, or lacks one, does not."""
+    kept = closed_book(laboratory)
+    closing = Closing(kept, kept.setup)
+    closing.next.write_text(in_another_order(kept.setup))
+    closing.expect_closed("peer bob balance 1030", "peer alice balance -30")
+    program = kept.serve()
+    expect_served(program, amount=5)
+    post_close(program)
+    expect("the exit status", program.end(END), 0)
+    begun = kept.text()
+    words = ["follows", closing.before, kept.beside("0"), closing.before, kept.path]
+    for last in (closing.before, closing.next):
+        words[3] = last
+        expect("what follows says", closing.run(*words), (0, "period 1 follows period 0\n", ""))
+    other = r"error .+ has another entry {} than what was brought forward"
+    for changed, entry in ((begun.replace("opened alice -30", "opened alice -29"), 1),
+                           (begun.replace("opened bob 1030", "opened bob 1031"), 0),
+                           (re.sub(r"\d+ 0 opened bob 1030\n", "", begun).replace("end 5", "end 4"), 1)):
+        kept.path.write_text(changed)
+        status, text, errors = closing.run(*words)
+        expect("what it says of another", (status, text), (1, f"refused 80 NotFollowing {entry}\n"))
+        expect_lines("standard error", errors, (other.format(entry),))
+
+
 @case
 def kept_period_given_as_a_journal(laboratory: Laboratory) -> None:
     """No connector begins with the text of a period that is kept beside a later one, and no next period does. Elsewhere,
