@@ -12,11 +12,16 @@
 #![tactic(auto)]
 
 mod beginning;
+mod boundary;
+mod chain;
 mod closing;
 mod following;
+mod kept_before;
 mod left_out;
 mod printing;
+mod remembered;
 
 pub use beginning::next_of;
+pub use chain::follows_all;
 pub use closing::{Kept, keep_behind, new_period};
 pub use following::follows;

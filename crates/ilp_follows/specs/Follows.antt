@@ -1,0 +1,135 @@
+-- Whether the text of one period follows that of the one before, by the names, the assets and the run that each had. Lines count as
+-- entries do: the first behind the first line of a text is that of the entry 0.
+use Rattle.std.specs.Prelude.{◌≡◌, ◌≢◌, ℕ, ◌+◌, ◌<◌, ◌^◌, ℤ, pos, ◌+ℤ◌, ◌<ℤ◌, ◌≤ℤ◌, List, [], ◌∷◌, ◌++◌, length, take, drop, codes, bytes_eq, Bool, true, false, not, ◌||◌, ◌&&◌, ◌==◌, Option, Some, None, slice_get, option_map, unwrap_or, if◌then◌else◌, IsTrue, ⊤}
+use Rattle.std.specs.List.{list_any, slice_split}
+use Rattle.ilp_accounts.specs.Configuration.{Configuration}
+use Rattle.ilp_journal.specs.declared.entry.Entry.{Entry}
+use Rattle.ilp_journal.specs.declared.entry.What.{What}
+use Rattle.ilp_journal.specs.declared.entry.What.TheVariants as what
+use Rattle.ilp_journal.specs.Journal.{Entries, open_hold_at}
+use Rattle.ilp_journal.specs.Balance.{balance}
+use Rattle.ilp_journal_text.specs.Text.{first_line, entry_line}
+use Rattle.ilp_journal_text.specs.Reading.{IsTextOf}
+use Rattle.ilp_journal_text.specs.declared.reading.TextFault.{TextFault}
+use Rattle.ilp_journal_text.specs.declared.reading.TextFault.TheVariants as text_fault
+use Rattle.ilp_rules.specs.Book.{PlainBook}
+use Rattle.ilp_rules.specs.Configured.{IsKnown}
+use Rattle.ilp_next_period.specs.NextPeriod.{peer_asset, place_in_next, next_head, IsSettled, KeepsNoOtherKeys, IsWhyNotClosed}
+use Rattle.ilp_follows.specs.declared.fault.FollowFault.{FollowFault}
+use Rattle.ilp_follows.specs.declared.fault.FollowFault.TheVariants as fault
+
+-- ---- what a period may hand on
+
+-- What a peer has can be told, and it is settled where it is left out or its asset differs.
+pub record MayTell (book : PlainBook) (next : Configuration) (p : ℕ) : Type 0 where
+  pub told : balance book.entries p <ℤ pos (2 ^ 63)
+  pub removed : place_in_next book.config next p ≡ None → IsSettled book.entries p
+  pub low : (q : ℕ) → place_in_next book.config next p ≡ Some q → pos 0 ≤ℤ (balance book.entries p +ℤ pos (2 ^ 63))
+  pub asset : (q : ℕ) → place_in_next book.config next p ≡ Some q → peer_asset book.config p ≢ peer_asset next q → IsSettled book.entries p
+
+-- As far as names, assets and the run say, a period of the next configuration may follow.
+pub record MayHandOn (book : PlainBook) (next : Configuration) : Type 0 where
+  pub run : next.settings.run ≡ book.config.settings.run
+  pub numbered : book.period + 1 < 2 ^ 32
+  pub closed : (n : ℕ) → open_hold_at book.entries n ≡ None
+  pub peers : (p : ℕ) → IsKnown book.config p → MayTell book next p
+  pub keys : (p : ℕ) → IsKnown book.config p → KeepsNoOtherKeys book next p
+
+-- ---- how a text begins
+
+abbrev pub is_line_end : ℕ → Bool
+is_line_end octet = octet == 10
+
+-- the lines of a text behind its first, without their ends
+abbrev pub lines_behind : List ℕ → List (List ℕ)
+lines_behind text = drop 1 (slice_split is_line_end text)
+
+-- a line is that of the entry
+abbrev pub is_line_of : Configuration → Entry → List ℕ → Bool
+is_line_of C e line = bytes_eq (entry_line C e) (line ++ 10 ∷ [])
+
+-- whether an entry opens a balance
+abbrev pub is_opening : Entry → Bool
+is_opening e = of e.what
+  where
+    of : What → Bool
+    of (what.Opened peer balance) = true
+    of _ = false
+
+-- a line opens a balance of a head
+abbrev pub is_opened : Configuration → Entries → List ℕ → Bool
+is_opened C head line = list_any (λ (e : Entry). is_opening e && is_line_of C e line) head
+
+-- A line stands where the head has the entry: a balance is opened at any place that opens one.
+abbrev pub stands_for : Configuration → Entries → Entry → List ℕ → Bool
+stands_for C head e line = if is_opening e then is_opened C head line else is_line_of C e line
+
+-- an entry is told among so many lines
+abbrev pub is_told : Configuration → Entry → List (List ℕ) → Bool
+is_told C e lines = list_any (is_line_of C e) lines
+
+abbrev pub is_space : ℕ → Bool
+is_space octet = octet == 32
+
+-- the word of what is brought forward
+abbrev pub is_head_word : List ℕ → Bool
+is_head_word word = bytes_eq word (codes "opened") || (bytes_eq word (codes "known") || bytes_eq word (codes "pending"))
+
+-- a line is one of what is brought forward
+abbrev pub is_head_line : List ℕ → Bool
+is_head_line line = unwrap_or (option_map is_head_word (slice_get (slice_split is_space line) 2)) false
+
+-- the line of a number, and an empty one past the end
+abbrev pub line_at : List (List ℕ) → ℕ → List ℕ
+line_at lines n = unwrap_or (slice_get lines n) []
+
+-- The lines begin with those of a head. It opens each balance, in any order; all else stands in its place. Behind it nothing is brought
+-- forward.
+pub record BeginWith (C : Configuration) (head : Entries) (lines : List (List ℕ)) : Type 0 where
+  pub stands : (n : ℕ) (e : Entry) → slice_get head n ≡ Some e → IsTrue (stands_for C head e (line_at lines n))
+  pub opened : (n : ℕ) (e : Entry) → slice_get head n ≡ Some e → IsTrue (is_opening e) → IsTrue (is_told C e (take (length head) lines))
+  pub over : is_head_line (line_at lines (length head)) ≡ false
+
+-- the text of the period is the first line of that, and more
+pub record IsOfPeriod (period : ℕ) (text : List ℕ) : Type 0 where
+  pub after : List ℕ
+  pub whole : text ≡ first_line period ++ after
+
+-- ---- whether it follows
+
+-- a period that has ended, as a book that was begun with nothing
+abbrev pub ended_book : Configuration → ℕ → Entries → PlainBook
+ended_book C period j = record { config = C; period = period; base = 0; entries = j }
+
+-- the text before is one of a period whose books may be brought forward to these peers, and the next text begins with what comes of them
+pub record IsFollowedBy (C : Configuration) (text : List ℕ) (next : Configuration) (next_text : List ℕ) (number : ℕ) : Type 0 where
+  pub period : ℕ
+  pub entries : Entries
+  pub ended : IsTextOf C period entries text
+  pub may : MayHandOn (ended_book C period entries) next
+  pub later : number ≡ period + 1
+  pub begun : IsOfPeriod number next_text
+  pub begins : BeginWith next (next_head (ended_book C period entries) next (pos 0)) (lines_behind next_text)
+
+-- why it doesn't
+pub record IsWhyNotHandedOn (C : Configuration) (text : List ℕ) (next : Configuration) (Wants : PlainBook → Type 0) : Type 0 where
+  pub period : ℕ
+  pub entries : Entries
+  pub ended : IsTextOf C period entries text
+  pub wants : Wants (ended_book C period entries)
+
+-- the next text is of another period, or begins otherwise
+abbrev pub BeginsOtherwise : Configuration → List ℕ → PlainBook → Type 0
+BeginsOtherwise next next_text book = IsOfPeriod (book.period + 1) next_text → ¬ (BeginWith next (next_head book next (pos 0)) (lines_behind next_text))
+
+abbrev pub IsWhyNotFollowed : Configuration → List ℕ → Configuration → List ℕ → FollowFault → Type 0
+IsWhyNotFollowed C text next next_text (fault.BadLine line) = ⊤
+IsWhyNotFollowed C text next next_text (fault.NamesNothing entry) = ⊤
+IsWhyNotFollowed C text next next_text (fault.Closing why) = IsWhyNotHandedOn C text next (λ book. IsWhyNotClosed book next (pos 0) why)
+IsWhyNotFollowed C text next next_text (fault.Differs entry) = IsWhyNotHandedOn C text next (BeginsOtherwise next next_text)
+IsWhyNotFollowed C text next next_text fault.Memory = ⊤
+
+-- the fault of a text that is not read
+abbrev pub reading_fault : TextFault → FollowFault
+reading_fault (text_fault.BadLine line) = fault.BadLine line
+reading_fault text_fault.Memory = fault.Memory
