@@ -41,9 +41,12 @@ fn given_configs<R>(rt: &R, paths: &[String]) -> Result<Vec<Config>, Refused>
 where
     R: Runtime + AllocGlobal,
 {
-    let mut configs = Vec::new(rt.alloc());
+    let mut configs = Vec::with_capacity(rt.alloc(), paths.len())?;
     for path in paths {
-        configs.push(configured(rt, path.as_str())?)?;
+        let config = configured(rt, path.as_str())?;
+        if configs.push(config).is_err() {
+            return Err(Refused::from(Refusal::Memory));
+        }
     }
     Ok(configs)
 }
