@@ -111,7 +111,8 @@ def periods_one_after_the_other(laboratory: Laboratory) -> None:
     post_close(program)
     expect("the exit status", program.end(END), 0)
     closing.expect_closed("peer alice balance -35", "peer bob balance 1035", period=2)
-    expect("the files", kept.files(), ["journal", "journal.0", "journal.1", "journal.lock"])
+    expect("the files", kept.files(), ["journal", "journal.0", "journal.0.remembered", "journal.1",
+                                          "journal.1.remembered", "journal.lock"])
 
 
 def in_another_order(setup: Setup) -> str:
@@ -237,7 +238,7 @@ def period_behind_a_sudden_stop(laboratory: Laboratory) -> None:
     expect_served(program, amount=30)
     program.kill()
     Closing(kept, kept.setup).expect_closed("peer alice balance -30", "peer bob balance 30")
-    expect("the files", kept.files(), ["journal", "journal.0", "journal.lock"])
+    expect("the files", kept.files(), ["journal", "journal.0", "journal.0.remembered", "journal.lock"])
 
 
 def stopped_book(laboratory: Laboratory) -> tuple[Kept, Program, dict[str, bytes]]:
@@ -308,8 +309,10 @@ def period_stopped_at_each_file_call(laboratory: Laboratory) -> None:
             is_old = left["journal"] == old["journal"] and left.get("journal.0", old["journal"]) == old["journal"]
             is_next = left["journal"] == done["journal"] and left["journal.0"] == old["journal"]
             expect_that(f"killed at {call} {number} it left {sorted(left)}", is_old or is_next)
+            said = "period 1 follows period 0\n" if left["journal"] == done["journal"] else "period 0 follows none\n"
+            expect(f"what follows says behind a stop at {call} {number}", closing.run("follows", kept.path), (0, said, ""))
             expect("the status of one that goes on", closing.run(*closing.words())[0], 0)
-            again = {name: kept.contents()[name] for name in ("journal", "journal.0")}
+            again = {name: kept.contents()[name] for name in ("journal", "journal.0", "journal.0.remembered")}
             expect(f"the files behind a stop at {call} {number}", again, {name: done[name] for name in again})
             if status == 0:
                 break

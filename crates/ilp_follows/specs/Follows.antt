@@ -83,11 +83,18 @@ is_head_line line = unwrap_or (option_map is_head_word (slice_get (slice_split i
 abbrev pub line_at : List (List ℕ) → ℕ → List ℕ
 line_at lines n = unwrap_or (slice_get lines n) []
 
--- The lines begin with those of a head. It opens each balance, in any order; all else stands in its place. Behind it nothing is brought
+-- whether an entry of a head stands where the lines have its number, and a balance among those that stand for the head
+abbrev pub is_brought : Configuration → Entries → List (List ℕ) → ℕ → Entry → Bool
+is_brought C head lines n e = stands_for C head e (line_at lines n) && (not (is_opening e) || is_told C e (take (length head) lines))
+
+-- the same of the entry of a number, if there is one
+abbrev pub stands_at : Configuration → Entries → List (List ℕ) → ℕ → Bool
+stands_at C head lines n = unwrap_or (option_map (is_brought C head lines n) (slice_get head n)) true
+
+-- The lines begin with those of a head. They open each balance, in any order; all else stands in its place. Behind it nothing is brought
 -- forward.
 pub record BeginWith (C : Configuration) (head : Entries) (lines : List (List ℕ)) : Type 0 where
-  pub stands : (n : ℕ) (e : Entry) → slice_get head n ≡ Some e → IsTrue (stands_for C head e (line_at lines n))
-  pub opened : (n : ℕ) (e : Entry) → slice_get head n ≡ Some e → IsTrue (is_opening e) → IsTrue (is_told C e (take (length head) lines))
+  pub each : (n : ℕ) → n < length head → IsTrue (stands_at C head lines n)
   pub over : is_head_line (line_at lines (length head)) ≡ false
 
 -- the text of the period is the first line of that, and more

@@ -1,5 +1,5 @@
 //! Whether lines begin with those of a head.
-ghost use Rattle.std.specs.Prelude.{◌≡◌, ◌<◌, length, take, IfNone, IfSome};
+ghost use Rattle.std.specs.Prelude.{◌≡◌, take, IfNone, IfSome};
 ghost use Rattle.ilp_journal_text.specs.Fields.{octets_of};
 ghost use Rattle.ilp_follows.specs.Follows as follows;
 ghost use Rattle.ilp_follows.specs.Follows.{BeginWith};
@@ -15,7 +15,7 @@ pub(crate) fn first_difference(config: &Config, head: &[Entry], lines: &[&[u8]])
     ensures other { IfSome result (λ n. ¬ (BeginWith config.now head.now (octets_of lines.now))) }
 {
     for number in 0..head.len() {
-        if !stands_at(config, head, lines, number) || is_missing(config, head, lines, number) {
+        if !stands_at(config, head, lines, number) {
             return Some(number);
         }
     }
@@ -25,24 +25,39 @@ pub(crate) fn first_difference(config: &Config, head: &[Entry], lines: &[&[u8]])
     None
 }
 
-// Whether the line of this number stands for the head's entry.
+// Whether the head's entry of this number stands where it is to stand among the lines.
 fn stands_at(config: &Config, head: &[Entry], lines: &[&[u8]], number: usize) -> bool
-    requires { number < length head.now }
+    ensures { result ≡ follows.stands_at config.now head.now (octets_of lines.now) number }
 {
-    let line = line_at(lines, number);
-    if is_opening(&head[number]) {
-        is_opened(config, head, line)
-    } else {
-        is_line_of(config, &head[number], line)
+    match head.get(number) {
+        Some(entry) => is_brought(config, head, lines, number, entry),
+        None => true,
     }
 }
 
-// Whether the head's entry of this number opens a balance, and none of the lines that stand for the head tells it.
-fn is_missing(config: &Config, head: &[Entry], lines: &[&[u8]], number: usize) -> bool
-    requires { number < length head.now }
+fn is_brought(
+    config: &Config,
+    head: &[Entry],
+    lines: &[&[u8]],
+    number: usize,
+    entry: &Entry,
+) -> bool
+    ensures { result
+        ≡ follows.is_brought config.now head.now (octets_of lines.now) number entry.now }
 {
-    let told = &lines[..head.len().min(lines.len())];
-    is_opening(&head[number]) && !is_told(config, &head[number], told)
+    stands_for(config, head, entry, line_at(lines, number))
+        && (!is_opening(entry) || is_told(config, entry, first_lines(lines, head.len())))
+}
+
+// Whether a line stands for an entry of the head.
+fn stands_for(config: &Config, head: &[Entry], entry: &Entry, line: &[u8]) -> bool
+    ensures { result ≡ follows.stands_for config.now head.now entry.now line.now }
+{
+    if is_opening(entry) {
+        is_opened(config, head, line)
+    } else {
+        is_line_of(config, entry, line)
+    }
 }
 
 // Whether a line opens a balance of the head.
@@ -64,6 +79,13 @@ fn is_opening(entry: &Entry) -> bool
     ensures { result ≡ follows.is_opening entry.now }
 {
     matches!(entry.what, What::Opened { .. })
+}
+
+// The first lines, so many of them, or all.
+fn first_lines<'l, 't>(lines: &'l [&'t [u8]], count: usize) -> &'l [&'t [u8]]
+    ensures { octets_of result.now ≡ take count (octets_of lines.now) }
+{
+    &lines[..count.min(lines.len())]
 }
 
 // The line of a number, and an empty one past the end.
