@@ -139,7 +139,7 @@ def next_period_of_other_order(laboratory: Laboratory) -> None:
     for last in (closing.before, closing.next):
         words[3] = last
         expect("what follows says", closing.run(*words), (0, "period 1 follows period 0\n", ""))
-    other = r"error .+ has another entry {} than what was brought forward"
+    other = r".+ has another entry {} than what was brought forward"
     for changed, entry in ((begun.replace("opened alice -30", "opened alice -29"), 1),
                            (begun.replace("opened bob 1030", "opened bob 1031"), 0),
                            (re.sub(r"\d+ 0 opened bob 1030\n", "", begun).replace("end 5", "end 4"), 1)):
@@ -295,7 +295,7 @@ def period_stopped_at_each_file_call(laboratory: Laboratory) -> None:
     kept = closed_book(laboratory)
     old, closing = kept.contents(), Closing(kept, dearer(kept.setup))
     closing.expect_closed("peer alice balance -30", "peer bob balance 1030")
-    done = kept.contents()
+    done, states = kept.contents(), []
     for call in FILE_CALLS.split(","):
         for number in range(1, 200):
             for name in kept.files():
@@ -309,8 +309,10 @@ def period_stopped_at_each_file_call(laboratory: Laboratory) -> None:
             is_old = left["journal"] == old["journal"] and left.get("journal.0", old["journal"]) == old["journal"]
             is_next = left["journal"] == done["journal"] and left["journal.0"] == old["journal"]
             expect_that(f"killed at {call} {number} it left {sorted(left)}", is_old or is_next)
-            said = "period 1 follows period 0\n" if left["journal"] == done["journal"] else "period 0 follows none\n"
-            expect(f"what follows says behind a stop at {call} {number}", closing.run("follows", kept.path), (0, said, ""))
+            if left not in states:
+                states.append(left)
+                said = "period 1 follows period 0\n" if is_next else "period 0 follows none\n"
+                expect(f"what follows says of {sorted(left)}", closing.run("follows", kept.path), (0, said, ""))
             expect("the status of one that goes on", closing.run(*closing.words())[0], 0)
             again = {name: kept.contents()[name] for name in ("journal", "journal.0", "journal.0.remembered")}
             expect(f"the files behind a stop at {call} {number}", again, {name: done[name] for name in again})

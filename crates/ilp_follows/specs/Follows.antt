@@ -1,20 +1,26 @@
 -- Whether the text of one period follows that of the one before, by the names, the assets and the run that each had. Lines count as
 -- entries do: the first behind the first line of a text is that of the entry 0.
-use Rattle.std.specs.Prelude.{◌≡◌, ◌≢◌, ℕ, ◌+◌, ◌<◌, ◌^◌, ℤ, pos, ◌+ℤ◌, ◌<ℤ◌, ◌≤ℤ◌, List, [], ◌∷◌, ◌++◌, length, take, drop, codes, bytes_eq, Bool, true, false, not, ◌||◌, ◌&&◌, ◌==◌, Option, Some, None, slice_get, option_map, unwrap_or, if◌then◌else◌, IsTrue, ⊤}
+use Rattle.std.specs.Prelude.{◌≡◌, ◌≢◌, ℕ, ◌+◌, ◌-◌, ◌<◌, ◌^◌, ℤ, pos, ◌+ℤ◌, ◌<ℤ◌, ◌≤ℤ◌, List, [], ◌∷◌, ◌++◌, length, take, drop, codes, bytes_eq, Bool, true, false, not, ◌||◌, ◌&&◌, ◌==◌, Option, Some, None, slice_get, map, option_and_then, option_map, unwrap_or, if◌then◌else◌, IsTrue, IfSome, ⊤}
 use Rattle.std.specs.List.{list_any, slice_split}
 use Rattle.ilp_accounts.specs.Configuration.{Configuration}
 use Rattle.ilp_journal.specs.declared.entry.Entry.{Entry}
 use Rattle.ilp_journal.specs.declared.entry.What.{What}
 use Rattle.ilp_journal.specs.declared.entry.What.TheVariants as what
-use Rattle.ilp_journal.specs.Journal.{Entries, open_hold_at}
+use Rattle.ilp_journal.specs.declared.entry.Ask.{Ask}
+use Rattle.ilp_journal.specs.declared.entry.Credited.{Credited}
+use Rattle.ilp_journal.specs.Journal.{Entries, is_unclosed, open_hold_at, open_ask_at}
+use Rattle.ilp_journal.specs.Credits.{credit_at}
 use Rattle.ilp_journal.specs.Balance.{balance}
+use Rattle.ilp_journal.specs.BroughtForward.{earlier_balance, head_entry, known_credit, opening_of, pending_settlement}
+use Rattle.ilp_journal.specs.Made.{filter_map_from}
 use Rattle.ilp_journal_text.specs.Text.{first_line, entry_line}
 use Rattle.ilp_journal_text.specs.Reading.{IsTextOf}
 use Rattle.ilp_journal_text.specs.declared.reading.TextFault.{TextFault}
 use Rattle.ilp_journal_text.specs.declared.reading.TextFault.TheVariants as text_fault
-use Rattle.ilp_rules.specs.Book.{PlainBook}
+use Rattle.ilp_rules.specs.Book.{PlainBook, moment_at}
 use Rattle.ilp_rules.specs.Configured.{IsKnown}
-use Rattle.ilp_next_period.specs.NextPeriod.{peer_asset, place_in_next, next_head, IsSettled, KeepsNoOtherKeys, IsWhyNotClosed}
+use Rattle.ilp_rules.specs.SettlementKeys.{settlement_key_at}
+use Rattle.ilp_next_period.specs.NextPeriod.{peer_asset, period_end, place_in_next, places_by_name, next_head, IsSettled, KeepsNoOtherKeys, IsWhyNotClosed}
 use Rattle.ilp_follows.specs.declared.fault.FollowFault.{FollowFault}
 use Rattle.ilp_follows.specs.declared.fault.FollowFault.TheVariants as fault
 
@@ -35,6 +41,45 @@ pub record MayHandOn (book : PlainBook) (next : Configuration) : Type 0 where
   pub peers : (p : ℕ) → IsKnown book.config p → MayTell book next p
   pub keys : (p : ℕ) → IsKnown book.config p → KeepsNoOtherKeys book next p
 
+-- ---- as it is made and judged. No public clause cites these words.
+
+-- an entry of the head
+abbrev pub booked_in_head : PlainBook → What → Entry
+booked_in_head book w = head_entry (moment_at book.entries (pos 0)) w
+
+-- what of the head opens the balances of so many peers
+abbrev pub openings_of : PlainBook → Configuration → ℕ → Entries
+openings_of book next n =
+    map (booked_in_head book) (filter_map_from (λ q old. opening_of q (earlier_balance book.entries old)) 0 (take n (places_by_name book.config next)))
+
+-- what of the head keeps the credits among so many entries
+abbrev pub credits_of : PlainBook → Configuration → ℕ → Entries
+credits_of book next n =
+    map (booked_in_head book) (filter_map_from (λ _ (e : Entry). known_credit (places_by_name book.config next) e.what) 0 (take n book.entries))
+
+-- what a settlement of a number is in the head, if it is open
+abbrev pub settlement_from : PlainBook → Configuration → ℕ → Entry → Option What
+settlement_from book next n e = if is_unclosed book.entries n then pending_settlement (period_end book next (pos 0)) n e.what else None
+
+-- what of the head are the settlements among so many entries
+abbrev pub settlements_of : PlainBook → Configuration → ℕ → Entries
+settlements_of book next n = map (booked_in_head book) (filter_map_from (settlement_from book next) 0 (take n book.entries))
+
+-- the same of the one of a number, as it is looked up
+abbrev pub settlement_on : PlainBook → Configuration → ℕ → Option What
+settlement_on book next n =
+    option_and_then (λ (a : Ask). option_map (λ q. what.Pending q a.amount (settlement_key_at book.config book.period book.entries n)) (place_in_next book.config next a.peer))
+    (open_ask_at book.entries n)
+
+-- the settlement of a number is open, and to the peer
+abbrev pub is_unpaid_at : Entries → ℕ → ℕ → Bool
+is_unpaid_at j p n = unwrap_or (option_map (λ (a : Ask). a.peer == p) (open_ask_at j n)) false
+
+-- The peer of the credit of a number has the same asset in the next configuration, if it has a place there.
+abbrev pub KeepsAsset : PlainBook → Configuration → ℕ → Type 0
+KeepsAsset book next n =
+    IfSome (credit_at book.entries n) (λ (c : Credited). (q : ℕ) → place_in_next book.config next c.peer ≡ Some q → peer_asset book.config c.peer ≡ peer_asset next q)
+
 -- ---- how a text begins
 
 abbrev pub is_line_end : ℕ → Bool
@@ -44,9 +89,13 @@ is_line_end octet = octet == 10
 abbrev pub lines_behind : List ℕ → List (List ℕ)
 lines_behind text = drop 1 (slice_split is_line_end text)
 
+-- a line without its end
+abbrev pub without_end : List ℕ → List ℕ
+without_end line = take (length line - 1) line
+
 -- a line is that of the entry
 abbrev pub is_line_of : Configuration → Entry → List ℕ → Bool
-is_line_of C e line = bytes_eq (entry_line C e) (line ++ 10 ∷ [])
+is_line_of C e line = bytes_eq (without_end (entry_line C e)) line
 
 -- whether an entry opens a balance
 abbrev pub is_opening : Entry → Bool
@@ -75,9 +124,13 @@ is_space octet = octet == 32
 abbrev pub is_head_word : List ℕ → Bool
 is_head_word word = bytes_eq word (codes "opened") || (bytes_eq word (codes "known") || bytes_eq word (codes "pending"))
 
+-- the third field of a line, which says what happened
+abbrev pub word_of : List ℕ → Option (List ℕ)
+word_of line = slice_get (slice_split is_space line) 2
+
 -- a line is one of what is brought forward
 abbrev pub is_head_line : List ℕ → Bool
-is_head_line line = unwrap_or (option_map is_head_word (slice_get (slice_split is_space line) 2)) false
+is_head_line line = unwrap_or (option_map is_head_word (word_of line)) false
 
 -- the line of a number, and an empty one past the end
 abbrev pub line_at : List (List ℕ) → ℕ → List ℕ

@@ -68,6 +68,7 @@ fn is_opened(config: &Config, head: &[Entry], line: &[u8]) -> bool
 }
 
 // Whether one of these lines is that of an entry.
+#[tactic(auto, using(crate::proofs::ToldLines::any_mapped))]
 fn is_told(config: &Config, entry: &Entry, lines: &[&[u8]]) -> bool
     ensures { result ≡ follows.is_told config.now entry.now (octets_of lines.now) }
 {
@@ -82,6 +83,7 @@ fn is_opening(entry: &Entry) -> bool
 }
 
 // The first lines, so many of them, or all.
+#[tactic(auto, using(crate::proofs::ToldLines::first_few))]
 fn first_lines<'l, 't>(lines: &'l [&'t [u8]], count: usize) -> &'l [&'t [u8]]
     ensures { octets_of result.now ≡ take count (octets_of lines.now) }
 {

@@ -1,19 +1,19 @@
 //! A period that has ended.
-ghost use Rattle.std.specs.Prelude.{◌≡◌, ◌<◌, ◌^◌, pos, option_map, IfSome, IsTrue, ◌↔◌};
+ghost use Rattle.std.specs.Prelude.{◌≡◌, ◌<◌, ◌^◌, pos, length, option_map, IfSome, IsTrue, ◌↔◌};
 ghost use Rattle.std.specs.Option.{option_copied};
 ghost use Rattle.ilp_assets.specs.Assets.{plain_asset};
 ghost use Rattle.ilp_accounts.specs.Valid.{IsValid};
 ghost use Rattle.ilp_journal.specs.Balance.{balance};
 ghost use Rattle.ilp_journal.specs.BroughtForward.{earlier_key_at};
 ghost use Rattle.ilp_journal.specs.Credits.{credit_at};
-ghost use Rattle.ilp_journal.specs.Journal.{open_ask_at};
+ghost use Rattle.ilp_journal.specs.Journal.{open_ask_at, open_hold_at};
 ghost use Rattle.ilp_rules.specs.Book.{moment_at};
 ghost use Rattle.ilp_rules.specs.Configured.{IsKnown};
 ghost use Rattle.ilp_next_period.specs.NextPeriod.{peer_asset, place_in_next};
 
 use ilp_accounts::Config;
 use ilp_assets::Asset;
-use ilp_journal::{Ask, Credited, Journal, Key};
+use ilp_journal::{Ask, Credited, Hold, Journal, Key};
 use ilp_rules::moment_at;
 use std::marker::Model;
 
@@ -88,6 +88,16 @@ impl<'k> EndedPeriod<'k> {
             (λ credit. IsKnown self.now.config credit.peer) }
     {
         self.journal.credit(number)
+    }
+
+    /// The hold of this number, if it is open.
+    pub(crate) fn open_hold(&self, number: u32) -> Option<Hold>
+        ensures { result ≡ open_hold_at self.now.entries number }
+    {
+        match self.journal.answer_of(number) {
+            None => self.journal.hold(number),
+            Some(_) => None,
+        }
     }
 
     /// The settlement of this number, if it is open.

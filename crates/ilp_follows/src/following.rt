@@ -1,6 +1,6 @@
 //! Whether the text of one period follows that of the one before.
-ghost use Rattle.std.specs.Prelude.{IfOk, IfErr};
-ghost use Rattle.ilp_follows.specs.Follows.{IsFollowedBy, IsWhyNotFollowed};
+ghost use Rattle.std.specs.Prelude.{◌≡◌, ◌↔◌, IsTrue, IfOk, IfErr, IfSome, IfNone};
+ghost use Rattle.ilp_follows.specs.Follows.{BeginWith, IsFollowedBy, IsOfPeriod, IsWhyNotFollowed, lines_behind};
 
 use crate::beginning::first_difference;
 use crate::ended::EndedPeriod;
@@ -29,7 +29,15 @@ pub fn follows(
     alloc: Global,
     ended: PeriodText<'_>,
     next: PeriodText<'_>,
-) -> Result<u32, FollowFault> {
+) -> Result<u32, FollowFault>
+    ensures follows { IfOk result
+        (IsFollowedBy ended.config.now ended.text.now next.config.now next.text.now) }
+    ensures refused { IfErr result
+        (IsWhyNotFollowed ended.config.now ended.text.now next.config.now next.text.now) }
+{
+    // They tell that both configurations are valid.
+    let _ = ended.config.peers();
+    let _ = next.config.peers();
     let read = read_period(alloc, ended.config, ended.text)?;
     let period = EndedPeriod {
         config: ended.config,
@@ -49,7 +57,9 @@ pub fn follows(
 }
 
 // Whether a text is of the period of this number.
-fn is_of_period(text: &[u8], number: u32) -> bool {
+fn is_of_period(text: &[u8], number: u32) -> bool
+    ensures { IsTrue result ↔ IsOfPeriod number text.now }
+{
     match JournalText::begin(text) {
         Ok(text) => text.period() == number,
         Err(_) => false,
@@ -61,7 +71,13 @@ fn difference(
     alloc: Global,
     next: PeriodText<'_>,
     head: &[Entry],
-) -> Result<Option<u32>, FollowFault> {
+) -> Result<Option<u32>, FollowFault>
+    ensures same { IfOk result (λ found. IfNone found
+        (BeginWith next.config.now head.now (lines_behind next.text.now))) }
+    ensures other { IfOk result (λ found. IfSome found
+        (λ n. ¬ (BeginWith next.config.now head.now (lines_behind next.text.now)))) }
+    ensures denied { IfErr result (λ fault. fault ≡ FollowFault.Memory) }
+{
     let lines = lines_of(alloc, next.text)?;
     let behind = lines.get(1..).unwrap_or(&[]);
     match first_difference(next.config, head, behind) {

@@ -1,16 +1,18 @@
 //! What a period hands on: the head of the next one's journal.
-ghost use Rattle.std.specs.Prelude.{◌≡◌, ◌<◌, ◌^◌, ◌++◌, pos, codes, string_bytes, IfOk, OnOk};
+ghost use Rattle.std.specs.Prelude.{◌≡◌, ◌++◌, [], pos, length, option_map, string_bytes, IfOk, OnOk};
+ghost use Rattle.std.specs.List.{cons_option};
 ghost use Rattle.std.specs.Fmt.{decimal};
-ghost use Rattle.ilp_journal.specs.Keys.{IsKey};
+ghost use Rattle.ilp_journal.specs.BroughtForward.{earlier_balance, earlier_place};
 ghost use Rattle.ilp_rules.specs.Configured.{IsKnown};
-ghost use Rattle.ilp_rules.specs.Heads.{settlement_key_of};
-ghost use Rattle.ilp_next_period.specs.NextPeriod.{next_head};
-ghost use Rattle.ilp_follows.specs.Follows.{MayHandOn};
+ghost use Rattle.ilp_rules.specs.Heads.{period_mark, settlement_key_of};
+ghost use Rattle.ilp_rules.specs.SettlementKeys.{settlement_key_at};
+ghost use Rattle.ilp_next_period.specs.NextPeriod.{next_credit, next_head, next_opening, places_by_name};
+ghost use Rattle.ilp_follows.specs.Follows.{MayHandOn, booked_in_head, credits_of, openings_of, settlements_of, settlement_on};
 
 use crate::ended::EndedPeriod;
 use ilp_accounts::Config;
 use ilp_journal::head::{known, opened, pending};
-use ilp_journal::{Ask, Entry, Key};
+use ilp_journal::{Entry, Key};
 use std::alloc::{AllocError, Global};
 
 impl<'k> EndedPeriod<'k> {
@@ -20,6 +22,7 @@ impl<'k> EndedPeriod<'k> {
     /// It is refused where memory is short alone.
     pub(crate) fn head(&self, alloc: Global, config: &Config) -> Result<Vec<Entry>, AllocError>
         requires may { MayHandOn self.now config.now }
+        ensures { IfOk result (λ head. head.items ≡ next_head self.now config.now (pos 0)) }
     {
         let mut head = Vec::new(alloc);
         self.open_balances(config, &mut head)?;
@@ -31,22 +34,37 @@ impl<'k> EndedPeriod<'k> {
     // Brings the balances forward, in the order of the configuration's peers.
     fn open_balances(&self, config: &Config, head: &mut Vec<Entry>) -> Result<(), AllocError>
         requires may { MayHandOn self.now config.now }
+        ensures { OnOk result (head.new.items
+            ≡ head.old.items ++ openings_of self.now config.now (length config.now.peers)) }
     {
         for place in 0..config.peers() {
-            if let Some(entry) = opened(self.moment(), place, self.balance_at(config, place)) {
-                head.push(entry)?;
-            }
+            let entry = self.opening_at(config, place);
+            push_some(head, entry)?;
         }
         Ok(())
+    }
+
+    // The opening of the balance of the peer that has this place in the configuration, if it is not 0.
+    fn opening_at(&self, config: &Config, place: u32) -> Option<Entry>
+        requires there { IsKnown config.now place }
+        requires may { MayHandOn self.now config.now }
+        ensures { result
+            ≡ option_map (booked_in_head self.now) (next_opening self.now config.now place) }
+    {
+        opened(self.moment(), place, self.balance_at(config, place))
     }
 
     // The balance that the peer of this place in the configuration has here: 0 of a new one.
     fn balance_at(&self, config: &Config, place: u32) -> i64
         requires there { IsKnown config.now place }
         requires may { MayHandOn self.now config.now }
+        ensures { result ≡ earlier_balance self.now.entries
+            (earlier_place (places_by_name self.now.config config.now) place) }
     {
+        // They tell that the configuration is valid.
+        let _ = config.peers();
         match self.config().peer_by_name(config.name(place).as_bytes()) {
-            Some(peer) => i64::try_from(self.balance(peer)).unwrap_or(0),
+            Some(peer) => self.balance(peer) as i64,
             None => 0,
         }
     }
@@ -57,11 +75,13 @@ impl<'k> EndedPeriod<'k> {
         alloc: Global,
         config: &Config,
         head: &mut Vec<Entry>,
-    ) -> Result<(), AllocError> {
+    ) -> Result<(), AllocError>
+        ensures { OnOk result (head.new.items
+            ≡ head.old.items ++ credits_of self.now config.now (length self.now.entries)) }
+    {
         for number in 0..self.len() {
-            if let Some(entry) = self.credit_forward(alloc, config, number)? {
-                head.push(entry)?;
-            }
+            let entry = self.credit_forward(alloc, config, number)?;
+            push_some(head, entry)?;
         }
         Ok(())
     }
@@ -72,7 +92,10 @@ impl<'k> EndedPeriod<'k> {
         alloc: Global,
         config: &Config,
         number: u32,
-    ) -> Result<Option<Entry>, AllocError> {
+    ) -> Result<Option<Entry>, AllocError>
+        ensures { IfOk result (λ entry. entry
+            ≡ option_map (booked_in_head self.now) (next_credit self.now config.now number)) }
+    {
         let Some(credit) = self.credit_of(number) else {
             return Ok(None);
         };
@@ -89,11 +112,13 @@ impl<'k> EndedPeriod<'k> {
         alloc: Global,
         config: &Config,
         head: &mut Vec<Entry>,
-    ) -> Result<(), AllocError> {
+    ) -> Result<(), AllocError>
+        ensures { OnOk result (head.new.items
+            ≡ head.old.items ++ settlements_of self.now config.now (length self.now.entries)) }
+    {
         for number in 0..self.len() {
-            if let Some(entry) = self.settlement_forward(alloc, config, number)? {
-                head.push(entry)?;
-            }
+            let entry = self.settlement_forward(alloc, config, number)?;
+            push_some(head, entry)?;
         }
         Ok(())
     }
@@ -104,31 +129,29 @@ impl<'k> EndedPeriod<'k> {
         alloc: Global,
         config: &Config,
         number: u32,
-    ) -> Result<Option<Entry>, AllocError> {
+    ) -> Result<Option<Entry>, AllocError>
+        ensures { IfOk result (λ entry. entry
+            ≡ option_map (booked_in_head self.now) (settlement_on self.now config.now number)) }
+    {
         let Some(ask) = self.open_ask(number) else {
             return Ok(None);
         };
         let Some(place) = self.place_in(config, ask.peer) else {
             return Ok(None);
         };
-        let entry = self.pending_entry(alloc, place, ask, number)?;
+        let key = self.key_of(alloc, number)?;
+        let entry = pending(alloc, self.moment(), place, ask.amount, &key)?;
         Ok(Some(entry))
     }
 
-    // A settlement that is brought forward: under the key that it has, which it keeps.
-    fn pending_entry(
-        &self,
-        alloc: Global,
-        place: u32,
-        ask: Ask,
-        number: u32,
-    ) -> Result<Entry, AllocError> {
+    // The key that the settlement of this number has: the one of an earlier period, or its own.
+    fn key_of(&self, alloc: Global, number: u32) -> Result<Key, AllocError>
+        ensures { IfOk result (λ key. key
+            ≡ settlement_key_at self.now.config self.now.period self.now.entries number) }
+    {
         match self.earlier_key(number) {
-            Some(key) => pending(alloc, self.moment(), place, ask.amount, key),
-            None => {
-                let key = self.own_key(alloc, number)?;
-                pending(alloc, self.moment(), place, ask.amount, &key)
-            }
+            Some(key) => key.copied(alloc),
+            None => self.own_key(alloc, number),
         }
     }
 
@@ -144,8 +167,23 @@ impl<'k> EndedPeriod<'k> {
     }
 }
 
+// Adds an entry, if there is one.
+fn push_some(head: &mut Vec<Entry>, entry: Option<Entry>) -> Result<(), AllocError>
+    ensures { OnOk result (head.new.items ≡ head.old.items ++ cons_option entry []) }
+{
+    match entry {
+        Some(entry) => match head.push(entry) {
+            Ok(()) => Ok(()),
+            Err(_) => Err(AllocError),
+        },
+        None => Ok(()),
+    }
+}
+
 // A key as a text: `RUN-N` in the first period, and `RUN.P-N` in the period P above 0.
-fn key_text(alloc: Global, run: &str, period: u32, number: u32) -> Result<String, AllocError> {
+fn key_text(alloc: Global, run: &str, period: u32, number: u32) -> Result<String, AllocError>
+    ensures { IfOk result (λ text. string_bytes text ≡ run.now ++ (period_mark period ++ decimal number)) }
+{
     if period == 0 {
         format!(in alloc; "{run}-{number}")
     } else {

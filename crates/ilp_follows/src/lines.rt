@@ -1,5 +1,5 @@
 //! The lines of a text.
-ghost use Rattle.std.specs.Prelude.{◌≡◌, IfOk};
+ghost use Rattle.std.specs.Prelude.{◌≡◌, IfOk, option_map};
 ghost use Rattle.std.specs.List.{slice_split};
 ghost use Rattle.ilp_journal_text.specs.Fields.{octets_of};
 ghost use Rattle.ilp_follows.specs.Follows as follows;
@@ -35,15 +35,37 @@ pub(crate) fn lines_of(alloc: Global, text: &[u8]) -> Result<Vec<&[u8]>, AllocEr
 pub(crate) fn is_line_of(config: &Config, entry: &Entry, line: &[u8]) -> bool
     ensures { result ≡ follows.is_line_of config.now entry.now line.now }
 {
-    entry_line(config, entry).as_slice().strip_suffix(b"\n") == Some(line)
+    let told = entry_line(config, entry);
+    without_end(told.as_slice()) == line
+}
+
+// A line without its end.
+fn without_end(line: &[u8]) -> &[u8]
+    ensures { result.now ≡ follows.without_end line.now }
+{
+    &line[..line.len().saturating_sub(1)]
 }
 
 /// Whether a line is one of what is brought forward.
 pub(crate) fn is_head_line(line: &[u8]) -> bool
     ensures { result ≡ follows.is_head_line line.now }
 {
-    match line.split(|octet| *octet == b' ').nth(WORD) {
-        Some(word) => word == OPENED || word == KNOWN || word == PENDING,
+    match word_of(line) {
+        Some(word) => is_head_word(word),
         None => false,
     }
+}
+
+// The third field of a line, which says what happened.
+fn word_of(line: &[u8]) -> Option<&[u8]>
+    ensures { option_map (λ word. word.now) result ≡ follows.word_of line.now }
+{
+    line.split(|octet| *octet == b' ').nth(WORD)
+}
+
+// Whether this is the word of what is brought forward.
+fn is_head_word(word: &[u8]) -> bool
+    ensures { result ≡ follows.is_head_word word.now }
+{
+    word == OPENED || word == KNOWN || word == PENDING
 }

@@ -1,0 +1,4 @@
+mod ToldLines
+mod Standing
+mod Named
+mod Brought
