@@ -240,6 +240,7 @@ impl Pair<'_> {
         }
     }
 
+    #[tactic(auto, using(crate::proofs::NamedPeers::named_by))]
     fn follows(&self, alloc: Global, ended: &Config, next: &Config) -> Result<u32, FollowFault>
         ensures { IfErr result (NamesPeers ended.now) }
     {
