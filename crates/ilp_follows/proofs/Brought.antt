@@ -12,7 +12,7 @@ use Rattle.ilp_journal.specs.declared.entry.Credited.{Credited}
 use Rattle.ilp_journal.specs.Made.{filter_map_from}
 use Rattle.ilp_journal.specs.Journal.{Entries, as_ask, is_unclosed}
 use Rattle.ilp_journal.specs.Credits.{as_credit}
-use Rattle.ilp_journal.specs.BroughtForward.{credited_to, earlier_balance, earlier_key, known_credit, next_place, opening_of, pending_settlement, settlement_key}
+use Rattle.ilp_journal.specs.BroughtForward.{brought_forward, credited_to, earlier_balance, earlier_key, known_credit, next_place, opening_of, pending_settlement, settlement_key}
 use Rattle.ilp_rules.specs.Book.{PlainBook}
 use Rattle.ilp_rules.specs.Heads.{settlement_key_of}
 use Rattle.ilp_next_period.specs.NextPeriod.{next_credit, next_head, next_opening, period_end, place_in_next, places_by_name}
@@ -86,6 +86,7 @@ module _ (book : PlainBook) (next : Configuration) where
 
   -- all of them are the head
   pub all_brought : openings_of book next (length next.peers) ++ (credits_of book next (length j) ++ settlements_of book next (length j)) ≡ next_head book next (pos 0)
+  unfolding brought_forward
   all_brought =
       let count : length places ≡ length next.peers = length-map (peer_names next.peers) (place_named (peer_names book.config.peers)) ∙ length-map next.peers (λ (p : PlainPeer). p.name) in
       let whole : take (length next.peers) places ≡ places = ap (λ k. take k places) (sym count) ∙ take-length places in

@@ -1,4 +1,5 @@
 mod ToldLines
 mod Standing
 mod Named
+mod OwnKey
 mod Brought

@@ -3,7 +3,8 @@ use Rattle.std.proofs.Common.{◌≡◌, ◌≢◌, ℕ, zero, suc, ◌+◌, ◌
 use Rattle.std.specs.Prelude.{IsNone, is_none}
 use Rattle.std.specs.Str.{bytes_eq}
 use Rattle.std.proofs.lemmas.Bool.{cases_lt, eqb-true, eq-eqb}
-use Rattle.std.proofs.lemmas.Option.{slice_get_within, slice_get_past}
+use Rattle.std.proofs.lemmas.Option.{get_or_from_slice_get, slice_get_within, slice_get_past}
+use Rattle.std.proofs.lemmas.List.Elements.{All-get_or}
 use Rattle.std.proofs.lemmas.Slice.Eq.{bytes_eq-Decides}
 use Rattle.ilp_accounts.specs.Configuration.{Configuration}
 use Rattle.ilp_journal.specs.declared.entry.Entry.{Entry}
@@ -51,9 +52,7 @@ ask_peer C (what.Pending peer amount key) stands = stands.0
 
 -- what holds of all holds of the one at a place
 all_at : {X : Type 0} (P : X → Type 0) (xs : List X) (n : ℕ) (x : X) → All P xs → slice_get xs n ≡ Some x → P x
-all_at P [] n x all at = absurd cc
-all_at P (y ∷ ys) zero x all at = let same : y ≡ x = cc in subst P same all.0
-all_at P (y ∷ ys) (suc n) x all at = all_at P ys n x all.1 at
+all_at P xs n x all at = subst P (get_or_from_slice_get xs n x x at) (All-get_or P xs n x (slice_get_within xs n x at) all)
 
 module _ (C : Configuration) (period : ℕ) (j : Entries) (stand : All (StandsIn C period) j) where
   pub credit_known : (n : ℕ) → IfSome (credit_at j n) (λ (c : Credited). IsKnown C c.peer)
@@ -100,7 +99,12 @@ module _ (j : Entries) (p : ℕ) where
   zero_from : (s : ℕ) (xs : Entries) → ((k : ℕ) (e : Entry) → slice_get xs k ≡ Some e → counted (s + k) e ≡ 0) → sum_from counted s xs ≡ 0
   zero_from s [] none = refl
   zero_from s (e ∷ es) none =
-      omega (arith, subst (λ k. counted k e ≡ 0) (omega arith) (none 0 e refl), zero_from (s + 1) es (λ k d at. subst (λ i. counted i d ≡ 0) (omega arith) (none (suc k) d at)))
+      let front : s + 0 ≡ s = omega arith in
+      let here : counted s e ≡ 0 = subst (λ k. counted k e ≡ 0) front (none 0 e refl) in
+      omega (arith, here, zero_from (s + 1) es (λ k d at. one k d (none (suc k) d at)))
+    where
+      one : (k : ℕ) (d : Entry) → counted (s + suc k) d ≡ 0 → counted (s + 1 + k) d ≡ 0
+      one k d is = let same : s + suc k ≡ s + 1 + k = omega arith in subst (λ i. counted i d ≡ 0) same is
 
   at_least : (s : ℕ) (xs : Entries) (k : ℕ) (e : Entry) → slice_get xs k ≡ Some e → counted (s + k) e ≤ sum_from counted s xs
   at_least s [] k e at = absurd cc
@@ -130,11 +134,15 @@ module _ (j : Entries) (p : ℕ) where
 
   -- none is open where none is found
   pub all_paid : (count : ℕ) → length j ≤ count → ((n : ℕ) → n < count → is_unpaid_at j p n ≡ false) → open_asks j p ≡ 0
-  all_paid count all none =
-      zero_from 0 j (λ k e at. subst (λ i. counted i e ≡ 0) (omega arith) (counted_as k e at ∙ ap (λ b. cond b 1 0) (none k (omega (arith, all, slice_get_within j k e at)))))
+  unfolding open_asks
+  all_paid count all none = zero_from 0 j (λ k e at. one k e (counted_as k e at ∙ ap (λ b. cond b 1 0) (none k (omega (arith, all, slice_get_within j k e at)))))
+    where
+      one : (k : ℕ) (e : Entry) → counted k e ≡ 0 → counted (0 + k) e ≡ 0
+      one k e is = let same : k ≡ 0 + k = omega arith in subst (λ i. counted i e ≡ 0) same is
 
   -- and one is where one is found
   pub one_unpaid : (n : ℕ) → is_unpaid_at j p n ≡ true → open_asks j p ≢ 0
+  unfolding open_asks
   one_unpaid n found none = of (slice_get j n) refl
     where
       by : (b : Bool) → unwrap_or (option_map (λ (a : Ask). a.peer == p) (cond b (option_and_then (λ (d : Entry). as_ask d.what) None) None)) false ≡ false

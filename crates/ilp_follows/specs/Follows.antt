@@ -14,7 +14,7 @@ use Rattle.ilp_journal.specs.Balance.{balance}
 use Rattle.ilp_journal.specs.BroughtForward.{earlier_balance, head_entry, known_credit, opening_of, pending_settlement}
 use Rattle.ilp_journal.specs.Made.{filter_map_from}
 use Rattle.ilp_journal_text.specs.Text.{first_line, entry_line}
-use Rattle.ilp_journal_text.specs.Reading.{IsTextOf}
+use Rattle.ilp_journal_text.specs.Reading.{IsTextOf, LacksFirstLine}
 use Rattle.ilp_journal_text.specs.declared.reading.TextFault.{TextFault}
 use Rattle.ilp_journal_text.specs.declared.reading.TextFault.TheVariants as text_fault
 use Rattle.ilp_rules.specs.Book.{PlainBook, moment_at}
@@ -178,14 +178,20 @@ pub record IsWhyNotHandedOn (C : Configuration) (text : List ℕ) (next : Config
   pub ended : IsTextOf C period entries text
   pub wants : Wants (ended_book C period entries)
 
--- the next text is of another period, or begins otherwise
+-- the next text is of another period than this, or of none
+abbrev pub IsOfOther : ℕ → List ℕ → Option ℕ → Type 0
+IsOfOther number text None = LacksFirstLine text
+IsOfOther number text (Some other) = IsOfPeriod other text × (other ≢ number)
+
+-- it does not begin with what comes of a book
 abbrev pub BeginsOtherwise : Configuration → List ℕ → PlainBook → Type 0
-BeginsOtherwise next next_text book = IsOfPeriod (book.period + 1) next_text → ¬ (BeginWith next (next_head book next (pos 0)) (lines_behind next_text))
+BeginsOtherwise next next_text book = ¬ (BeginWith next (next_head book next (pos 0)) (lines_behind next_text))
 
 abbrev pub IsWhyNotFollowed : Configuration → List ℕ → Configuration → List ℕ → FollowFault → Type 0
 IsWhyNotFollowed C text next next_text (fault.BadLine line) = ⊤
 IsWhyNotFollowed C text next next_text (fault.NamesNothing entry) = ⊤
 IsWhyNotFollowed C text next next_text (fault.Closing why) = IsWhyNotHandedOn C text next (λ book. IsWhyNotClosed book next (pos 0) why)
+IsWhyNotFollowed C text next next_text (fault.OtherPeriod found) = IsWhyNotHandedOn C text next (λ book. IsOfOther (book.period + 1) next_text found)
 IsWhyNotFollowed C text next next_text (fault.Differs entry) = IsWhyNotHandedOn C text next (BeginsOtherwise next next_text)
 IsWhyNotFollowed C text next next_text fault.Memory = ⊤
 

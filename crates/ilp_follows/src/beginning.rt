@@ -1,5 +1,7 @@
 //! Whether lines begin with those of a head.
-ghost use Rattle.std.specs.Prelude.{◌≡◌, take, IfNone, IfSome};
+ghost use Rattle.std.specs.Prelude.{◌≡◌, ℕ, List, take, IfNone, IfSome};
+ghost use Rattle.std.specs.Borrow.{Bor};
+ghost use Rattle.std.specs.List.{list_any};
 ghost use Rattle.ilp_journal_text.specs.Fields.{octets_of};
 ghost use Rattle.ilp_follows.specs.Follows as follows;
 ghost use Rattle.ilp_follows.specs.Follows.{BeginWith};
@@ -68,9 +70,15 @@ fn is_opened(config: &Config, head: &[Entry], line: &[u8]) -> bool
 }
 
 // Whether one of these lines is that of an entry.
-#[tactic(auto, using(crate::proofs::ToldLines::any_mapped))]
 fn is_told(config: &Config, entry: &Entry, lines: &[&[u8]]) -> bool
     ensures { result ≡ follows.is_told config.now entry.now (octets_of lines.now) }
+{
+    is_among(config, entry, lines)
+}
+
+fn is_among(config: &Config, entry: &Entry, lines: &[&[u8]]) -> bool
+    ensures { result
+        ≡ list_any (λ (line : Bor (List ℕ)). follows.is_line_of config.now entry.now line.now) lines.now }
 {
     lines.iter().any(|line| is_line_of(config, entry, line))
 }

@@ -21,7 +21,10 @@ pub enum FollowFault {
     /// Its books can't be closed for a period of the next peers.
     #[error("{0}")]
     Closing(ForwardFault),
-    /// This entry of the next text is another one than what was brought forward: 0 where the period is another.
+    /// The next text is of this period, and not of the next one, or of none.
+    #[error("the period is another one")]
+    OtherPeriod { period: Option<u32> },
+    /// This entry of the next text is another one than what was brought forward.
     #[error("the entry {entry} is another one")]
     Differs { entry: u32 },
     /// Memory was denied, or there are more entries than numbers.

@@ -1,5 +1,6 @@
 //! Whether the text of one period follows that of the one before.
-ghost use Rattle.std.specs.Prelude.{◌≡◌, ◌↔◌, IsTrue, IfOk, IfErr, IfSome, IfNone};
+ghost use Rattle.std.specs.Prelude.{◌≡◌, IfOk, IfErr, IfSome, IfNone};
+ghost use Rattle.ilp_journal_text.specs.Reading.{LacksFirstLine};
 ghost use Rattle.ilp_follows.specs.Follows.{BeginWith, IsFollowedBy, IsOfPeriod, IsWhyNotFollowed, lines_behind};
 
 use crate::beginning::first_difference;
@@ -31,9 +32,9 @@ pub fn follows(
     next: PeriodText<'_>,
 ) -> Result<u32, FollowFault>
     ensures follows { IfOk result
-        (IsFollowedBy ended.config.now ended.text.now next.config.now next.text.now) }
+        (IsFollowedBy ended.entry.config.now ended.entry.text.now next.entry.config.now next.entry.text.now) }
     ensures refused { IfErr result
-        (IsWhyNotFollowed ended.config.now ended.text.now next.config.now next.text.now) }
+        (IsWhyNotFollowed ended.entry.config.now ended.entry.text.now next.entry.config.now next.entry.text.now) }
 {
     // They tell that both configurations are valid.
     let _ = ended.config.peers();
@@ -47,8 +48,9 @@ pub fn follows(
     period.judge_next(next.config)?;
     let head = period.head(alloc, next.config)?;
     let number = read.number + 1;
-    if !is_of_period(next.text, number) {
-        return Err(FollowFault::Differs { entry: 0 });
+    let found = period_of(next.text);
+    if found != Some(number) {
+        return Err(FollowFault::OtherPeriod { period: found });
     }
     match difference(alloc, next, &head)? {
         None => Ok(number),
@@ -56,13 +58,14 @@ pub fn follows(
     }
 }
 
-// Whether a text is of the period of this number.
-fn is_of_period(text: &[u8], number: u32) -> bool
-    ensures { IsTrue result ↔ IsOfPeriod number text.now }
+// The number of the period that a text is of, if it is of one.
+fn period_of(text: &[u8]) -> Option<u32>
+    ensures some { IfSome result (λ period. IsOfPeriod period text.now) }
+    ensures none { IfNone result (LacksFirstLine text.now) }
 {
     match JournalText::begin(text) {
-        Ok(text) => text.period() == number,
-        Err(_) => false,
+        Ok(text) => Some(text.period()),
+        Err(_) => None,
     }
 }
 
@@ -73,9 +76,9 @@ fn difference(
     head: &[Entry],
 ) -> Result<Option<u32>, FollowFault>
     ensures same { IfOk result (λ found. IfNone found
-        (BeginWith next.config.now head.now (lines_behind next.text.now))) }
+        (BeginWith next.entry.config.now head.now (lines_behind next.entry.text.now))) }
     ensures other { IfOk result (λ found. IfSome found
-        (λ n. ¬ (BeginWith next.config.now head.now (lines_behind next.text.now)))) }
+        (λ n. ¬ (BeginWith next.entry.config.now head.now (lines_behind next.entry.text.now)))) }
     ensures denied { IfErr result (λ fault. fault ≡ FollowFault.Memory) }
 {
     let lines = lines_of(alloc, next.text)?;

@@ -1,10 +1,10 @@
 //! What a period hands on: the head of the next one's journal.
-ghost use Rattle.std.specs.Prelude.{◌≡◌, ◌++◌, [], pos, length, option_map, string_bytes, IfOk, OnOk};
+ghost use Rattle.std.specs.Prelude.{◌≡◌, ◌++◌, [], pos, length, option_map, codes, string_bytes, IfOk, OnOk};
 ghost use Rattle.std.specs.List.{cons_option};
 ghost use Rattle.std.specs.Fmt.{decimal};
 ghost use Rattle.ilp_journal.specs.BroughtForward.{earlier_balance, earlier_place};
 ghost use Rattle.ilp_rules.specs.Configured.{IsKnown};
-ghost use Rattle.ilp_rules.specs.Heads.{period_mark, settlement_key_of};
+ghost use Rattle.ilp_rules.specs.Heads.{settlement_key_of};
 ghost use Rattle.ilp_rules.specs.SettlementKeys.{settlement_key_at};
 ghost use Rattle.ilp_next_period.specs.NextPeriod.{next_credit, next_head, next_opening, places_by_name};
 ghost use Rattle.ilp_follows.specs.Follows.{MayHandOn, booked_in_head, credits_of, openings_of, settlements_of, settlement_on};
@@ -159,7 +159,7 @@ impl<'k> EndedPeriod<'k> {
     fn own_key(&self, alloc: Global, number: u32) -> Result<Key, AllocError>
         ensures { IfOk result (λ key. key ≡ settlement_key_of self.now.config self.now.period number) }
     {
-        let text = key_text(alloc, self.config().run(), self.period(), number)?;
+        let text = key_text(alloc, self.config(), self.period(), number)?;
         match Key::new(alloc, text.as_bytes())? {
             Some(key) => Ok(key),
             None => unreachable!(),
@@ -180,13 +180,28 @@ fn push_some(head: &mut Vec<Entry>, entry: Option<Entry>) -> Result<(), AllocErr
     }
 }
 
-// A key as a text: `RUN-N` in the first period, and `RUN.P-N` in the period P above 0.
-fn key_text(alloc: Global, run: &str, period: u32, number: u32) -> Result<String, AllocError>
-    ensures { IfOk result (λ text. string_bytes text ≡ run.now ++ (period_mark period ++ decimal number)) }
+// The key as a text: `RUN-N` in the first period, and `RUN.P-N` in the period P above 0.
+fn key_text(alloc: Global, config: &Config, period: u32, number: u32) -> Result<String, AllocError>
+    ensures { IfOk result (λ text. string_bytes text ≡ settlement_key_of config.now period number) }
 {
     if period == 0 {
-        format!(in alloc; "{run}-{number}")
+        first_key(alloc, config.run(), number)
     } else {
-        format!(in alloc; "{run}.{period}-{number}")
+        later_key(alloc, config.run(), period, number)
     }
+}
+
+// That of the first period.
+fn first_key(alloc: Global, run: &str, number: u32) -> Result<String, AllocError>
+    ensures { IfOk result (λ text. string_bytes text ≡ run.now ++ (codes "-" ++ decimal number)) }
+{
+    format!(in alloc; "{run}-{number}")
+}
+
+// That of a later one.
+fn later_key(alloc: Global, run: &str, period: u32, number: u32) -> Result<String, AllocError>
+    ensures { IfOk result (λ text. string_bytes text
+        ≡ run.now ++ (codes "." ++ (decimal period ++ (codes "-" ++ decimal number)))) }
+{
+    format!(in alloc; "{run}.{period}-{number}")
 }

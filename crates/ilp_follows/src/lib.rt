@@ -1,5 +1,7 @@
-//! Whether the text of one period follows that of the one before, by the names, the assets and the run that each had, and
-//! by no rule of a configuration: a start has judged these, and what a chain of periods is judged by is kept beside it.
+//! Whether the text of a period follows that of the one before.
+//!
+//! It is judged by the names, the assets and the run that each had, and by no rule of a configuration: a start has judged
+//! by these.
 //!
 //! # What is proved
 //!

@@ -25,5 +25,6 @@ pub named_by : (C : Configuration) (text : List ℕ) (next : Configuration) (nex
 named_by C text next next_text (follow_fault.BadLine line) why = tt
 named_by C text next next_text (follow_fault.NamesNothing entry) why = tt
 named_by C text next next_text (follow_fault.Closing because) why = closed_by _ next because why.wants
+named_by C text next next_text (follow_fault.OtherPeriod found) why = tt
 named_by C text next next_text (follow_fault.Differs entry) why = tt
 named_by C text next next_text follow_fault.Memory why = tt

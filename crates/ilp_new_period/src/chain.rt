@@ -286,6 +286,10 @@ impl Pair<'_> {
                 Refusal::from(fault),
                 why_closed(alloc, ended, next, fault),
             ),
+            FollowFault::OtherPeriod { period } => Refused::because(
+                Refusal::NotFollowing { entry: 0 },
+                why_other(alloc, path, next_path, period),
+            ),
             FollowFault::Differs { entry } => Refused::because(
                 Refusal::NotFollowing { entry },
                 format!(in alloc;
@@ -293,6 +297,27 @@ impl Pair<'_> {
                 ),
             ),
             FollowFault::Memory => Refused::from(Refusal::Memory),
+        }
+    }
+}
+
+// Why a text of another period doesn't follow, for a person.
+fn why_other(
+    alloc: Global,
+    path: &str,
+    next_path: &str,
+    period: Option<u32>,
+) -> Result<String, AllocError> {
+    match period {
+        Some(period) => {
+            format!(in alloc;
+                "{next_path:?} is of the period {period}, and not of the one behind {path:?}"
+            )
+        }
+        None => {
+            format!(in alloc;
+                "{next_path:?} is the text of no period, and not of the one behind {path:?}"
+            )
         }
     }
 }

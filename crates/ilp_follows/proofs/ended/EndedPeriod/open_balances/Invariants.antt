@@ -1,6 +1,6 @@
 use Rattle.std.proofs.Common.{◌≡◌, ◌++◌}
 use Rattle.ilp_follows.specs.Follows.{openings_of}
-use Rattle.ilp_follows.proofs.handing_on.EndedPeriod.open_balances.Given as goal
+use Rattle.ilp_follows.proofs.ended.EndedPeriod.open_balances.Given as goal
 
 -- the balances so far are opened
 abbrev pub invariant-loop-place : goal.invariant-loop-place

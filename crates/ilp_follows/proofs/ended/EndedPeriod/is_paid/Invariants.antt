@@ -1,6 +1,6 @@
 use Rattle.std.proofs.Common.{◌≡◌, ℕ, ◌<◌, false}
 use Rattle.ilp_follows.specs.Follows.{is_unpaid_at}
-use Rattle.ilp_follows.proofs.judging.EndedPeriod.is_paid.Given as goal
+use Rattle.ilp_follows.proofs.ended.EndedPeriod.is_paid.Given as goal
 
 -- none so far is open to the peer
 abbrev pub invariant-loop-number : goal.invariant-loop-number

@@ -1,6 +1,6 @@
 use Rattle.std.proofs.Common.{◌≡◌, ◌≤◌, Err, length, arith, rules}
 use Rattle.ilp_follows.proofs.Standing.{no_other_keys}
-use Rattle.ilp_follows.proofs.judging.EndedPeriod.judge_keys.Goals as goal
+use Rattle.ilp_follows.proofs.ended.EndedPeriod.judge_keys.Goals as goal
 
 pub returns-in_err-judge_key-clause-err : goal.returns-in_err-judge_key-clause-err
 returns-in_err-judge_key-clause-err c =

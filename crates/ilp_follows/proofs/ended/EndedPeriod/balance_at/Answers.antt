@@ -8,7 +8,7 @@ use Rattle.ilp_journal.specs.Balance.{balance}
 use Rattle.ilp_journal.specs.BroughtForward.{earlier_balance, earlier_place}
 use Rattle.ilp_next_period.specs.NextPeriod.{places_by_name}
 use Rattle.ilp_follows.proofs.Named.{balance_fits, found_earlier}
-use Rattle.ilp_follows.proofs.handing_on.EndedPeriod.balance_at.Goals as goal
+use Rattle.ilp_follows.proofs.ended.EndedPeriod.balance_at.Goals as goal
 
 -- a balance that is brought forward has 64 bits
 pub overflow_cast-result : goal.overflow_cast-result

@@ -1,6 +1,6 @@
 use Rattle.std.proofs.Common.{◌≡◌, ◌++◌}
 use Rattle.ilp_follows.specs.Follows.{credits_of}
-use Rattle.ilp_follows.proofs.handing_on.EndedPeriod.bring_credits.Given as goal
+use Rattle.ilp_follows.proofs.ended.EndedPeriod.bring_credits.Given as goal
 
 -- the credits so far are brought forward
 abbrev pub invariant-loop-number : goal.invariant-loop-number

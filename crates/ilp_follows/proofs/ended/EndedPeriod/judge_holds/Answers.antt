@@ -1,6 +1,6 @@
 use Rattle.std.proofs.Common.{◌≡◌, ◌≤◌, length, arith}
 use Rattle.ilp_follows.proofs.Standing.{none_open}
-use Rattle.ilp_follows.proofs.judging.EndedPeriod.judge_holds.Goals as goal
+use Rattle.ilp_follows.proofs.ended.EndedPeriod.judge_holds.Goals as goal
 
 -- all entries were looked at
 pub returns-clause-closed : goal.returns-clause-closed

@@ -7,7 +7,7 @@ use Rattle.ilp_journal.specs.declared.entry.Credited.{Credited}
 use Rattle.ilp_rules.specs.Configured.{IsKnown}
 use Rattle.ilp_next_period.specs.NextPeriod.{peer_asset}
 use Rattle.ilp_follows.proofs.Standing.{is_used}
-use Rattle.ilp_follows.proofs.judging.EndedPeriod.judge_key.Goals as goal
+use Rattle.ilp_follows.proofs.ended.EndedPeriod.judge_key.Goals as goal
 
 -- the peer has a key, and another asset
 pub returns-then-not-has_same_asset-clause-err : goal.returns-then-not-has_same_asset-clause-err

@@ -1,5 +1,5 @@
 use Rattle.std.proofs.Common.{◌≡◌, Err, rules}
-use Rattle.ilp_follows.proofs.judging.EndedPeriod.judge_peers.Goals as goal
+use Rattle.ilp_follows.proofs.ended.EndedPeriod.judge_peers.Goals as goal
 
 pub returns-in_err-judge_peer-clause-err : goal.returns-in_err-judge_peer-clause-err
 returns-in_err-judge_peer-clause-err c =

@@ -1,6 +1,6 @@
 use Rattle.std.proofs.Common.{◌≡◌, ◌++◌}
 use Rattle.ilp_follows.specs.Follows.{settlements_of}
-use Rattle.ilp_follows.proofs.handing_on.EndedPeriod.bring_settlements.Given as goal
+use Rattle.ilp_follows.proofs.ended.EndedPeriod.bring_settlements.Given as goal
 
 -- the settlements so far are brought forward
 abbrev pub invariant-loop-number : goal.invariant-loop-number
