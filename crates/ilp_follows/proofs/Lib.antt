@@ -3,3 +3,4 @@ mod Standing
 mod Named
 mod OwnKey
 mod Brought
+mod Refusing

@@ -195,6 +195,13 @@ IsWhyNotFollowed C text next next_text (fault.OtherPeriod found) = IsWhyNotHande
 IsWhyNotFollowed C text next next_text (fault.Differs entry) = IsWhyNotHandedOn C text next (BeginsOtherwise next next_text)
 IsWhyNotFollowed C text next next_text fault.Memory = ⊤
 
+-- a fault is one of the text that is read
+abbrev pub IsOfReading : FollowFault → Type 0
+IsOfReading (fault.BadLine line) = ⊤
+IsOfReading (fault.NamesNothing entry) = ⊤
+IsOfReading fault.Memory = ⊤
+IsOfReading _ = ⊥
+
 -- the fault of a text that is not read
 abbrev pub reading_fault : TextFault → FollowFault
 reading_fault (text_fault.BadLine line) = fault.BadLine line

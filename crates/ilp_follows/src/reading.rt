@@ -1,7 +1,8 @@
 //! The entries of a text.
-ghost use Rattle.std.specs.Prelude.{◌≡◌, ◌∷◌, ◌++◌, [], ◌↔◌, IsTrue, IfOk, OnOk};
+ghost use Rattle.std.specs.Prelude.{◌≡◌, ◌∷◌, ◌++◌, [], ◌↔◌, IsTrue, IfErr, IfOk, OnOk};
 ghost use Rattle.ilp_journal.specs.Journal.{AnswersHold, ClosesAsk};
 ghost use Rattle.ilp_journal_text.specs.Reading.{IsTextOf};
+ghost use Rattle.ilp_follows.specs.Follows.{IsOfReading};
 
 use crate::fault::FollowFault;
 use ilp_accounts::Config;
@@ -24,7 +25,8 @@ pub(crate) fn read_period(
     config: &Config,
     text: &[u8],
 ) -> Result<ReadPeriod, FollowFault>
-    ensures { IfOk result (λ read. IsTextOf config.now read.number read.journal.entries text.now) }
+    ensures ok { IfOk result (λ read. IsTextOf config.now read.number read.journal.entries text.now) }
+    ensures refused { IfErr result IsOfReading }
 {
     let mut lines = JournalText::begin(text)?;
     let mut read = ReadPeriod {
@@ -43,6 +45,7 @@ impl ReadPeriod {
         ensures entries { OnOk result
             (self.new.journal.entries ≡ self.old.journal.entries ++ entry ∷ []) }
         ensures number { self.new.number ≡ self.old.number }
+        ensures refused { IfErr result IsOfReading }
     {
         let number = self.journal.len();
         if !names_earlier(&self.journal, &entry) {

@@ -6,7 +6,7 @@ use Rattle.ilp_follows.proofs.ended.EndedPeriod.is_paid.Goals as goal
 -- this one is open
 pub returns-then-is_unpaid_by : goal.returns-then-is_unpaid_by
 returns-then-is_unpaid_by c =
-    let found : is_unpaid_at c.args.self.now.entries c.args.peer c.loop-number.number ≡ true = sym c.is_unpaid_by.ensures ∙ sym c.if-is_unpaid_by.true in
+    let found : is_unpaid_at c.args.self.now.entries c.args.peer c.loop-number.number ≡ true = sym c.is_unpaid_by.ensures ∙ c.if-is_unpaid_by.true in
     (λ is. cc, λ paid. absurd (one_unpaid c.args.self.now.entries c.args.peer c.loop-number.number found paid))
 
 -- all were looked at
