@@ -5,9 +5,11 @@
 //!
 //! # What is proved
 //!
-//! - `follows` answers only where the next text begins with just what the one before brings forward, balances in any
-//!   order, and that may be brought forward (`specs/Follows.antt`, `IsFollowedBy`); else it names what is wanting
-//!   (`IsWhyNotFollowed`).
+//! - `follows` answers only where the text before is one of peers of its configuration, its books may be brought forward
+//!   to the next peers as far as names, assets and the run say (`specs/Follows.antt`, `MayHandOn`), and the next text is
+//!   of the period behind it and begins with just what `ilp_next_period` defines as its head, balances in any order
+//!   (`IsFollowedBy`, `BeginWith`). Else the fault names what is wanting (`IsWhyNotFollowed`); of a line or an entry of
+//!   the text before that can't be read it says no more, and neither of memory.
 #![tactic(auto)]
 
 mod beginning;

@@ -220,17 +220,16 @@ impl Pair<'_> {
         }
     }
 
-    // The same by two of these configurations, or twice by one; else what is in the way by the first two.
+    // The same by two of these configurations, or twice by one; else what is in the way by the first of them.
     fn judge_by(&self, alloc: Global, given: &[Config]) -> Result<u32, Refused> {
         let mut refused = None;
         for ended in given {
-            for next in given {
-                match self.follows(alloc, ended, next) {
-                    Ok(number) => return Ok(number),
-                    Err(fault) if refused.is_none() => {
-                        refused = Some(self.refused(alloc, ended, next, fault));
+            match self.judge_behind(alloc, ended, given) {
+                Ok(number) => return Ok(number),
+                Err(why) => {
+                    if refused.is_none() {
+                        refused = why;
                     }
-                    Err(_) => {}
                 }
             }
         }
@@ -238,6 +237,28 @@ impl Pair<'_> {
             Some(refused) => Err(refused),
             None => Err(self.nothing_kept(alloc)),
         }
+    }
+
+    // The same by this one of the period that ended, and one of these of the next; else what is in the way by the first,
+    // if there is one.
+    fn judge_behind(
+        &self,
+        alloc: Global,
+        ended: &Config,
+        given: &[Config],
+    ) -> Result<u32, Option<Refused>> {
+        let mut refused = None;
+        for next in given {
+            match self.judge(alloc, ended, next) {
+                Ok(number) => return Ok(number),
+                Err(why) => {
+                    if refused.is_none() {
+                        refused = Some(why);
+                    }
+                }
+            }
+        }
+        Err(refused)
     }
 
     #[tactic(auto, using(crate::proofs::NamedPeers::named_by))]
