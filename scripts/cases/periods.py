@@ -139,10 +139,11 @@ def next_period_of_other_order(laboratory: Laboratory) -> None:
     for last in (closing.before, closing.next):
         words[3] = last
         expect("what follows says", closing.run(*words), (0, "period 1 follows period 0\n", ""))
+    head = "".join(begun.splitlines(keepends=True)[:4])
     other = r".+ has another entry {} than what was brought forward"
     for changed, entry in ((begun.replace("opened alice -30", "opened alice -29"), 1),
                            (begun.replace("opened bob 1030", "opened bob 1031"), 0),
-                           (re.sub(r"\d+ 0 opened bob 1030\n", "", begun).replace("end 5", "end 4"), 1)):
+                           (re.sub(r"\d+ 0 opened bob 1030\n", "", head) + "end 2\n", 1)):
         kept.path.write_text(changed)
         status, text, errors = closing.run(*words)
         expect("what it says of another", (status, text), (1, f"refused 80 NotFollowing {entry}\n"))
