@@ -1,4 +1,5 @@
 use Rattle.std.proofs.Common.{◌≡◌, ℕ, [], refl, subst, codes}
+use Rattle.std.specs.Fmt.{digits}
 use Rattle.ilp_accounts.specs.Configuration.{Configuration}
 use Rattle.ilp_journal.specs.Journal.{Entries}
 use Rattle.ilp_journal_text.specs.Text.{journal_text}
@@ -6,6 +7,7 @@ use Rattle.test_crash.proofs.tests.run.Goals as goal
 
 -- the text of a first period in which nothing was booked
 saved_none : (C : Configuration) (period : ℕ) (opening : Entries) → 0 ≡ period → [] ≡ opening → codes "ilp-journal 1\nend 0\n" ≡ journal_text C period opening
+unfolding digits
 saved_none C period opening first nothing =
     subst (λ (p : ℕ). codes "ilp-journal 1\nend 0\n" ≡ journal_text C p opening) first
     (subst (λ (o : Entries). codes "ilp-journal 1\nend 0\n" ≡ journal_text C 0 o) nothing refl)
