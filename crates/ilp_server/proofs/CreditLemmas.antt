@@ -90,10 +90,14 @@ whole_payment : {J : Type 0} (desk : PlainDesk) (peer : ℕ) (key body : List �
     → BeginsPayment desk peer key body before left course → IsEndedAs course left after outcome → ServesPayment desk peer key body before after outcome
 whole_payment desk peer key body before left after course outcome begun ended = elim begun [
   | inl none ↦ inl (none.0, none.1, over (unserved.Quantity none.0) before left after course outcome none.2 ended)
-  | inr some ↦ inr (some.0, some.1, elim some.2 [
+  | inr some ↦ inr (
+    some.0,
+    some.1,
+    elim some.2 [
       | inl short ↦ inl (over unserved.Memory before left after course outcome short ended)
       | inr half ↦ inr (comes (IsCreditOutcome desk peer some.0) desk (payment peer key some.0 Settled) before left after half.0 course outcome half.1 half.2 ended)
-    ])
+    ],
+  )
 ]
 
 pub whole_settlement : {J : Type 0} (desk : PlainDesk) (peer : ℕ) (headers : Entries FieldValue) (body : List ℕ) (before left after : PlainWorker) (course : CreditCourse J) (outcome : Result Served NotServed)
@@ -109,10 +113,14 @@ whole_body : {J : Type 0} (desk : PlainDesk) (peer : ℕ) (key body : List ℕ) 
     → BeginsCorrectionBody desk peer key body before left course → IsEndedAs course left after outcome → ServesCorrectionBody desk peer key body before after outcome
 whole_body desk peer key body before left after course outcome begun ended = elim begun [
   | inl none ↦ inl (none.0, none.1, over (unserved.Correction none.0) before left after course outcome none.2 ended)
-  | inr some ↦ inr (some.0, some.1, elim some.2 [
+  | inr some ↦ inr (
+    some.0,
+    some.1,
+    elim some.2 [
       | inl short ↦ inl (over unserved.Memory before left after course outcome short ended)
       | inr half ↦ inr (comes (IsCorrectionOutcome desk peer some.0) desk (payment peer key some.0.quantity (kind_of some.0)) before left after half.0 course outcome half.1 half.2 ended)
-    ])
+    ],
+  )
 ]
 
 pub whole_correction : {J : Type 0} (desk : PlainDesk) (peer : ℕ) (headers : Entries FieldValue) (body : List ℕ) (before left after : PlainWorker) (course : CreditCourse J) (outcome : Result Served NotServed)
