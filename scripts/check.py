@@ -19,7 +19,7 @@ import sys
 import time
 from pathlib import Path
 
-from cases import (advice, backups, bodies, clients, commands, conversations, corrections, ending, engines, in_flight,
+from cases import (advice, backups, bodies, chains, clients, commands, conversations, corrections, ending, engines, in_flight,
                    journal_files, journal_texts, journals, links, log_faults, logs, memory, operating, pages, payouts,
                    periods, reloading, remembered, running_periods, statements, strangers, telling,
                    telling_of_the_book, waiting)
@@ -29,7 +29,7 @@ from cases.laboratory import Laboratory
 # Each of them lists its cases as it is read.
 PARTS = (commands, pages, conversations, links, engines, payouts, corrections, clients, strangers, bodies, operating,
          memory, journals, journal_files, backups, advice, journal_texts, logs, log_faults, periods, running_periods,
-         statements, reloading, remembered, telling, telling_of_the_book, waiting, in_flight, ending)
+         chains, statements, reloading, remembered, telling, telling_of_the_book, waiting, in_flight, ending)
 
 # In seconds; the longest case takes a minute and some.
 MOST_OF_A_CASE = 90

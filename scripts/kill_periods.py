@@ -11,7 +11,7 @@ again, as it starts and as it closes. Another starts on what lies there, by itse
 what the one before brought forward, and none may have lost an entry; each Fulfill that a sender got, and each
 settlement that an engine was answered 201, has to stand in the journal of one period, once, with its amount; and each
 that an engine was asked for in one that asked for it or brought it forward under this key. All of that is reckoned here
-from the journals' texts (docs/PROTOCOL.md), and in the end `connector follows` has to say the same of each two. So it
+from the journals' texts (docs/PROTOCOL.md), and in the end `connector follows` has to say the same of each two and of all. So it
 goes on COUNT times (100).
 
 The exit status is 0 where nothing was lost, 1 at the first loss, which is told, with a copy of the journals' folder,
@@ -34,7 +34,7 @@ from cases.journals import Kept
 from cases.laboratory import Laboratory, post_close
 from cases.messages import request, seconds_since
 from cases.program import Program, Setup
-from cases.running_periods import expect_follows, report_of
+from cases.running_periods import expect_all_follow, expect_follows, report_of
 from killing.books import goes_on_from
 from killing.load import Load, answers_by_chance, answers_by_data, asks_of, chosen, credit_by_chance, taken
 from killing.period_books import Periods, read_standing
@@ -217,6 +217,7 @@ class Kills:
         paths = [*(self.kept.beside(str(book.period)) for book in self.periods.books[:-1]), self.kept.path]
         for number, (ended, journal) in enumerate(zip(paths, paths[1:]), start=1):
             expect_follows(program, ended, journal, number)
+        expect_all_follow(program, self.kept.path, len(paths) - 1)
 
 
 # ---- the program

@@ -81,7 +81,7 @@ def backup_of_a_closed_journal(laboratory: Laboratory) -> None:
     expect("the exit status of new-period", subprocess.run(words, capture_output=True, timeout=10.0).returncode, 0)
     copy = backed_up(kept, laboratory.folder())
     expect("the copies", copy.contents(), kept.contents())
-    expect("their names", copy.files(), ["journal", "journal.0", "journal.lock"])
+    expect("their names", copy.files(), ["journal", "journal.0", "journal.0.remembered", "journal.lock"])
     program = copy.serve()
     post_close(program)
     expect_end_of(program, alice=0, bob=30, period=1)

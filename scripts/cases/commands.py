@@ -8,7 +8,8 @@ from cases.program import Setup
 
 TOP = Path(__file__).resolve().parent.parent.parent
 USAGE = ("usage: connector packet HEX, check CONFIG, replay CONFIG, serve CONFIG [JOURNAL], "
-         "new-period CONFIG JOURNAL [NEW-CONFIG], follows CONFIG JOURNAL.P NEW-CONFIG JOURNAL, "
+         "new-period CONFIG JOURNAL [NEW-CONFIG], follows JOURNAL [CONFIG ..], "
+         "follows CONFIG JOURNAL.P NEW-CONFIG JOURNAL, "
          "backup JOURNAL FOLDER, statement CONFIG JOURNAL PEER [FROM [TO]] [--csv] [--packet HEX] [--key KEY]\n")
 
 # What is told of `careless`, and of its file where others may read it.
@@ -56,8 +57,7 @@ def misused_command(laboratory: Laboratory) -> None:
     """Words that are no command get the usage alone, on standard error, and the status 2."""
     for words in ([], ["serve"], ["packet"], ["Serve", "-"], ["help", "serve", "check"], ["--version", "x"],
                   ["packet", "0c", "0c"], ["replay", "-", "x"], ["serve", "-", "a", "b"], ["nothing", "--help"],
-                  ["new-period"], ["new-period", "-"], ["new-period", "-", "a", "-", "b"], ["follows", "-", "a", "-"],
-                  ["follows", "-", "a", "-", "b", "c"], ["statement"], ["statement", "-", "a"], ["statement", "-", "a", "--csv"],
+                  ["new-period"], ["new-period", "-"], ["new-period", "-", "a", "-", "b"], ["follows"], ["statement"], ["statement", "-", "a"], ["statement", "-", "a", "--csv"],
                   ["statement", "-", "a", "b", "c", "d", "e"], ["statement", "-", "a", "b", "--key"],
                   ["statement", "-", "a", "b", "--packet"]):
         expect(f"what {words} print", run(laboratory, *words), (2, "", USAGE))

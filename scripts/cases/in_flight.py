@@ -7,8 +7,8 @@ from cases.crowds import Answer, Crowd, Hall, octet_by_octet, room_for
 from cases.disks import Disk
 from cases.ending import MARGIN, await_nobody_accepted
 from cases.journals import Kept
-from cases.laboratory import (AT_ONCE, END, Laboratory, close, credit, expect_end, packet_request, post_close,
-                              send_packet)
+from cases.laboratory import (AT_ONCE, END, Laboratory, close, credit, expect_end, expect_report_at_once,
+                              packet_request, post_close, send_packet)
 from cases.log_faults import AGAIN, await_fulfilled
 from cases.messages import HERE, bearer, created, post, request, response, seconds_since, soon
 from cases.operating import own_limit
@@ -385,6 +385,30 @@ def sync_while_busy(laboratory: Laboratory) -> None:
     for workers in (1, 2):
         if (disk := Disk.of(laboratory)) is not None:
             expect_held(laboratory, disk, workers)
+
+
+@case
+def credit_while_busy(laboratory: Laboratory) -> None:
+    """While the disk is busy with the entry of a credit, its worker serves others, and its engine is told behind that.
+    This is left out where there is no C compiler."""
+    if (disk := Disk.of(laboratory)) is None:
+        return
+    kept = Kept(laboratory, Setup(bob=laboratory.stand_in(FULFILLS).port, top={"workers": 1, "window_ms": 20_000}))
+    program = kept.serve(environment=disk.environment())
+    crowd, setup, begun = Crowd(laboratory), program.setup, disk.syncs()
+    told = request("/accounts/bob/settlements", f"Idempotency-Key: {setup.key}", body=quantity(7, 2))
+    disk.busy.touch()
+    try:
+        crowd.send(setup.engines_port, told)
+        disk.await_sync(begun)
+        expect_report_at_once(program)
+        crowd.look()
+        expect("whether the engine was told", crowd.clients[0].ended is not None, False)
+    finally:
+        disk.busy.unlink()
+    crowd.await_ended(crowd.clients, AGAIN)
+    expect("what the engine is told", crowd.clients[0].answer, created(quantity(7, 2)))
+    close(program, bob=7)
 
 
 def expect_held(laboratory: Laboratory, disk: Disk, workers: int) -> None:

@@ -111,7 +111,43 @@ def periods_one_after_the_other(laboratory: Laboratory) -> None:
     post_close(program)
     expect("the exit status", program.end(END), 0)
     closing.expect_closed("peer alice balance -35", "peer bob balance 1035", period=2)
-    expect("the files", kept.files(), ["journal", "journal.0", "journal.1", "journal.lock"])
+    expect("the files", kept.files(), ["journal", "journal.0", "journal.0.remembered", "journal.1",
+                                          "journal.1.remembered", "journal.lock"])
+
+
+def in_another_order(setup: Setup) -> str:
+    """The text of a configuration with the table of bob before that of alice."""
+    top, alice, behind = setup.text().split("[[peer]]\n")
+    bob, mark, rest = behind.partition("[[route]]\n")
+    return f"{top}[[peer]]\n{bob}[[peer]]\n{alice}{mark}{rest}"
+
+
+@case
+def next_period_of_other_order(laboratory: Laboratory) -> None:
+    """A period that began by a configuration with its peers in another order follows, whichever of the two is given of
+    it, also once it went on by the old one. One that opens another balance, or lacks one, does not."""
+    kept = closed_book(laboratory)
+    closing = Closing(kept, kept.setup)
+    closing.next.write_text(in_another_order(kept.setup))
+    closing.expect_closed("peer bob balance 1030", "peer alice balance -30")
+    program = kept.serve()
+    expect_served(program, amount=5)
+    post_close(program)
+    expect("the exit status", program.end(END), 0)
+    begun = kept.text()
+    words = ["follows", closing.before, kept.beside("0"), closing.before, kept.path]
+    for last in (closing.before, closing.next):
+        words[3] = last
+        expect("what follows says", closing.run(*words), (0, "period 1 follows period 0\n", ""))
+    head = "".join(begun.splitlines(keepends=True)[:4])
+    other = r".+ has another entry {} than what was brought forward"
+    for changed, entry in ((begun.replace("opened alice -30", "opened alice -29"), 1),
+                           (begun.replace("opened bob 1030", "opened bob 1031"), 0),
+                           (re.sub(r"\d+ 0 opened bob 1030\n", "", head) + "end 2\n", 1)):
+        kept.path.write_text(changed)
+        status, text, errors = closing.run(*words)
+        expect("what it says of another", (status, text), (1, f"refused 80 NotFollowing {entry}\n"))
+        expect_lines("standard error", errors, (other.format(entry),))
 
 
 @case
@@ -203,7 +239,7 @@ def period_behind_a_sudden_stop(laboratory: Laboratory) -> None:
     expect_served(program, amount=30)
     program.kill()
     Closing(kept, kept.setup).expect_closed("peer alice balance -30", "peer bob balance 30")
-    expect("the files", kept.files(), ["journal", "journal.0", "journal.lock"])
+    expect("the files", kept.files(), ["journal", "journal.0", "journal.0.remembered", "journal.lock"])
 
 
 def stopped_book(laboratory: Laboratory) -> tuple[Kept, Program, dict[str, bytes]]:
@@ -260,7 +296,7 @@ def period_stopped_at_each_file_call(laboratory: Laboratory) -> None:
     kept = closed_book(laboratory)
     old, closing = kept.contents(), Closing(kept, dearer(kept.setup))
     closing.expect_closed("peer alice balance -30", "peer bob balance 1030")
-    done = kept.contents()
+    done, states = kept.contents(), []
     for call in FILE_CALLS.split(","):
         for number in range(1, 200):
             for name in kept.files():
@@ -274,8 +310,12 @@ def period_stopped_at_each_file_call(laboratory: Laboratory) -> None:
             is_old = left["journal"] == old["journal"] and left.get("journal.0", old["journal"]) == old["journal"]
             is_next = left["journal"] == done["journal"] and left["journal.0"] == old["journal"]
             expect_that(f"killed at {call} {number} it left {sorted(left)}", is_old or is_next)
+            if left not in states:
+                states.append(left)
+                said = "period 1 follows period 0\n" if is_next else "period 0 follows none\n"
+                expect(f"what follows says of {sorted(left)}", closing.run("follows", kept.path), (0, said, ""))
             expect("the status of one that goes on", closing.run(*closing.words())[0], 0)
-            again = {name: kept.contents()[name] for name in ("journal", "journal.0")}
+            again = {name: kept.contents()[name] for name in ("journal", "journal.0", "journal.0.remembered")}
             expect(f"the files behind a stop at {call} {number}", again, {name: done[name] for name in again})
             if status == 0:
                 break

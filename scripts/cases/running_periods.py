@@ -81,14 +81,23 @@ def expect_end_of(program: Program, alice: int, bob: int, period: int, within: f
 
 
 def expect_follow(kept: Kept, program: Program) -> Periods:
-    """The journals of all periods follow each other, by their texts and by `connector follows`, each of which was read
-    by the same configuration."""
+    """The journals of all periods follow each other, by their texts and by `connector follows`, of each two, which were
+    read by the same configuration, and of all."""
     periods = Periods()
     periods.read(kept.path)
     paths = [*(kept.beside(str(book.period)) for book in periods.books[:-1]), kept.path]
     for period, (ended, journal) in enumerate(zip(paths, paths[1:]), start=1):
         expect_follows(program, ended, journal, period)
+    expect_all_follow(program, kept.path, len(paths) - 1)
     return periods
+
+
+def expect_all_follow(program: Program, journal: Path, last: int) -> None:
+    """`connector follows` says so of all periods of a journal up to this one, by what is kept beside them."""
+    told = "".join(f"period {period} follows period {period - 1}\n" for period in range(1, last + 1))
+    done = subprocess.run([str(program.binary), "follows", str(journal)], capture_output=True, text=True, timeout=20.0)
+    expect("what follows says of all", (done.returncode, done.stdout, done.stderr),
+           (0, told or "period 0 follows none\n", ""))
 
 
 def expect_follows(program: Program, ended: Path, journal: Path, period: int) -> None:

@@ -4,6 +4,9 @@ use crate::helping::is_help;
 use crate::inquiring::asked_of_account;
 use ilp_inquiry::Inquiry;
 
+// The words behind `follows` where it is asked of two periods alone.
+const PAIR: usize = 4;
+
 /// The words that the program is started with: a command, and what it is about.
 #[derive(Drop)]
 pub(crate) struct Words {
@@ -29,6 +32,8 @@ pub(crate) enum Asked<'w> {
     /// Of the paths of a configuration and of the period that it has ended, and of the next configuration and of
     /// the journal.
     Follows(&'w str, &'w str, &'w str, &'w str),
+    /// Of the path of a journal or its folder, and those of configurations.
+    FollowsAll(&'w str, &'w [String]),
     /// Of the paths of a journal, and of the folder that gets its copies.
     Backup(&'w str, &'w str),
     /// Of a peer's account.
@@ -41,6 +46,9 @@ impl Words {
         let command = self.command.as_str();
         if command == "statement" && self.about.len() > 1 {
             return asked_of_account(&self.about);
+        }
+        if command == "follows" && self.about.len() != PAIR {
+            return asked_of_chain(&self.about);
         }
         match (
             self.about(0),
@@ -69,6 +77,15 @@ impl Words {
     }
 }
 
+// What these words ask of a chain of periods, or for help; none where they name no journal.
+fn asked_of_chain(words: &[String]) -> Option<Asked<'_>> {
+    let (journal, configs) = words.split_first()?;
+    if words.iter().any(|word| is_help(word.as_str())) {
+        return Some(Asked::Help);
+    }
+    Some(Asked::FollowsAll(journal.as_str(), configs))
+}
+
 // What a command asks for that stands alone.
 fn asked_alone<'w>(command: &str) -> Option<Asked<'w>> {
     match command {
@@ -82,7 +99,7 @@ fn asked_alone<'w>(command: &str) -> Option<Asked<'w>> {
 fn asked_of<'w>(command: &str, argument: &'w str) -> Option<Asked<'w>> {
     match command {
         "help" => Some(Asked::Help),
-        "packet" | "check" | "replay" | "serve" | "new-period" | "follows" | "statement" | "backup"
+        "packet" | "check" | "replay" | "serve" | "new-period" | "statement" | "backup"
             if is_help(argument) => { Some(Asked::Help) }
         "packet" => Some(Asked::Packet(argument)),
         "check" => Some(Asked::Check(argument, None)),
@@ -95,9 +112,7 @@ fn asked_of<'w>(command: &str, argument: &'w str) -> Option<Asked<'w>> {
 // What a command and two paths ask for: those of a configuration and a journal, or of a journal and a folder.
 fn asked_with_journal<'w>(command: &str, config: &'w str, journal: &'w str) -> Option<Asked<'w>> {
     match command {
-        "check" | "serve" | "new-period" | "follows" | "backup" if is_help(journal) => {
-            Some(Asked::Help)
-        }
+        "check" | "serve" | "new-period" | "backup" if is_help(journal) => { Some(Asked::Help) }
         "backup" => Some(Asked::Backup(config, journal)),
         "check" => Some(Asked::Check(config, Some(journal))),
         "serve" => Some(Asked::Serve(config, Some(journal))),

@@ -5,7 +5,7 @@ use std::rt::Runtime;
 
 /// How the program is called, for whoever called it otherwise.
 pub(crate) const USAGE: &str =
-    "usage: connector packet HEX, check CONFIG, replay CONFIG, serve CONFIG [JOURNAL], new-period CONFIG JOURNAL [NEW-CONFIG], follows CONFIG JOURNAL.P NEW-CONFIG JOURNAL, backup JOURNAL FOLDER, statement CONFIG JOURNAL PEER [FROM [TO]] [--csv] [--packet HEX] [--key KEY]";
+    "usage: connector packet HEX, check CONFIG, replay CONFIG, serve CONFIG [JOURNAL], new-period CONFIG JOURNAL [NEW-CONFIG], follows JOURNAL [CONFIG ..], follows CONFIG JOURNAL.P NEW-CONFIG JOURNAL, backup JOURNAL FOLDER, statement CONFIG JOURNAL PEER [FROM [TO]] [--csv] [--packet HEX] [--key KEY]";
 
 // The versions of the program and of the kit that it is made with. The first stands in the file VERSION
 // too, and the manual is made from the help.
@@ -23,9 +23,12 @@ connector replay CONFIG           runs the script of standard input over a
 connector new-period CONFIG JOURNAL [NEW-CONFIG]
                                   closes the books of a journal, and begins its
                                   next period, by NEW-CONFIG where it is given
-connector follows CONFIG JOURNAL.P NEW-CONFIG JOURNAL
-                                  says whether a journal begins with what the
-                                  period P before it brought forward
+connector follows JOURNAL [CONFIG ..]
+                                  says whether each period of a journal, or of the
+                                  one in a folder, begins with what the one before
+                                  brought forward; with CONFIG where an older
+                                  program ended it. With the words CONFIG JOURNAL.P
+                                  NEW-CONFIG JOURNAL it says it of these two
 connector backup JOURNAL FOLDER   copies the files of a journal, which a connector
                                   may have, as they are at one moment, into a
                                   folder that is empty or not there yet

@@ -18,7 +18,7 @@ use checking::{run_check, run_check_journal};
 use helping::{USAGE, run_help, run_version};
 use ilp_backup::print_backup;
 use ilp_described::{describe_packet, reject_words};
-use ilp_new_period::{follows, new_period};
+use ilp_new_period::{follows, follows_all, new_period};
 use ilp_refusals::Refusal;
 use ilp_serve::{KeepsPeriods, ReadsConfigs, serve};
 use ilp_starting::{Host, PlacesFiles, Refused, RunFault};
@@ -120,6 +120,7 @@ where
         Asked::Follows(config, kept, next, journal) => {
             ended(follows(rt, config, kept, next, journal))
         }
+        Asked::FollowsAll(path, configs) => ended(follows_all(rt, path, configs)),
         Asked::Backup(journal, folder) => ended(print_backup(rt, journal, folder)),
         Asked::Statement(inquiry) => run_statement(rt, &inquiry),
     }

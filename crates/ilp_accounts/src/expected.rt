@@ -32,6 +32,7 @@ impl fmt::Display for Complaint {
 fn need(field: Field) -> &'static str {
     match field {
         Field::SettleTo | Field::Engine => ", which a threshold needs",
+        Field::Threshold => ", which settle_after_ms needs",
         _ => "",
     }
 }

@@ -3,7 +3,7 @@
 use crate::copies::Copies;
 use crate::held::HeldFiles;
 use crate::seen::{Part, stands_still};
-use crate::source::{LOCK, Source, beside, ending_of, name_of};
+use crate::source::{BETWEEN, LOCK, Source, beside, ending_of, name_of};
 use ilp_journal_file::PlacesFiles;
 use ilp_refusals::Refusal;
 use ilp_starting::{Refused, RunFault};
@@ -35,7 +35,8 @@ where
 
 /// Copies the files of the journal at a path into a folder that isn't there or has nothing in it, as they lay there at
 /// one moment since the call: the journal, its log, what a period leaves for a moment as it ends, what is remembered,
-/// and the text of each period that is kept. How many they are. A connector may have the journal.
+/// and the text of each period that is kept, with what is kept beside it. How many they are. A connector may have the
+/// journal.
 ///
 /// Refusals: `JournalUnread` where there is none, a file can't be read, or they changed each time that they were copied;
 /// `WriteFault` where the folder isn't empty or a copy can't be written; `Memory`. Then nothing is left of the copies,
@@ -112,7 +113,11 @@ where
     if !stands_still(&held.seen, &source.see()?) {
         return Ok(Try::Changed);
     }
-    copy_kept(source, copies, folder, &held.seen.kept)
+    if copy_kept(source, copies, folder, &held.seen.kept, "")? == Try::Changed {
+        return Ok(Try::Changed);
+    }
+    // It lies there before any other file of a boundary does, and for good once that is crossed.
+    copy_kept(source, copies, folder, &source.numbers(BETWEEN)?, BETWEEN)
 }
 
 // Copies the files that were opened, and what is remembered. The journal is the first.
@@ -134,12 +139,13 @@ where
     copies.put(LOCK, shape, &mut remembered)
 }
 
-// Copies the texts of these periods.
+// Copies the texts of these periods, or what lies beside each with this ending.
 fn copy_kept<R, F>(
     source: &Source<'_, R>,
     copies: &mut Copies<'_, R, F>,
     folder: &str,
     kept: &[u32],
+    behind: &str,
 ) -> Result<Try, Refused>
 where
     R: AllocGlobal + Files<File = F> + PlacesFiles<File = F> + Clock + Eprint + Copy,
@@ -147,7 +153,7 @@ where
 {
     let alloc = source.rt.alloc();
     for period in kept {
-        let ending = ending_of_period(alloc, *period)?;
+        let ending = ending_of_period(alloc, *period, behind)?;
         let path = beside(alloc, source.path, ending.as_str())?;
         let Some(mut found) = source.open_at(path.as_str())? else {
             return Ok(Try::Changed);
@@ -159,8 +165,8 @@ where
     Ok(Try::Copied)
 }
 
-fn ending_of_period(alloc: Global, period: u32) -> Result<String, AllocError> {
-    format!(in alloc; ".{period}")
+fn ending_of_period(alloc: Global, period: u32, behind: &str) -> Result<String, AllocError> {
+    format!(in alloc; ".{period}{behind}")
 }
 
 // That a copy can't be written.

@@ -19,6 +19,9 @@ const LONGEST: usize = 65_536;
 /// The ending of the name of the file that is locked, and which has what is remembered.
 pub(crate) const LOCK: &str = ".lock";
 
+/// What is behind the number of a period in the name of what is kept of the configurations between which it ended.
+pub(crate) const BETWEEN: &str = ".remembered";
+
 /// A journal's files.
 #[derive(Clone, Copy)]
 pub(crate) struct Source<'r, R> {
@@ -161,20 +164,25 @@ where
 
     /// The numbers of the periods whose texts lie beside the journal now, in order.
     pub(crate) fn kept(&self) -> Result<Vec<u32>, Refused> {
-        match self.listed() {
+        self.numbers("")
+    }
+
+    /// The numbers of the periods beside which a file of this ending lies now, in order.
+    pub(crate) fn numbers(&self, ending: &str) -> Result<Vec<u32>, Refused> {
+        match self.listed(ending) {
             Ok(numbers) => Ok(numbers),
             Err(error) => Err(self.unread(folder_of(self.path), &error)),
         }
     }
 
     // The same, as the system tells it.
-    fn listed(&self) -> io::Result<Vec<u32>> {
+    fn listed(&self, ending: &str) -> io::Result<Vec<u32>> {
         let journal = name_of(self.path);
         let mut numbers = Vec::new(self.rt.alloc());
         for entry in fs::read_dir(self.rt, folder_of(self.path))? {
             match entry {
                 Ok(entry) => {
-                    if let Some(period) = period_in(entry.file_name(), journal) {
+                    if let Some(period) = period_in(entry.file_name(), journal, ending) {
                         numbers.push(period)?;
                     }
                 }
@@ -218,9 +226,12 @@ pub(crate) fn beside(alloc: Global, path: &str, ending: &str) -> Result<String, 
     format!(in alloc; "{path}{ending}")
 }
 
-// The number of a period by the name of its file: digits, as they are written.
-fn period_in(name: &str, journal: &str) -> Option<u32> {
-    let digits = name.strip_prefix(journal)?.strip_prefix('.')?;
+// The number of a period by the name of its file: digits, as they are written, before this ending.
+fn period_in(name: &str, journal: &str, ending: &str) -> Option<u32> {
+    let digits = name
+        .strip_prefix(journal)?
+        .strip_prefix('.')?
+        .strip_suffix(ending)?;
     let is_padded = digits.len() > 1 && digits.starts_with('0');
     if is_padded || !digits.bytes().all(|octet| octet.is_ascii_digit()) {
         return None;

@@ -7,26 +7,28 @@ use std::time::Duration;
 
 /// The system's clock, in milliseconds since 1970.
 ///
-/// Where it can't be read, or stands before 1970, it gives 0. A book, whose time never goes back, takes
-/// the moment of its last entry then.
+/// Where it can't be read, or stands before 1970, it gives what it gave last, and 0 at first. A book, whose time never
+/// goes back, takes the moment of its last entry then.
 #[derive(Clone, Copy)]
 pub struct SystemClock<R> {
     rt: R,
+    // What it gave last.
+    last: i64,
 }
 
 impl<R: std::time::Clock + Copy> SystemClock<R> {
     /// The clock of this runtime.
     pub fn new(rt: R) -> SystemClock<R> {
-        SystemClock { rt }
+        SystemClock { rt, last: 0 }
     }
 }
 
 impl<R: std::time::Clock + Copy> Clock for SystemClock<R> {
     fn now(&mut self) -> i64 {
-        match self.rt.since_1970() {
-            Ok(time) => milliseconds(time),
-            Err(_) => 0,
+        if let Ok(time) = self.rt.since_1970() {
+            self.last = milliseconds(time);
         }
+        self.last
     }
 }
 

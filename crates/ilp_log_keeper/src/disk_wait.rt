@@ -9,7 +9,7 @@ use std::time::Duration;
 pub struct DiskWait {
     // How many threads have a journal kept now.
     keepers: AtomicU64,
-    // When the first of them began, or one of them ended last, in milliseconds.
+    // When the first of them began, or one of them ended last, in milliseconds; 2^64 - 1 where no clock told it.
     moved: AtomicU64,
 }
 
@@ -33,17 +33,25 @@ impl DiskWait {
     }
 
     /// Somebody begins to have one kept at this moment, who is to tell its end.
-    pub(crate) fn begin(&self, now: Duration) {
+    pub(crate) fn begin(&self, now: Option<Duration>) {
         if self.keepers.load(Ordering::SeqCst) == 0 {
-            self.moved.store(milliseconds(now), Ordering::SeqCst);
+            self.moved.store(moment_of(now), Ordering::SeqCst);
         }
         self.keepers.fetch_add(1, Ordering::SeqCst);
     }
 
     /// That is over at this moment.
-    pub(crate) fn end(&self, now: Duration) {
-        self.moved.store(milliseconds(now), Ordering::SeqCst);
+    pub(crate) fn end(&self, now: Option<Duration>) {
+        self.moved.store(moment_of(now), Ordering::SeqCst);
         self.keepers.fetch_sub(1, Ordering::SeqCst);
+    }
+}
+
+// A moment, in milliseconds, where the clock told it.
+fn moment_of(now: Option<Duration>) -> u64 {
+    match now {
+        Some(now) => milliseconds(now),
+        None => u64::MAX,
     }
 }
 

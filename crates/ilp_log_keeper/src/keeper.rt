@@ -58,16 +58,24 @@ fn patience_of(config: &Config) -> Duration {
 }
 
 impl<'k, J: Naming, K: LogNaming, D: Device + Drop, R: Wait + Clock> LogKeeper<'k, J, K, D, R> {
-    // The time by the clock that never goes back; none has passed where it can't be read.
-    fn now(&self) -> Duration {
-        self.rt.monotonic().unwrap_or(Duration::ZERO)
+    // The time by the clock that never goes back, where it can be read.
+    fn now(&self) -> Option<Duration> {
+        self.rt.monotonic().ok()
+    }
+
+    // Whether nobody waits for the disk for longer than new entries may.
+    fn is_prompt(&self) -> bool {
+        match self.now() {
+            Some(now) => self.state.disk().waited(now) <= self.patience,
+            None => true,
+        }
     }
 }
 
 impl<J: Naming, K: LogNaming, D: Device + Drop, R: Wait + Clock> Keeper<J>
     for LogKeeper<'_, J, K, D, R> {
     fn keeps(&mut self) -> bool {
-        self.state.keeps() && self.state.disk().waited(self.now()) <= self.patience
+        self.state.keeps() && self.is_prompt()
     }
 
     fn keep(&mut self, receipt: &mut JournalReceipt<J>) -> Result<(), NotKept>

@@ -13,8 +13,8 @@ use std::sync::Wait;
 use std::time;
 use std::time::Duration;
 
-/// What comes next of a connection behind this journal: the sender of a packet that is booked is answered,
-/// where the journal has it.
+/// What comes next of a connection behind this journal: who waits for what is booked is answered, where the journal has
+/// it.
 pub(crate) fn behind<J: Naming>(
     stage: Stage<J>,
     handed: &HandedJournal<J>,
@@ -27,6 +27,12 @@ pub(crate) fn behind<J: Naming>(
             }
             let response = Response::to_packet(sender, booked.tell(handed));
             Stage::responds(response, now)
+        }
+        Stage::Credited(pending) => {
+            if pending.behind() > handed.entries() {
+                return Stage::Credited(pending);
+            }
+            Stage::responds(pending.tell(handed), now)
         }
         other => other,
     }

@@ -4,7 +4,7 @@ use crate::late::ToldBy;
 use ilp_desk::Naming;
 use ilp_intake::ReadyConnection;
 use ilp_links::{Call, Resumed};
-use ilp_server::{Response, Side, Work};
+use ilp_server::{PendingCredit, Response, Side, Work};
 use ilp_workers::{Booked, EngineMessage, PeerMessage};
 use mio::net::TcpStream;
 use mio::{Interest, Registry, Token};
@@ -53,6 +53,8 @@ pub(crate) enum Stage<J: Naming> {
         sender: u32,
         booked: Booked<J>,
     },
+    /// A settlement or a correction is booked.
+    Credited(PendingCredit<J>),
     /// The connection has taken so many octets of the response, and is to take the rest by then.
     Responds {
         response: Response,
@@ -73,12 +75,20 @@ impl<J: Naming> Stage<J> {
         }
     }
 
-    /// Whether it is of a packet that is booked, whose sender may be told behind a journal of so many
-    /// entries.
+    /// Whether it is booked, and may be told behind a journal of so many entries.
     pub(crate) fn is_behind(&self, entries: u32) -> bool {
+        match self.behind() {
+            Some(behind) => behind <= entries,
+            None => false,
+        }
+    }
+
+    /// Of what is booked, how many entries a journal has behind which it may be told.
+    pub(crate) fn behind(&self) -> Option<u32> {
         match self {
-            Stage::Booked { booked, .. } => booked.behind() <= entries,
-            _ => false,
+            Stage::Booked { booked, .. } => Some(booked.behind()),
+            Stage::Credited(pending) => Some(pending.behind()),
+            _ => None,
         }
     }
 
@@ -90,6 +100,7 @@ impl<J: Naming> Stage<J> {
             Stage::ToPeer { call, .. } => Some(call.due()),
             Stage::Responds { until, .. } => Some(*until),
             Stage::Booked { .. } => None,
+            Stage::Credited(_) => None,
             Stage::Over => None,
         }
     }

@@ -18,7 +18,7 @@ use ilp_links::ReplyRoom;
 use ilp_notices::SentHold;
 use ilp_oer::Octets;
 use ilp_server::{Course, NotServed, Response, Side, begin_request};
-use ilp_shared::{Job, Nobody, Shared, monotonic};
+use ilp_shared::{Job, Nobody, Shared};
 use ilp_workers::{Clock, Keeper, Worker};
 use mio::Registry;
 use slab::Slab;
@@ -35,7 +35,7 @@ pub(crate) struct Serving<J: Naming, C: Clock + Drop, K: Keeper<J> + Drop> {
     flight: Flight<J, C, Nobody, Nobody, K>,
     clock: C,
     guests: Slab<Guest<J>>,
-    // Those whose packet is booked, and those that are over, in this turn.
+    // Those of what is booked, and those that are over, in this turn.
     booked: Vec<usize>,
     over: Vec<usize>,
     // Whether a packet was begun in this turn.
@@ -117,7 +117,12 @@ impl<J: Naming, C: Clock + Drop, K: Keeper<J> + Drop> Serving<J, C, K> {
 
     // How the request goes on that these octets begin with. Where memory is denied for what a report has behind
     // its text, nothing is begun.
-    fn course_of<R: Wait>(&mut self, shared: &Shared<'_, J, R>, side: Side, octets: &[u8]) -> Course
+    fn course_of<R: Wait>(
+        &mut self,
+        shared: &Shared<'_, J, R>,
+        side: Side,
+        octets: &[u8],
+    ) -> Course<J>
         ensures { IsOfKnownPeer J.desk.config result }
     {
         let Ok(lines) = report_lines(shared, side) else {
@@ -169,7 +174,7 @@ impl<J: Naming, C: Clock + Drop, K: Keeper<J> + Drop> Serving<J, C, K> {
 
     // Notes by when the connection at this place is to be told a Fulfill, where its request is a packet that is
     // held.
-    fn note_held<R>(&mut self, shared: &Shared<'_, J, R>, course: &Course, place: usize) {
+    fn note_held<R>(&mut self, shared: &Shared<'_, J, R>, course: &Course<J>, place: usize) {
         let Course::Packet { sender: _, key } = course else {
             return;
         };
@@ -194,7 +199,7 @@ impl<J: Naming, C: Clock + Drop, K: Keeper<J> + Drop> Serving<J, C, K> {
     fn begin<R: Wait + time::Clock + Eprint + Net>(
         &mut self,
         shared: &Shared<'_, J, R>,
-        course: Course,
+        course: Course<J>,
         now: Duration,
     ) -> Stage<J>
         requires { IsOfKnownPeer J.desk.config course }
@@ -207,6 +212,7 @@ impl<J: Naming, C: Clock + Drop, K: Keeper<J> + Drop> Serving<J, C, K> {
                 self.has_begun = true;
                 self.call_next(shared, sender, key)
             }
+            Course::Credit(pending) => Stage::Credited(pending),
             Course::ToEngine(message) => match shared.outside().call_engine(message.from(), now) {
                 Some(call) => Stage::ToEngine { message, call },
                 None => answered_message(shared, message, None, now),
@@ -227,7 +233,7 @@ impl<J: Naming, C: Clock + Drop, K: Keeper<J> + Drop> Serving<J, C, K> {
     // deadline by the one has passed by the other no sooner.
     fn times<R: time::Clock>(&mut self, shared: &Shared<'_, J, R>) -> (i64, Duration) {
         let late = self.clock.now();
-        (late, monotonic(shared.rt))
+        (late, shared.now())
     }
 
     // Begins to call the next peer with the packet that waits under the key.
@@ -272,7 +278,7 @@ impl<J: Naming, C: Clock + Drop, K: Keeper<J> + Drop> Serving<J, C, K> {
 }
 
 // Whether the connector is to close for a request.
-fn is_close(course: &Course) -> bool {
+fn is_close<J: Naming>(course: &Course<J>) -> bool {
     match course {
         Course::Answered(response) => response.closes(),
         _ => false,

@@ -4,7 +4,7 @@ ghost use Rattle.std.specs.Prelude.{◌≡◌};
 use crate::serving::Serving;
 use crossbeam_channel::{Receiver, TryRecvError};
 use ilp_desk::{End, Naming};
-use ilp_shared::{Job, KeepingAsker, Nobody, Shared, monotonic};
+use ilp_shared::{Job, KeepingAsker, Nobody, Shared};
 use ilp_workers::{Clock, Keeper, Worker};
 use mio::{Events, Poll, Token, Waker};
 use std::alloc::Global;
@@ -105,7 +105,7 @@ impl<J: Naming, C: Clock + Drop, K: Keeper<J> + Drop> ServingLoop<J, C, K> {
         jobs: &Receiver<Job>,
     ) {
         self.wait(shared, jobs);
-        let now = monotonic(shared.rt);
+        let now = shared.now();
         let registry = self.seat.poll.registry();
         self.serving.read_unread(shared, registry, now);
         for event in self.seat.events.iter() {
@@ -131,7 +131,7 @@ impl<J: Naming, C: Clock + Drop, K: Keeper<J> + Drop> ServingLoop<J, C, K> {
 
     // Waits for events, unless there are jobs.
     fn wait<R: Wait + time::Clock>(&mut self, shared: &Shared<'_, J, R>, jobs: &Receiver<Job>) {
-        let now = monotonic(shared.rt);
+        let now = shared.now();
         let left = match self.serving.due(now) {
             Some(due) => Some(due.saturating_sub(now)),
             None => None,

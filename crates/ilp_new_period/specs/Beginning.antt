@@ -6,6 +6,8 @@ use Rattle.ilp_rules.specs.Configured.{IsKnown}
 use Rattle.ilp_next_period.specs.NextPeriod.{IsWhyNotClosed}
 use Rattle.ilp_next_period.specs.declared.forward_fault.ForwardFault.{ForwardFault}
 use Rattle.ilp_next_period.specs.declared.forward_fault.ForwardFault.TheVariants as fault
+use Rattle.ilp_follows.specs.declared.fault.FollowFault.{FollowFault}
+use Rattle.ilp_follows.specs.declared.fault.FollowFault.TheVariants as follow_fault
 use Rattle.ilp_refusals.specs.Refusals.{forward_refusal}
 use Rattle.ilp_refusals.specs.declared.refusal.Refusal.{Refusal}
 
@@ -15,10 +17,15 @@ pub record IsWhyNoNext (book : PlainBook) (next : Configuration) (refusal : Refu
   pub why : IsWhyNotClosed book next (pos 0) fault
   pub named : refusal ≡ forward_refusal fault
 
--- a peer that a fault names is one of the book's
-abbrev pub IsOfAPeer : PlainBook → ForwardFault → Type 0
-IsOfAPeer book (fault.BalanceTooLarge peer b) = IsKnown book.config peer
-IsOfAPeer book (fault.PeerRemoved peer b) = IsKnown book.config peer
-IsOfAPeer book (fault.OtherAsset peer b) = IsKnown book.config peer
-IsOfAPeer book (fault.BelowLeast peer b) = IsKnown book.config peer
-IsOfAPeer book other = ⊤
+-- a peer that a fault names is one of the configuration's
+abbrev pub IsOfAPeer : Configuration → ForwardFault → Type 0
+IsOfAPeer C (fault.BalanceTooLarge peer b) = IsKnown C peer
+IsOfAPeer C (fault.PeerRemoved peer b) = IsKnown C peer
+IsOfAPeer C (fault.OtherAsset peer b) = IsKnown C peer
+IsOfAPeer C (fault.BelowLeast peer b) = IsKnown C peer
+IsOfAPeer C other = ⊤
+
+-- a fault of two texts names peers of the configuration of the one that ended
+abbrev pub NamesPeers : Configuration → FollowFault → Type 0
+NamesPeers C (follow_fault.Closing why) = IsOfAPeer C why
+NamesPeers C other = ⊤

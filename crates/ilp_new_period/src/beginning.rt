@@ -23,15 +23,22 @@ pub fn next_of(alloc: Global, book: &Book, next: &Config) -> Result<Book, Refuse
 {
     match book.bring_forward(alloc, next, BEGINNING) {
         Ok(next) => Ok(next),
-        Err(fault) => Err(Refused::because(Refusal::from(fault), why(alloc, book, next, fault))),
+        Err(fault) => {
+            let why = why_closed(alloc, book.config(), next, fault);
+            Err(Refused::because(Refusal::from(fault), why))
+        }
     }
 }
 
-// Why the books can't be closed, for a person.
-fn why(alloc: Global, book: &Book, next: &Config, fault: ForwardFault) -> Result<String, AllocError>
-    requires { IsOfAPeer book.now fault }
+/// Why books of peers of a configuration can't be closed for a period of the next one, for a person.
+pub(crate) fn why_closed(
+    alloc: Global,
+    config: &Config,
+    next: &Config,
+    fault: ForwardFault,
+) -> Result<String, AllocError>
+    requires { IsOfAPeer config.now fault }
 {
-    let config = book.config();
     match fault {
         ForwardFault::OtherRun => {
             let (run, other) = (config.run(), next.run());

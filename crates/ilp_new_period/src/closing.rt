@@ -2,6 +2,7 @@
 ghost use Rattle.std.specs.Prelude.{◌≡◌, IfOk, IfSome};
 
 use crate::beginning::next_of;
+use crate::boundary::keep_boundary;
 use crate::left_out::tell_left_out;
 use crate::printing::print_period;
 use ilp_accounts::Config;
@@ -165,6 +166,7 @@ where
         requires next { next.now.config ≡ self.now.next.now }
     {
         let alloc = self.rt.alloc();
+        self.keep_boundary(ended)?;
         self.book_file(self.config).settle(ended)?;
         let whole = Saved {
             book: ended,
@@ -194,6 +196,7 @@ where
         };
         self.file
             .expect_free(self.rt, alloc, ended.period(), &whole)?;
+        self.keep_boundary(ended)?;
         let head = Saved {
             book: next,
             config: self.next,
@@ -201,6 +204,20 @@ where
         self.file.set_aside(self.rt, alloc, next.period(), &head)?;
         tell_left_out(self.rt, ended, self.next);
         Ok(())
+    }
+
+    // Keeps what a chain of periods is judged by, before any other file of the next one is written: so wherever that has
+    // begun it is what the call kept that began it.
+    fn keep_boundary(&self, ended: &Book) -> Result<(), Refused> {
+        let period = ended.period();
+        keep_boundary(
+            self.rt,
+            self.file,
+            self.path,
+            period,
+            self.config,
+            self.next,
+        )
     }
 
     // The book of the journal, where it is the one that an earlier call of this command has left.

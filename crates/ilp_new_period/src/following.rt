@@ -3,6 +3,7 @@
 use crate::beginning::next_of;
 use ilp_accounts::Config;
 use ilp_book::Book;
+use ilp_journal::{Entry, What};
 use ilp_journal_file::read_text;
 use ilp_journal_text::entry_line;
 use ilp_refusals::Refusal;
@@ -101,15 +102,16 @@ fn print_followed<R: Runtime>(rt: &R, period: u32) -> Result<(), RunFault> {
     }
 }
 
-// The number of the first entry at which a book is not the next one with something booked behind it: of another
-// period it is the first of all.
+// The number of the first entry at which a book that has begun is not the next one with something booked behind it: of
+// another period it is the first of all. Balances may be opened in another order: then it began by a configuration
+// that has the peers in that.
 fn first_difference(next: &Book, begun: &Book) -> Option<u32> {
     if begun.period() != next.period() {
         return Some(0);
     }
     let behind = next.len();
     (0..behind)
-        .find(|number| !has_same_entry(next, begun, *number))
+        .find(|number| !is_brought_forward(next, begun, *number))
         .or(
             begun
                 .entry(behind)
@@ -118,12 +120,25 @@ fn first_difference(next: &Book, begun: &Book) -> Option<u32> {
         )
 }
 
-// Whether two books have the same entry under a number. Peers are the same by their names.
-fn has_same_entry(next: &Book, begun: &Book, number: u32) -> bool {
-    let (Some(entry), Some(other)) = (next.entry(number), begun.entry(number)) else {
+// Whether the next book has the entry of a number of one that has begun: where it opens a balance, which is done once
+// for a peer, under any number; else under the same.
+fn is_brought_forward(next: &Book, begun: &Book, number: u32) -> bool {
+    let Some(entry) = begun.entry(number) else {
         return false;
     };
-    entry_line(next.config(), entry).as_slice() == entry_line(begun.config(), other).as_slice()
+    if matches!(entry.what, What::Opened { .. }) {
+        (0..next.len()).any(|place| has_entry(next, place, begun.config(), entry))
+    } else {
+        has_entry(next, number, begun.config(), entry)
+    }
+}
+
+// Whether a book has this entry of a configuration under a number. Peers are the same by their names.
+fn has_entry(next: &Book, number: u32, config: &Config, entry: &Entry) -> bool {
+    let Some(own) = next.entry(number) else {
+        return false;
+    };
+    entry_line(next.config(), own).as_slice() == entry_line(config, entry).as_slice()
 }
 
 // Why it doesn't follow, for a person.

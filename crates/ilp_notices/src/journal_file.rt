@@ -151,7 +151,7 @@ pub fn journal_of_another_asset<R: Clock + Eprint>(rt: &R, path: &str, config: &
 {
     let name = config.name(peer);
     let text = format_args!(
-        "journal {path:?}: what it counts of {name} is not in the asset of the configuration: give {name} the asset that stands in its `.log`, or without one in its `.lock`, and settle before it gets another"
+        "journal {path:?}: what it counts of {name} is not in the asset of the configuration: give {name} the asset that stands in its `.log`, or without one in its `.lock`, and a peer of another asset a name of its own"
     );
     tell(rt, Level::Error, text);
 }

@@ -4,5 +4,6 @@ pub mod PeerLemmas
 pub mod TargetLemmas
 pub mod TokenLemmas
 pub mod LawLemmas
+pub mod CreditLemmas
 pub mod Responses
 pub mod TextLemmas

@@ -6,6 +6,8 @@ pub mod Corrections
 pub mod Serving
 pub mod Connection
 pub mod Response
+pub mod PendingCredits
+pub mod CreditHalves
 pub mod Course
 pub mod Work
 pub use Rattle.ilp_order.specs.Found

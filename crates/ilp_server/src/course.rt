@@ -3,14 +3,18 @@ ghost use Rattle.std.specs.Prelude.{◌≡◌};
 ghost use Rattle.ilp_book.specs.Configured.{IsKnown};
 ghost use Rattle.ilp_server.specs.Serving.{inquiry};
 ghost use Rattle.ilp_server.specs.Response.{IsToPacket};
-ghost use Rattle.ilp_server.specs.Course.{flight_of, BeginsPacket, BeginsMessage, BeginsInquiry, BeginsRequest, IsOfKnownPeer};
+ghost use Rattle.ilp_accounts.specs.Configuration.{Configuration};
+ghost use Rattle.ilp_workers.specs.Worker.{PlainWorker};
+ghost use Rattle.ilp_server.specs.CreditHalves.{NeedsNone};
+ghost use Rattle.ilp_server.specs.Course.{flight_of, course_of_credit, BeginsPacket, BeginsMessage, BeginsInquiry, BeginsRequest, IsOfKnownPeer};
 
-use crate::correcting::serve_correction;
+use crate::correcting::begin_correction;
 use crate::fields::sender_of;
 use crate::handled::ConnectionFault;
+use crate::pending_credit::{CreditCourse, PendingCredit};
 use crate::response::Response;
 use crate::served::Served;
-use crate::serving::{serve_report_with, serve_settlement};
+use crate::serving::{begin_settlement, serve_report_with};
 use crate::target::{Side, Target, target_of};
 use crate::unserved::{NotServed, unread};
 use ilp_desk::{Desk, Naming};
@@ -23,11 +27,13 @@ use std::sync::Wait;
 
 /// How a request goes on.
 #[derive(Drop)]
-pub enum Course {
+pub enum Course<J: Naming> {
     /// It is answered so.
     Answered(Response),
     /// The next peer is to be handed the packet of this sender that waits under the key.
     Packet { sender: u32, key: usize },
+    /// A settlement or a correction is booked, and is to be answered behind its entry.
+    Credit(PendingCredit<J>),
     /// The settlement engine here is to be handed a message.
     ToEngine(EngineMessage),
     /// A peer is to be handed a message of the engine here.
@@ -45,8 +51,8 @@ pub enum Course {
 
 /// Begins to serve the request that the octets of a connection at a side begin with (RFC 0035 at the
 /// side of the peers, RFC 0038 at that of the engines). A packet is held, and waits with the worker
-/// until it is finished; a message is ready for whom it is handed to; all else is done, but for what is
-/// asked of the connector as a whole. Nobody outside is waited for. A report has `behind` at its end.
+/// until it is finished; a settlement or a correction is booked, and waits until its entry is kept; a message is ready
+/// for whom it is handed to; all else is done, but for what is asked of the connector as a whole. Nobody outside is waited for. A report has `behind` at its end.
 ///
 /// What is refused is answered with a status and an empty body, but for a correction by which the balance
 /// would fall below its least, and leaves the flight as it was unless a packet, a credit, a correction or
@@ -66,7 +72,7 @@ pub fn begin_request<
     octets: &[u8],
     behind: &[u8],
     buffer: &mut Buffer,
-) -> Course
+) -> Course<J>
     ensures begun { BeginsRequest J.desk side octets.now behind.now
         (flight_of flight.old.worker flight.old.waiting)
         (flight_of flight.new.worker flight.new.waiting) result }
@@ -92,7 +98,7 @@ fn begin<J: Naming, C: Clock + Drop, U: Uplink + Drop, E: EngineLink + Drop, K: 
     side: Side,
     request: &Request<'_>,
     behind: &[u8],
-) -> Course
+) -> Course<J>
     ensures begun { BeginsInquiry J.desk behind.now
         (inquiry side request.now.path.now request.now.headers request.now.body.now)
         (flight_of flight.old.worker flight.old.waiting)
@@ -103,12 +109,12 @@ fn begin<J: Naming, C: Clock + Drop, U: Uplink + Drop, E: EngineLink + Drop, K: 
         None => Course::Answered(Response::refusal(NotServed::UnknownTarget)),
         Some(Target::Packet) => begin_packet(rt, alloc, flight, desk, request),
         Some(Target::Settlement { peer }) => {
-            let outcome = serve_settlement(rt, alloc, &mut flight.worker, desk, peer, request);
-            Course::Answered(Response::to_outcome(outcome))
+            let worker = &mut flight.worker;
+            course_for(begin_settlement(rt, alloc, worker, desk, peer, request))
         }
         Some(Target::Correction { peer }) => {
-            let corrected = serve_correction(rt, alloc, &mut flight.worker, desk, peer, request);
-            Course::Answered(Response::to_outcome(corrected))
+            let worker = &mut flight.worker;
+            course_for(begin_correction(rt, alloc, worker, desk, peer, request))
         }
         Some(Target::Message { peer }) => begin_message(flight, desk, peer, request.body),
         Some(Target::Report) => {
@@ -119,6 +125,18 @@ fn begin<J: Naming, C: Clock + Drop, U: Uplink + Drop, E: EngineLink + Drop, K: 
         Some(Target::Reload) => Course::Reload,
         Some(Target::Pause { peer }) => Course::Pause { peer },
         Some(Target::Resume { peer }) => Course::Resume { peer },
+    }
+}
+
+// How a settlement or a correction goes on.
+fn course_for<J: Naming>(credit: CreditCourse<J>) -> Course<J>
+    requires { NeedsNone credit }
+    ensures course { (worker : PlainWorker) → result ≡ course_of_credit worker credit }
+    ensures peer { (config : Configuration) → IsOfKnownPeer config result }
+{
+    match credit {
+        CreditCourse::Waits(pending) => Course::Credit(pending),
+        CreditCourse::Over(outcome) => Course::Answered(Response::to_outcome(outcome)),
     }
 }
 
@@ -135,7 +153,7 @@ fn begin_packet<
     flight: &mut Flight<J, C, U, E, K>,
     desk: &Desk<J>,
     request: &Request<'_>,
-) -> Course
+) -> Course<J>
     ensures begun { BeginsPacket J.desk request.now.headers request.now.body.now
         (flight_of flight.old.worker flight.old.waiting)
         (flight_of flight.new.worker flight.new.waiting) result }
@@ -172,7 +190,7 @@ fn begin_message<
     U: Uplink + Drop,
     E: EngineLink + Drop,
     K: Keeper<J> + Drop,
->(flight: &mut Flight<J, C, U, E, K>, desk: &Desk<J>, peer: u32, body: &[u8]) -> Course
+>(flight: &mut Flight<J, C, U, E, K>, desk: &Desk<J>, peer: u32, body: &[u8]) -> Course<J>
     ensures begun { BeginsMessage J.desk peer body.now
         (flight_of flight.old.worker flight.old.waiting)
         (flight_of flight.new.worker flight.new.waiting) result }

@@ -35,7 +35,9 @@
 //!   no token leaves the flight as it was, and has the same refusal. A packet is begun as
 //!   `Flight::begin` does, from the token's peer: it waits under that key, or the engine here is to be
 //!   asked, or it is answered by the worker's octets, or by 503 where memory for their copy is denied.
-//!   A message is made ready for the path's peer. Settlements, corrections and closes are served whole, as above, and
+//!   A message is made ready for the path's peer. Settlements and corrections are booked or refused, as above, and one
+//!   that is booked waits (`specs/CreditHalves.antt`): `PendingCredit::tell` wants that the keeper was handed a journal
+//!   with its entry, and is what the whole serving answers by the keeper's word. Closes are served whole, and
 //!   what waited still waits; so are reports, with what they are to have behind their own text. A reload
 //!   is handed on, and so are a pause and a resume with the path's peer, whom the configuration has; they
 //!   change nothing.
@@ -60,6 +62,7 @@ mod course;
 mod fields;
 mod handled;
 pub mod laws;
+mod pending_credit;
 mod response;
 mod served;
 mod serving;
@@ -71,6 +74,7 @@ pub use answering::answer_connection;
 pub use course::{Course, begin_request};
 pub use fields::{key_of, sender_of};
 pub use handled::{ConnectionFault, Deed, Handled, ToldChange};
+pub use pending_credit::PendingCredit;
 pub use response::Response;
 pub use target::{Side, Target, target_of};
 pub use unserved::{NotServed, unread};

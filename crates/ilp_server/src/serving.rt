@@ -1,22 +1,25 @@
 //! Serving a request that was read, by what its target asks for.
-ghost use Rattle.std.specs.Prelude.{◌≡◌};
+ghost use Rattle.std.specs.Prelude.{◌≡◌, ◌+◌, ◌≤◌, length};
 ghost use Rattle.ilp_journal.specs.Keys.{IsKey};
 ghost use Rattle.ilp_book.specs.Configured.{IsKnown};
-ghost use Rattle.ilp_server.specs.Serving.{inquiry, Serves, ServesPacket, ServesSettlement, ServesPayment, ServesMessage, TellsReport, ServesReport};
+ghost use Rattle.ilp_server.specs.Serving.{IsCreditOutcome, inquiry, Serves, ServesPacket, ServesSettlement, ServesMessage, TellsReport, ServesReport};
+ghost use Rattle.ilp_server.specs.CreditHalves.{BeginsSettlement, BeginsPayment, IsCourseFor, IsEndedAs, IsBehindSeen, NeedsNone};
 
 use crate::correcting::serve_correction;
 use crate::fields::{key_of, sender_of};
 use crate::handled::ToldChange;
+use crate::pending_credit::{CreditCourse, PendingCredit};
 use crate::served::Served;
 use crate::target::{Side, Target, target_of};
 use crate::unserved::NotServed;
+use ilp_book::CreditFault;
 use ilp_desk::{Desk, Naming};
 use ilp_http::Request;
 use ilp_journal::{CreditKind, Key};
 use ilp_oer::Octets;
 use ilp_report::print;
 use ilp_settlement::{LONGEST_QUANTITY, Quantity, put_quantity};
-use ilp_workers::{Clock, EngineLink, Keeper, Uplink, Worker};
+use ilp_workers::{BookedCredit, Clock, EngineLink, Keeper, NotCredited, Uplink, Worker};
 use std::alloc::{Allocator, Global};
 use std::sync::Wait;
 
@@ -89,7 +92,7 @@ fn serve_packet<
 }
 
 // Credits the body as a settlement of the peer, under the key that the request gives.
-pub(crate) fn serve_settlement<
+fn serve_settlement<
     J: Naming,
     C: Clock + Drop,
     U: Uplink + Drop,
@@ -110,15 +113,43 @@ pub(crate) fn serve_settlement<
     ensures pending { worker.new.pending ≡ worker.old.pending }
     ensures actor { worker.new.share.actor ≡ worker.old.share.actor }
 {
-    let Some(key) = key_of(&request.headers) else {
-        return Err(NotServed::NoKey);
-    };
-    serve_payment(rt, alloc, worker, desk, peer, key, request.body)
+    let course = begin_settlement(rt, alloc, worker, desk, peer, request);
+    end_credit(worker, course)
+}
+
+/// The first half of that: it is credited, and nobody is told.
+pub(crate) fn begin_settlement<
+    J: Naming,
+    C: Clock + Drop,
+    U: Uplink + Drop,
+    E: EngineLink + Drop,
+    K: Keeper<J> + Drop,
+    A: Allocator + Copy,
+>(
+    rt: &impl Wait,
+    alloc: Global,
+    worker: &mut Worker<J, C, U, E, K, A>,
+    desk: &Desk<J>,
+    peer: u32,
+    request: &Request<'_>,
+) -> CreditCourse<J>
+    requires known { IsKnown J.desk.config peer }
+    ensures begun { BeginsSettlement J.desk peer request.now.headers request.now.body.now
+        worker.old worker.new result }
+    ensures behind { IsBehindSeen worker.new result }
+    ensures whole { NeedsNone result }
+    ensures pending { worker.new.pending ≡ worker.old.pending }
+    ensures actor { worker.new.share.actor ≡ worker.old.share.actor }
+{
+    match key_of(&request.headers) {
+        Some(key) => begin_payment(rt, alloc, worker, desk, peer, key, request.body),
+        None => CreditCourse::Over(Err(NotServed::NoKey)),
+    }
 }
 
 // Credits the quantity that the body is. Room for the answer and the key is made before anything is
 // booked.
-fn serve_payment<
+fn begin_payment<
     J: Naming,
     C: Clock + Drop,
     U: Uplink + Drop,
@@ -133,34 +164,78 @@ fn serve_payment<
     peer: u32,
     key: &[u8],
     body: &[u8],
-) -> Result<Served, NotServed>
+) -> CreditCourse<J>
     requires known { IsKnown J.desk.config peer }
     requires key { IsKey key.now }
-    ensures served { ServesPayment J.desk peer key.now body.now worker.old worker.new result }
+    ensures begun { BeginsPayment J.desk peer key.now body.now worker.old worker.new result }
+    ensures behind { IsBehindSeen worker.new result }
+    ensures whole { NeedsNone result }
     ensures pending { worker.new.pending ≡ worker.old.pending }
     ensures actor { worker.new.share.actor ≡ worker.old.share.actor }
 {
     let quantity = match Quantity::read(alloc, body) {
         Ok(quantity) => quantity,
-        Err(fault) => return Err(NotServed::Quantity(fault)),
+        Err(fault) => return CreditCourse::Over(Err(NotServed::Quantity(fault))),
     };
     let mut text = Octets::new(alloc);
     let Ok(()) = text.reserve(LONGEST_QUANTITY) else {
-        return Err(NotServed::Memory);
+        return CreditCourse::Over(Err(NotServed::Memory));
     };
     let Ok(Some(key)) = Key::new(alloc, key) else {
-        return Err(NotServed::Memory);
+        return CreditCourse::Over(Err(NotServed::Memory));
     };
-    match worker.credit(rt, desk, peer, key, &quantity, CreditKind::Settled) {
-        Ok(kept) => {
-            put_quantity(&mut text, kept.amount, desk.config().scale(peer));
-            Ok(Served::Booked { peer, kept, text })
+    let half = worker.begin_credit(rt, desk, peer, key, &quantity, CreditKind::Settled);
+    course_of_payment(desk, peer, quantity, half, text)
+}
+
+// How a settlement goes on, by what the worker booked. Its text is written into the room that there is.
+fn course_of_payment<J: Naming>(
+    desk: &Desk<J>,
+    peer: u32,
+    quantity: Quantity,
+    half: Result<BookedCredit<J>, CreditFault>,
+    room: Octets,
+) -> CreditCourse<J>
+    requires known { IsKnown J.desk.config peer }
+    requires room { LONGEST_QUANTITY ≤ length room.octets + room.spare }
+    ensures course { IsCourseFor (IsCreditOutcome J.desk peer quantity) half result }
+    ensures whole { NeedsNone result }
+{
+    let told = ToldChange::Settlement(quantity);
+    let mut text = room;
+    match half {
+        Ok(booked) => {
+            put_quantity(&mut text, booked.credit().amount, desk.config().scale(peer));
+            CreditCourse::Waits(PendingCredit::new(booked, peer, told, text))
         }
-        Err(fault) => Err(NotServed::Credit {
+        Err(fault) => CreditCourse::Over(Err(NotServed::Credit {
             peer,
-            told: ToldChange::Settlement(quantity),
-            fault,
-        }),
+            told,
+            fault: NotCredited::Refused(fault),
+        })),
+    }
+}
+
+/// The second half of a settlement or a correction: the keeper is handed the journal that has it, if it is booked.
+pub(crate) fn end_credit<
+    J: Naming,
+    C: Clock + Drop,
+    U: Uplink + Drop,
+    E: EngineLink + Drop,
+    K: Keeper<J> + Drop,
+    A: Allocator + Copy,
+>(worker: &mut Worker<J, C, U, E, K, A>, course: CreditCourse<J>) -> Result<Served, NotServed>
+    requires behind { IsBehindSeen worker.old course }
+    ensures ended { IsEndedAs course worker.old worker.new result }
+    ensures pending { worker.new.pending ≡ worker.old.pending }
+    ensures actor { worker.new.share.actor ≡ worker.old.share.actor }
+{
+    match course {
+        CreditCourse::Waits(pending) => {
+            let handed = worker.keep();
+            pending.outcome(&handed)
+        }
+        CreditCourse::Over(outcome) => outcome,
     }
 }
 

@@ -5,7 +5,7 @@ use ilp_desk::{End, Naming};
 use ilp_keeping::Keeper;
 use ilp_link_traits::Clock;
 use ilp_settler::Settler;
-use ilp_shared::{Nobody, Shared, Shutdown, monotonic};
+use ilp_shared::{Nobody, Shared, Shutdown};
 use mio::{Events, Poll, Token, Waker};
 use std::alloc::Global;
 use std::io::Eprint;
@@ -90,7 +90,7 @@ impl<J: Naming, C: Clock + Drop, K: Keeper<J> + Drop> SettlingLoop<J, C, K> {
         shutdown: &Shutdown,
     ) {
         self.wait(shared);
-        let now = monotonic(shared.rt);
+        let now = shared.now();
         if shutdown.has_begun(shared.rt) {
             self.turns.hurry(now);
         }
@@ -105,7 +105,7 @@ impl<J: Naming, C: Clock + Drop, K: Keeper<J> + Drop> SettlingLoop<J, C, K> {
     // Waits until an engine says something, a turn is due, or the bell rings.
     fn wait<R: Wait + time::Clock>(&mut self, shared: &Shared<'_, J, R>) {
         let left = match self.turns.due() {
-            Some(due) => Some(due.saturating_sub(monotonic(shared.rt))),
+            Some(due) => Some(due.saturating_sub(shared.now())),
             None => None,
         };
         if self.poll.poll(&mut self.events, left).is_err() {

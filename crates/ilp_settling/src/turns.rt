@@ -12,7 +12,7 @@ use ilp_keeping::Keeper;
 use ilp_link_traits::{Clock, EngineReply};
 use ilp_links::EngineCall;
 use ilp_settler::{Asking, BegunTurn, Settler, Turn};
-use ilp_shared::{Nobody, Shared, monotonic};
+use ilp_shared::{Nobody, Shared};
 use mio::{Registry, Token};
 use std::alloc::{AllocError, Global};
 use std::io::Eprint;
@@ -194,7 +194,7 @@ impl<J: Naming, C: Clock + Drop, K: Keeper<J> + Drop> Turns<J, C, K> {
     {
         match self.begin_settling(shared, peer) {
             Ok(BegunTurn::NeedsAccount) => {
-                let now = monotonic(shared.rt);
+                let now = shared.now();
                 match shared.outside().ask_for_account(peer, now) {
                     Some(call) => Course::AsksForAccount(call),
                     None => rest(shared, 0),
@@ -215,7 +215,7 @@ impl<J: Naming, C: Clock + Drop, K: Keeper<J> + Drop> Turns<J, C, K> {
     ) -> Result<BegunTurn, AllocError>
         requires known { IsKnown J.desk.config peer }
     {
-        let now = monotonic(shared.rt);
+        let now = shared.now();
         self.look_at_balance(shared, peer, now);
         let may_ask = self.may_ask(shared, peer, now);
         if let Some(turns) = self.peers.get_mut(peer as usize) {
@@ -227,7 +227,7 @@ impl<J: Naming, C: Clock + Drop, K: Keeper<J> + Drop> Turns<J, C, K> {
         let begun = self.settler.begin(shared.rt, shared.desk, peer);
         // What was asked for has left the balance. Where that is below the threshold now, the next settlement
         // waits anew. Where it is not, since none is of more than `settle_max`, the next doesn't wait.
-        self.look_at_balance(shared, peer, monotonic(shared.rt));
+        self.look_at_balance(shared, peer, shared.now());
         begun
     }
 
@@ -268,7 +268,7 @@ impl<J: Naming, C: Clock + Drop, K: Keeper<J> + Drop> Turns<J, C, K> {
         peer: u32,
         asking: Asking,
     ) -> Course {
-        let now = monotonic(shared.rt);
+        let now = shared.now();
         let (amount, scale) = (asking.amount(), asking.scale());
         match shared
             .outside()
@@ -414,7 +414,7 @@ const UNHEARD: EngineReply = EngineReply::Unknown { status: None };
 fn rest<J: Naming, R: time::Clock>(shared: &Shared<'_, J, R>, pause: u64) -> Course {
     let rest = u64::from(shared.desk.config().settle_ms()).max(pause);
     Course::Rests {
-        until: monotonic(shared.rt).saturating_add(Duration::from_millis(rest)),
+        until: shared.now().saturating_add(Duration::from_millis(rest)),
     }
 }
 

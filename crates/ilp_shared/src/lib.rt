@@ -34,7 +34,7 @@ pub use bells::Bells;
 pub use intakes::{Intakes, ending_after};
 pub use jobs::{Job, LOCAL_AT_ONCE};
 pub use keeping::{KeepingAsker, KeepingAsks, KeptJournal, keep_for_loops, keeping_pair};
-pub use moment::monotonic;
+pub use moment::Moments;
 pub use nobody::Nobody;
 pub use payouts::{LeftTurns, Payouts};
 pub use period_due::PeriodDue;

@@ -3,6 +3,7 @@
 use crate::bells::Bells;
 use crate::intakes::Intakes;
 use crate::keeping::KeptJournal;
+use crate::moment::Moments;
 use crate::payouts::Payouts;
 use crate::period_due::PeriodDue;
 use crate::places::Places;
@@ -13,7 +14,7 @@ use ilp_links::Outside;
 use ilp_log_keeper::DiskWait;
 use ilp_notices::Notices;
 use std::sync::Wait;
-use std::time::Duration;
+use std::time::{Clock, Duration};
 
 /// What the threads of a connector work on.
 #[derive(Drop)]
@@ -28,6 +29,7 @@ pub struct Shared<'a, J: Naming, R> {
     pub disk: &'a DiskWait,
     pub notices: &'a Notices,
     pub seen: &'a Seen,
+    pub moments: &'a Moments,
     pub reloading: &'a Reloading,
     pub payouts: &'a Payouts,
     /// When the desk's period ends by itself.
@@ -46,6 +48,13 @@ impl<'a, J: Naming, R: Wait> Shared<'a, J, R> {
     }
 }
 
+impl<J: Naming, R: Clock> Shared<'_, J, R> {
+    /// The time by the clock that never goes back.
+    pub fn now(&self) -> Duration {
+        self.moments.now(self.rt)
+    }
+}
+
 impl<'a, J: Naming, R> Shared<'a, J, R> {
     /// The same, for another thread.
     pub fn another(&self) -> Shared<'a, J, R> {
@@ -59,6 +68,7 @@ impl<'a, J: Naming, R> Shared<'a, J, R> {
             disk: self.disk,
             notices: self.notices,
             seen: self.seen,
+            moments: self.moments,
             reloading: self.reloading,
             payouts: self.payouts,
             due: self.due,

@@ -16,8 +16,8 @@ use ilp_links::Links;
 use ilp_notices::{ListensAt, few_files, listening, no_thread, not_listening};
 use ilp_server::Side;
 use ilp_shared::{
-    Asker, Intakes, KeptJournal, NextConfig, OnDisk, Payouts, PeriodDue, Places, Reloading, Seen,
-    Shared, ending_after, monotonic,
+    Asker, Intakes, KeptJournal, Moments, NextConfig, OnDisk, Payouts, PeriodDue, Places,
+    Reloading, Seen, Shared, ending_after,
 };
 use std::alloc::AllocError;
 use std::io::{Eprint, ErrorKind};
@@ -48,12 +48,15 @@ pub struct Sides {
     is_first: bool,
     // Where they listen.
     at: ListensAt,
+    // What time their threads have read.
+    moments: Moments,
 }
 
 impl Sides {
     /// Has no period of a desk end by itself for a minute: the last one had none behind it.
     pub fn go_on_for_now(&mut self, rt: &impl Clock) {
-        self.not_before = monotonic(rt).saturating_add(Duration::from_millis(AGAIN_MS));
+        let now = self.moments.now(rt);
+        self.not_before = now.saturating_add(Duration::from_millis(AGAIN_MS));
     }
 
     /// Listens at both sides, at the places of the configuration. Periods of a desk between them may end by
@@ -87,6 +90,7 @@ impl Sides {
             not_before: Duration::ZERO,
             is_first: true,
             at,
+            moments: Moments::new(),
         })
     }
 
@@ -244,6 +248,7 @@ where
         not_before,
         is_first,
         at,
+        moments,
     } = sides;
     let KeptBy { keeper, way, disk } = kept_by;
     let in_flight = most_in_flight(open_files, config);
@@ -275,6 +280,7 @@ where
         disk,
         notices: links.notices(),
         seen: &seen,
+        moments: &moments,
         reloading: &reloading,
         payouts: &payouts,
         due,
@@ -298,6 +304,7 @@ where
                     not_before,
                     is_first: false,
                     at,
+                    moments,
                 }),
                 None => {
                     reloading.turn_away(rt, &intakes);

@@ -176,6 +176,7 @@ where
         disk: shared.disk,
         notices: shared.notices,
         seen: shared.seen,
+        moments: shared.moments,
         reloading: shared.reloading,
         due: shared.due,
         on_disk,

@@ -7,8 +7,8 @@ use ilp_keeping::SharedKeeper;
 use ilp_log_keeper::DiskWait;
 use ilp_notices::{Notices, not_reloaded};
 use ilp_shared::{
-    Intakes, MEMORY_IS_SHORT, NextConfig, OnDisk, PeriodDue, Places, Reloading, Seen, Shutdown,
-    monotonic, without_end,
+    Intakes, MEMORY_IS_SHORT, Moments, NextConfig, OnDisk, PeriodDue, Places, Reloading, Seen,
+    Shutdown, without_end,
 };
 use ilp_workers::{Clock, Keeper};
 use std::io::Eprint;
@@ -35,6 +35,7 @@ pub(crate) struct Watcher<'a, J: Naming, C: Clock + Drop, K: Keeper<J> + Drop, P
     pub(crate) disk: &'a DiskWait,
     pub(crate) notices: &'a Notices,
     pub(crate) seen: &'a Seen,
+    pub(crate) moments: &'a Moments,
     pub(crate) reloading: &'a Reloading,
     pub(crate) due: Option<PeriodDue>,
     pub(crate) on_disk: P,
@@ -147,7 +148,7 @@ where
     // settlements alone are booked, no packet is.
     fn look_at_period<R: Wait + time::Clock>(&self, rt: &R) {
         if let Some(due) = self.due {
-            if due.is_reached(self.desk.lock(rt).book(), monotonic(rt)) {
+            if due.is_reached(self.desk.lock(rt).book(), self.moments.now(rt)) {
                 self.end_period(rt);
             }
         }
@@ -183,7 +184,7 @@ where
 
     // Where somebody waits long for the disk, who mends a log would too.
     fn look_at_disk<R: time::Clock + Eprint>(&mut self, rt: &R) {
-        let waited = self.disk.waited(monotonic(rt));
+        let waited = self.disk.waited(self.moments.now(rt));
         self.notices.disk_takes(rt, waited);
         if waited < Duration::from_millis(BUSY_MS) {
             self.look_at_keeper(rt);

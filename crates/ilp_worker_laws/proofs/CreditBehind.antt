@@ -1,6 +1,7 @@
 -- A credit is told behind its entry.
-use Rattle.std.proofs.Common.{◌≡◌, ℕ, ℤ, Bool, true, false, List, [], ◌∷◌, ◌++◌, length, Option, Some, None, inl, inr, refl, sym, ap, subst}
-use Rattle.std.specs.Prelude.{Result, Ok, Err, ◌==◌, ◌&&◌, not, nat_lt, option_and_then, if◌then◌else◌}
+use Rattle.std.proofs.Common.{◌≡◌, ℕ, ℤ, Bool, true, false, List, [], ◌∷◌, ◌++◌, length, Option, Some, None, inl, inr, refl, sym, ap, subst, arith}
+use Rattle.std.specs.Prelude.{Result, Ok, Err, ◌==◌, ◌&&◌, not, ◌<◌, ◌≤◌, nat_lt, slice_get, option_and_then, if◌then◌else◌}
+use Rattle.std.proofs.lemmas.Option.{slice_get_within}
 use Rattle.ilp_assets.specs.Quote.{most}
 use Rattle.ilp_journal.specs.declared.entry.Entry.{Entry}
 use Rattle.ilp_journal.specs.declared.entry.What.TheVariants as what
@@ -20,8 +21,8 @@ use Rattle.ilp_keeping.specs.Keeping as keeper
 use Rattle.ilp_link_traits.specs.Links.{Tells}
 use Rattle.ilp_workers.specs.declared.crediting.NotCredited.{NotCredited}
 use Rattle.ilp_workers.specs.Worker.{PlainWorker, Seat, seat_of, IsKept}
-use Rattle.ilp_workers.specs.Crediting.{IsCredited, CreditsAt, answer_kept, IsAnswered, Credits}
-use Rattle.ilp_worker_laws.specs.Outcome.{IsCreditBehind}
+use Rattle.ilp_workers.specs.Crediting.{PlainBookedCredit, BooksCredit, IsCredited, CreditsAt, answer_kept, IsAnswered, Credits}
+use Rattle.ilp_worker_laws.specs.Outcome.{IsCreditBehind, IsCreditWithin}
 use Rattle.ilp_workers.proofs.CreditSessions.{kept_is_its}
 use Rattle.ilp_worker_laws.proofs.Behind.{get_last, told_last}
 
@@ -121,3 +122,26 @@ credit_behind desk p before after credit told credits tells = of credits.paid.re
     of (Err fault) answered at = let two = answered.0 in absurd cc
     of (Ok found) answered at =
         by_answer p found credit answered.0 credits.paid.left (seat_of after) told (by_session desk p (seat_of before) credits.paid.left found at) answered.1 answered.2 tells
+
+-- ---- what waits to be told
+
+-- what stands at a place of a journal lies within it
+credit_within : (j : Entries) (n : ℕ) (c : Credited) → credit_at j n ≡ Some c → n < length j
+credit_within j n c stands = of (slice_get j n) refl stands
+  where
+    of : (o : Option Entry) → slice_get j n ≡ o → option_and_then (λ (e : Entry). as_credit e.what) o ≡ Some c → n < length j
+    of (Some e) at is = slice_get_within j n e at
+    of None at is = absurd cc
+
+pub waits_within : (desk : PlainDesk) (p : Payment) (before after : PlainWorker) (b : PlainBookedCredit) → BooksCredit desk p before after (Ok b) → IsCreditWithin after.seen p b
+waits_within desk p before after b booked =
+    let its = by_session desk p (seat_of before) (seat_of after) b.credit booked.told in
+    record {
+      entry = its.entry;
+      within = subst (λ n. b.credit.number < n) (sym booked.behind) (credit_within after.seen b.credit.number its.entry its.stands);
+      all = subst (λ n. n ≤ length after.seen) (sym booked.behind) (omega arith);
+      stands = its.stands;
+      peer = its.peer;
+      key = its.key;
+      amount = its.amount;
+    }

@@ -1,5 +1,5 @@
 -- What a forward comes to for its sender, a Fulfill or a Reject, and behind which entries one is told.
-use Rattle.std.specs.Prelude.{◌≡◌, ℕ, ◌+◌, ◌⊎◌, ◌==◌, nat_lt, List, [], ◌∷◌, ◌++◌, slice_get, Option, Some, None, option_and_then, Result, Ok, true, if◌then◌else◌}
+use Rattle.std.specs.Prelude.{◌≡◌, ℕ, ◌+◌, ◌<◌, ◌≤◌, ◌⊎◌, ◌==◌, nat_lt, List, [], ◌∷◌, ◌++◌, length, slice_get, Option, Some, None, option_and_then, Result, Ok, true, if◌then◌else◌}
 use Rattle.ilp_terms.specs.Condition.{meets}
 use Rattle.ilp_packet.specs.Packet.{PlainPrepare, PlainFulfill, PlainReject, prepare, fulfill, reject, Spells}
 use Rattle.ilp_accounts.specs.Configuration.{Configuration, peer_at}
@@ -29,6 +29,7 @@ use Rattle.ilp_workers.specs.Worker.{PlainWorker}
 use Rattle.ilp_workers.specs.Forwarding.{order, record_of_end}
 use Rattle.ilp_workers.specs.Pending.{PlainPending, told_order}
 use Rattle.ilp_workers.specs.Arrivals.{Arrival}
+use Rattle.ilp_workers.specs.Crediting.{PlainBookedCredit}
 
 -- The sender is answered a Fulfill whose preimage meets the Prepare's condition. Two entries are booked, and the worker keeps one
 -- more record, of a fulfilled hold.
@@ -125,3 +126,13 @@ pub record IsCreditBehind (told : List ToKeeper) (p : Payment) (credit : Kept) :
   pub peer : entry.peer ≡ p.peer
   pub key : entry.key ≡ p.key
   pub amount : entry.credited ≡ credit.amount
+
+-- Among so many first entries of the journal one has this number, and credits the peer under its key what is kept.
+pub record IsCreditWithin (journal : Entries) (p : Payment) (b : PlainBookedCredit) : Type 0 where
+  pub entry : Credited
+  pub within : b.credit.number < b.behind
+  pub all : b.behind ≤ length journal
+  pub stands : credit_at journal b.credit.number ≡ Some entry
+  pub peer : entry.peer ≡ p.peer
+  pub key : entry.key ≡ p.key
+  pub amount : entry.credited ≡ b.credit.amount

@@ -25,8 +25,8 @@ ghost use Rattle.ilp_workers.specs.Halves.{IsBegun, IsHanded, IsBooked, IsHanded
 ghost use Rattle.ilp_worker_laws.specs.Runs.{Step, IsRun, fulfills_told};
 ghost use Rattle.ilp_workers.specs.Messaging.{IsMessaged, IsTried};
 ghost use Rattle.ilp_workers.specs.Arrivals.{Arrival, IsForPeers, Forwards};
-ghost use Rattle.ilp_workers.specs.Crediting.{Credits};
-ghost use Rattle.ilp_worker_laws.specs.Outcome.{IsFulfilled, IsRejected, IsFulfilledEnd, IsRejectedEnd, IsToldBehind, IsRefusedAs, IsCreditBehind, standing_refusal};
+ghost use Rattle.ilp_workers.specs.Crediting.{PlainBookedCredit, BooksCredit, Credits};
+ghost use Rattle.ilp_worker_laws.specs.Outcome.{IsFulfilled, IsRejected, IsFulfilledEnd, IsRejectedEnd, IsToldBehind, IsRefusedAs, IsCreditBehind, IsCreditWithin, standing_refusal};
 
 use ilp_replies::MessageFault;
 
@@ -133,6 +133,13 @@ pub fn credits_are_told_behind_their_entries()
     ensures { (desk : PlainDesk) (p : Payment) (before after : PlainWorker) (credit : Kept)
         (told : List ToKeeper) → Credits desk p before after (Ok credit) → after.kept ≡ Some told
         → IsCreditBehind told p credit }
+{}
+
+/// A credit that is booked, and that nobody is told yet, waits for a journal that has its entry: the worker has seen it,
+/// among as many entries as are to be kept first.
+pub fn booked_credits_wait_for_their_entries()
+    ensures { (desk : PlainDesk) (p : Payment) (before after : PlainWorker) (b : PlainBookedCredit)
+        → BooksCredit desk p before after (Ok b) → IsCreditWithin after.seen p b }
 {}
 
 /// A Prepare of too great an amount, without a route or with one back to its sender is refused as

@@ -20,6 +20,8 @@
 //!   answered by what came, is one whole.
 //! - `credits_are_told_behind_their_entries`: over a keeper that tells, the last that it was asked
 //!   before an Ok of `credit` is to keep a journal that has the credit, and it said that this is kept.
+//! - `booked_credits_wait_for_their_entries`: a credit that is booked and not told waits for as many
+//!   entries of the journal that the worker has seen as its own is among.
 #![tactic(auto)]
 
 pub mod laws;

@@ -120,3 +120,29 @@ pub record Credits (desk : PlainDesk) (p : Payment) (before after : PlainWorker)
   pub paid : IsPaid desk p (seat_of before) (seat_of after) answer
   pub links : (after.sent ≡ before.sent) × (after.engine ≡ before.engine)
   pub reply_stays : after.reply ≡ before.reply
+
+-- ---- in two halves
+
+-- a credit that is booked, now or under its key from before, and how many entries the keeper is to be handed before it is told
+pub record PlainBookedCredit : Type 0 where
+  pub credit : Kept
+  pub behind : ℕ
+
+abbrev pub booked_credit : Kept → ℕ → PlainBookedCredit
+booked_credit credit behind = record { credit = credit; behind = behind }
+
+-- what a book replied
+abbrev pub reply_of_half : Result PlainBookedCredit CreditFault → Result Kept CreditFault
+reply_of_half (Ok b) = Ok b.credit
+reply_of_half (Err fault) = Err fault
+
+-- A credit is told behind all that the worker has seen.
+abbrev pub IsBehindAll : Entries → PlainBookedCredit → Type 0
+IsBehindAll seen b = b.behind ≡ length seen
+
+-- The first half of a payment: it is booked or refused. No peer, no engine and no keeper is handed anything.
+pub record BooksCredit (desk : PlainDesk) (p : Payment) (before after : PlainWorker) (half : Result PlainBookedCredit CreditFault) : Type 0 where
+  pub told : CreditsAt desk p (seat_of before) (seat_of after) (reply_of_half half)
+  pub behind : IfOk half (IsBehindAll after.seen)
+  pub links : (after.sent ≡ before.sent) × (after.engine ≡ before.engine)
+  pub reply_stays : after.reply ≡ before.reply

@@ -4,13 +4,13 @@ ghost use Rattle.ilp_book.specs.Configured.{IsKnown};
 ghost use Rattle.ilp_book.specs.SettleStep.{Payment, payment};
 ghost use Rattle.ilp_journal.specs.Credits.{lowers as kind_lowers};
 ghost use Rattle.ilp_workers.specs.Worker.{seat};
-ghost use Rattle.ilp_workers.specs.Crediting.{record_of_credit, CreditsAt, IsPaid};
+ghost use Rattle.ilp_workers.specs.Crediting.{record_of_credit, CreditsAt};
 
 use crate::parts::{Parts, reserve_beside};
 use ilp_book::{CreditFault, Kept};
 use ilp_desk::{Desk, Naming, Record, Recorded};
 use ilp_journal::{CreditKind, Key};
-use ilp_keeping::{Keeper, NotKept};
+use ilp_keeping::Keeper;
 use ilp_link_traits::{Clock, EngineLink, Uplink};
 use ilp_settlement::{Quantity, credited};
 use std::alloc::Allocator;
@@ -37,40 +37,8 @@ impl<
     K: Keeper<J> + Drop,
     A: Allocator,
 > Parts<J, C, U, E, K, A> {
-    // Books the settlement or the correction, and answers it only once the journal that has it is kept.
-    pub(crate) fn credit(
-        &mut self,
-        rt: &impl Wait,
-        desk: &Desk<J>,
-        peer: u32,
-        key: Key,
-        quantity: &Quantity,
-        kind: CreditKind,
-    ) -> Result<Kept, NotCredited>
-        requires known { IsKnown J.desk.config peer }
-        ensures paid { IsPaid J.desk (payment peer key quantity.now kind)
-            (seat self.old.share self.old.records.items (C.told self.old.clock) self.old.receipt
-            (K.told self.old.keeper))
-            (seat self.new.share self.new.records.items (C.told self.new.clock) self.new.receipt
-            (K.told self.new.keeper)) result }
-        ensures links { (self.new.uplink ≡ self.old.uplink) × (self.new.engine ≡ self.old.engine) }
-        ensures reply_in { self.new.reply_in ≡ self.old.reply_in }
-        ensures pending { self.new.pending ≡ self.old.pending }
-        ensures actor { self.new.share.actor ≡ self.old.share.actor }
-        ensures buffers { (self.new.incoming ≡ self.old.incoming)
-            × (self.new.outgoing ≡ self.old.outgoing) × (self.new.rejected ≡ self.old.rejected) }
-    {
-        match self.book_credit(rt, desk, peer, key, quantity, kind) {
-            Ok(credit) => match self.keep() {
-                Ok(()) => Ok(credit),
-                Err(NotKept) => Err(NotCredited::NotKept { credit }),
-            },
-            Err(fault) => Err(NotCredited::Refused(fault)),
-        }
-    }
-
     // Makes room for the record, and then has the desk credit the settlement at the clock's moment.
-    fn book_credit(
+    pub(crate) fn book_credit(
         &mut self,
         rt: &impl Wait,
         desk: &Desk<J>,

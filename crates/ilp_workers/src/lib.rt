@@ -72,6 +72,8 @@
 //!   to, also where a credit is kept; of one of an earlier period it is what was credited then.
 //! - Of either the keeper is first handed the journal that has it. Where it says that this isn't
 //!   kept, the answer is `NotKept`, and entry and record stay. Of a refusal it is handed nothing.
+//! - `credit` is `begin_credit`, then `keep`, then `BookedCredit::tell`: the first books, and asks no keeper;
+//!   the last wants that the keeper was handed as many entries as the credit's session left.
 //! - `Worker::new` holds share, receipt, links, keeper and no record, or hands all back; `into_end`
 //!   hands on share and records.
 //!
@@ -81,6 +83,7 @@
 
 mod arrivals;
 mod booked;
+mod booked_credit;
 mod crediting;
 mod halves;
 mod handing;
@@ -92,6 +95,7 @@ mod worker;
 
 pub use arrivals::BadPacket;
 pub use booked::{Booked, HandedJournal};
+pub use booked_credit::BookedCredit;
 pub use crediting::NotCredited;
 pub use handing::JournalKeeper;
 pub use ilp_keeping::{Forgetful, Keeper, NotKept};

@@ -5,7 +5,7 @@ ghost use Rattle.ilp_book.specs.SettleStep.{payment};
 ghost use Rattle.ilp_packet.specs.Packet.{prepare};
 ghost use Rattle.ilp_desk.specs.Portion.{holding};
 ghost use Rattle.ilp_workers.specs.Worker.{worker, replied};
-ghost use Rattle.ilp_workers.specs.Crediting.{Credits};
+ghost use Rattle.ilp_workers.specs.Crediting.{BooksCredit, Credits};
 ghost use Rattle.ilp_replies.specs.Messages.{peer_answer_of};
 ghost use Rattle.ilp_workers.specs.Messaging.{Messages};
 ghost use Rattle.ilp_replies.specs.Replies.{octets_of};
@@ -16,10 +16,11 @@ ghost use Rattle.ilp_workers.specs.Arrivals.{arrival, Forwards};
 
 use crate::arrivals::{BadPacket, prepare_in};
 use crate::booked::{Booked, HandedJournal};
+use crate::booked_credit::BookedCredit;
 use crate::crediting::NotCredited;
 use crate::in_flight::{Begun, Pending};
 use crate::parts::{Buffer, Parts};
-use ilp_book::Kept;
+use ilp_book::{CreditFault, Kept};
 use ilp_desk::{Desk, End, JournalReceipt, Naming, Record, Share};
 use ilp_journal::{CreditKind, Key};
 use ilp_keeping::Keeper;
@@ -370,7 +371,36 @@ impl<
         ensures pending { self.new.pending ≡ self.old.pending }
         ensures actor { self.new.share.actor ≡ self.old.share.actor }
     {
-        self.parts.credit(rt, desk, peer, key, quantity, kind)
+        match self.begin_credit(rt, desk, peer, key, quantity, kind) {
+            Ok(booked) => {
+                let kept = self.keep();
+                booked.tell(&kept)
+            }
+            Err(fault) => Err(NotCredited::Refused(fault)),
+        }
+    }
+
+    /// The first half of `credit`: the settlement is credited, or the balance corrected, and nobody is told. The keeper
+    /// is asked nothing: who asked for it is to be answered behind the credit's entry, by `BookedCredit::tell`.
+    pub fn begin_credit(
+        &mut self,
+        rt: &impl Wait,
+        desk: &Desk<J>,
+        peer: u32,
+        key: Key,
+        quantity: &Quantity,
+        kind: CreditKind,
+    ) -> Result<BookedCredit<J>, CreditFault>
+        requires known { IsKnown J.desk.config peer }
+        ensures booked { BooksCredit J.desk (payment peer key quantity.now kind) self.old self.new result }
+        ensures pending { self.new.pending ≡ self.old.pending }
+        ensures actor { self.new.share.actor ≡ self.old.share.actor }
+    {
+        let parts = &mut self.parts;
+        match parts.book_credit(rt, desk, peer, key, quantity, kind) {
+            Ok(credit) => Ok(BookedCredit::new(credit, parts.receipt.len())),
+            Err(fault) => Err(fault),
+        }
     }
 
     /// Sends a message of the settlement engine here to that of a peer (RFC 0038): a Prepare of

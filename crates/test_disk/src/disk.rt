@@ -36,16 +36,33 @@ pub const PERIOD: &str = "journal.0";
 /// Of the second period, once it has ended.
 pub const LATER: &str = "journal.1";
 
+// Of what is kept of the two configurations between which each of these ended.
+const BETWEEN: &str = "journal.0.remembered";
+
+const LATER_BETWEEN: &str = "journal.1.remembered";
+
 /// Where Linux says what a process may have.
 pub const LIMITS: &str = "/proc/self/limits";
 
 // The names that a file can have.
 const NAMES: [&str; COUNT] = [
-    JOURNAL, LOCK, RUNNING, NEW, LOG, LOG_NEW, ENDED, NEXT, PERIOD, LATER, LIMITS,
+    JOURNAL,
+    LOCK,
+    RUNNING,
+    NEW,
+    LOG,
+    LOG_NEW,
+    ENDED,
+    NEXT,
+    PERIOD,
+    BETWEEN,
+    LATER,
+    LATER_BETWEEN,
+    LIMITS,
 ];
 
 // How many these are.
-const COUNT: usize = 11;
+const COUNT: usize = 13;
 
 // The folder's own name.
 pub(crate) const FOLDER: &str = ".";

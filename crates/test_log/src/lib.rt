@@ -14,8 +14,9 @@
 #![tactic(auto)]
 
 #[cfg(test)]
-mod booking;
+mod beside;
 #[cfg(test)]
+mod booking;
 #[cfg(test)]
 mod crashes;
 #[cfg(test)]

@@ -25,8 +25,8 @@ const ZERO_FIRST: &[u8] =
 const ONE_FIRST: &[u8] =
     b"first\nsecond\n1735689600000 1 credited alice 6c 1 2 1\n1735689600000 0 credited alice 6b 1 2 1\n";
 
-// Whether a settlement from alice is booked under this key.
-fn credit<J: Naming>(
+/// Whether a settlement from alice is booked under this key.
+pub(crate) fn credit<J: Naming>(
     rt: &impl Wait,
     alloc: Global,
     desk: &Desk<J>,

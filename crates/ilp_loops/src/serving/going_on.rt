@@ -73,7 +73,7 @@ impl<J: Naming, C: Clock + Drop, K: Keeper<J> + Drop> Serving<J, C, K> {
         }
         self.has_unread |= is_unread(&stage);
         match &stage {
-            Stage::Booked { .. } => {
+            Stage::Booked { .. } | Stage::Credited(_) => {
                 let _ = self.booked.push(place);
             }
             Stage::Over => {

@@ -15,7 +15,7 @@ use std::time::Duration;
 use std::{mem, time};
 
 impl<J: Naming, C: Clock + Drop, K: Keeper<J> + Drop> Serving<J, C, K> {
-    /// Ends a turn. The senders of packets that are booked are told: a Fulfill once the journal is kept
+    /// Ends a turn. Who waits for what is booked is told: of a Fulfill or a credit once the journal is kept
     /// that has it, which one keeping is for all of. Without somebody to ask for that, it is waited for,
     /// and so it is where no loop of several has anything else. Those whose service is over give back their places.
     pub(crate) fn end_turn<R: Wait + time::Clock + Eprint + Net>(
@@ -49,7 +49,7 @@ impl<J: Naming, C: Clock + Drop, K: Keeper<J> + Drop> Serving<J, C, K> {
     }
 
     // Has the journal kept for those that are booked. Whoever is asked for that hands it back later than it
-    // takes, so a packet that is all that the loops have is kept here, where another loop serves who comes meanwhile.
+    // takes, so what is all that the loops have is kept here, where another loop serves who comes meanwhile.
     fn have_kept<R: Wait + time::Clock + Eprint + Net>(
         &mut self,
         shared: &Shared<'_, J, R>,
@@ -67,7 +67,7 @@ impl<J: Naming, C: Clock + Drop, K: Keeper<J> + Drop> Serving<J, C, K> {
         self.send_answers(shared, registry, now);
     }
 
-    /// Whether a sender may be told now whose packet was booked before.
+    /// Whether somebody may be told now of what was booked before.
     pub(crate) fn is_ripe<R>(&self, shared: &Shared<'_, J, R>) -> bool {
         let entries = shared.kept.entries();
         let mut booked = self.booked.iter();
@@ -77,7 +77,7 @@ impl<J: Naming, C: Clock + Drop, K: Keeper<J> + Drop> Serving<J, C, K> {
         })
     }
 
-    // Makes the answers of all packets that are booked and kept.
+    // Makes the answers of all that is booked and kept.
     fn answer_booked<R: Wait + time::Clock + Eprint>(
         &mut self,
         shared: &Shared<'_, J, R>,
@@ -96,7 +96,7 @@ impl<J: Naming, C: Clock + Drop, K: Keeper<J> + Drop> Serving<J, C, K> {
         }
     }
 
-    // Makes the answers of the packets that are booked, whose senders may be told behind this journal.
+    // Makes the answers of what is booked and may be told behind this journal.
     fn answer_behind(&mut self, handed: &HandedJournal<J>, now: Duration) {
         for k in 0..self.booked.len() {
             let Some(place) = self.booked.get(k).copied() else {
@@ -126,7 +126,7 @@ impl<J: Naming, C: Clock + Drop, K: Keeper<J> + Drop> Serving<J, C, K> {
             let Some(guest) = self.guests.get_mut(place) else {
                 continue;
             };
-            if let Stage::Booked { .. } = guest.stage {
+            if guest.stage.behind().is_some() {
                 if let Some(slot) = self.booked.get_mut(left) {
                     *slot = place;
                     left = left.saturating_add(1);

@@ -62,6 +62,7 @@ pub(super) fn is_unread<J: Naming>(stage: &Stage<J>) -> bool {
         Stage::ToEngine { call, .. } => call.is_unread(),
         Stage::ToPeer { call, .. } => call.is_unread(),
         Stage::Booked { .. } => false,
+        Stage::Credited(_) => false,
         Stage::Responds { .. } => false,
         Stage::Over => false,
     }

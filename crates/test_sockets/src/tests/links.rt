@@ -13,9 +13,10 @@ use super::sockets::accept;
 use super::{FULFILL, START, Still};
 use calls::{Scene, answer_of, reply_of};
 use driven::Driven;
-use hearing::{At, Hearing};
+use hearing::{At, Hearing, Stopping};
 use ilp_link_traits::{Clock, EngineLink, EngineReply, ReplyKind, Uplink};
 use ilp_links::{Outside, SystemClock};
+use ilp_shared::Moments;
 use stage::{Play, stage};
 use stand_in::Does;
 use std::alloc::Global;
@@ -23,6 +24,7 @@ use std::io;
 use std::io::{Eprint, ErrorKind, Read, Write};
 use std::net::{Net, TcpListener, TcpStream};
 use std::process::Abort;
+use std::sync::atomic::{AtomicBool, Ordering};
 use std::test::*;
 use std::thread::Threads;
 use std::time::{Duration, Instant};
@@ -333,4 +335,21 @@ fn clocks(rt: HostRuntime) {
         milliseconds: START as u64,
     };
     assert_eq!(rt; SystemClock::new(standing).now(), START);
+}
+
+// A clock that can't be read any more tells what it told last.
+#[test]
+fn clocks_that_stop(rt: HostRuntime) {
+    let works = AtomicBool::new(true);
+    let stopping = Stopping {
+        works: &works,
+        milliseconds: START as u64,
+    };
+    let (mut clock, moments) = (SystemClock::new(stopping), Moments::new());
+    let last = Duration::from_millis(START as u64);
+    assert_eq!(rt; clock.now(), START);
+    assert_eq!(rt; moments.now(&stopping), last);
+    works.store(false, Ordering::SeqCst);
+    assert_eq!(rt; clock.now(), START);
+    assert_eq!(rt; moments.now(&stopping), last);
 }

@@ -5,6 +5,7 @@ use std::fmt::Display;
 use std::io;
 use std::io::Eprint;
 use std::net::{Net, SocketAddr};
+use std::sync::atomic::{AtomicBool, Ordering};
 use std::sync::{Mutex, Wait};
 use std::time::{Clock, Duration};
 
@@ -110,3 +111,30 @@ impl<R> Clock for At<R> {
 }
 
 impl<R: Wait> Wait for At<R> {}
+
+/// A clock that tells so many milliseconds, while it works.
+#[derive(Clone, Copy)]
+pub(super) struct Stopping<'c> {
+    pub(super) works: &'c AtomicBool,
+    pub(super) milliseconds: u64,
+}
+
+impl Stopping<'_> {
+    fn read(&self) -> io::Result<Duration> {
+        if self.works.load(Ordering::SeqCst) {
+            Ok(Duration::from_millis(self.milliseconds))
+        } else {
+            Err(io::Error::from(io::ErrorKind::Other))
+        }
+    }
+}
+
+impl Clock for Stopping<'_> {
+    fn monotonic(&self) -> io::Result<Duration> {
+        self.read()
+    }
+
+    fn since_1970(&self) -> io::Result<Duration> {
+        self.read()
+    }
+}

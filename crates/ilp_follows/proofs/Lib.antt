@@ -1,0 +1,6 @@
+mod ToldLines
+mod Standing
+mod Named
+mod OwnKey
+mod Brought
+mod Refusing

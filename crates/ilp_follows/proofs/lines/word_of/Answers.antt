@@ -1,0 +1,10 @@
+use Rattle.std.proofs.Common.{rules, tests}
+use Rattle.std.proofs.lemmas.Iterator.Consumers.{nth_from_yields_List}
+use Rattle.std.proofs.lemmas.Iterator.Splits.{YieldsList-from_slice_split}
+use Rattle.ilp_follows.specs.Follows.{is_space}
+use Rattle.ilp_follows.proofs.lines.word_of.Goals as goal
+
+pub returns : goal.returns
+returns c =
+    nth_from_yields_List c.nth.result c.nth.new.self 2 c.nth.ensures.ran
+    (YieldsList-from_slice_split _ is_space c.args.line.now c.split.ensures.rest c.split.ensures.done c.split.ensures.closure (λ x r q k. search (rules, tests)))

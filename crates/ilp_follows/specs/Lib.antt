@@ -1,0 +1,14 @@
+pub mod Follows
+pub use Rattle.ilp_accounts.specs.Configuration
+pub use Rattle.ilp_accounts.specs.Valid
+pub use Rattle.ilp_journal.specs.Journal
+pub use Rattle.ilp_journal.specs.Balance
+pub use Rattle.ilp_journal.specs.Credits
+pub use Rattle.ilp_journal.specs.BroughtForward
+pub use Rattle.ilp_journal_text.specs.Text
+pub use Rattle.ilp_journal_text.specs.Reading
+pub use Rattle.ilp_rules.specs.Book
+pub use Rattle.ilp_rules.specs.Configured
+pub use Rattle.ilp_rules.specs.Heads
+pub use Rattle.ilp_rules.specs.Parts
+pub use Rattle.ilp_next_period.specs.NextPeriod
