@@ -63,7 +63,7 @@ pub use locking::LockFile;
 pub use log_device::LogDevice;
 pub use looking::{Found, look_at};
 pub use noting::Noting;
-pub use placing::{FileIdentity, FileThere, PlacesFiles, put_in_place};
+pub use placing::{FileIdentity, FileThere, PlacesFiles, rename_in};
 pub use reading::read_text;
 pub use taking::JournalFile;
 pub use watching::JournalWatch;
