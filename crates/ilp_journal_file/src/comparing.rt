@@ -1,13 +1,20 @@
 //! Whether a text is what would be written.
+ghost use Rattle.std.specs.Prelude.{◌≡◌, ◌≤◌, Some, length, take, true};
 
 use crate::writing::Content;
+use ilp_io::WriteFault;
 use std::io;
 use std::io::{ErrorKind, Write};
 
 /// Whether this text is just what would be written of the content.
-pub fn has_text<C: Content>(content: &C, text: &[u8]) -> bool {
-    let mut compared = Compared { left: text };
-    content.put(&mut compared).is_ok() && compared.left.is_empty()
+pub fn has_text<C: Content>(content: &C, text: &[u8]) -> bool
+    ensures { result ≡ true → C.text content.now ≡ text.now }
+{
+    let mut compared = Compared { text, count: 0 };
+    match content.put(&mut compared) {
+        Ok(()) => compared.count == text.len(),
+        Err(WriteFault) => false,
+    }
 }
 
 /// Whether what would be written of the content begins with this text.
@@ -41,17 +48,21 @@ impl Write for Beginning<'_> {
 // What takes only the octets that a text has, from its front on.
 #[derive(Drop)]
 struct Compared<'t> {
-    left: &'t [u8],
+    text: &'t [u8],
+    // How many it has taken.
+    count: usize,
+    ghost within: { count ≤ length text.now },
 }
 
 impl Write for Compared<'_> {
+    ghost contents = { λ compared. Some (take compared.count compared.text.now) };
+
     fn write(&mut self, octets: &[u8]) -> io::Result<usize> {
-        match self.left.strip_prefix(octets) {
-            Some(rest) => {
-                self.left = rest;
-                Ok(octets.len())
-            }
-            None => Err(io::Error::from(ErrorKind::InvalidData)),
+        if self.text[self.count..].starts_with(octets) {
+            self.count += octets.len();
+            Ok(octets.len())
+        } else {
+            Err(io::Error::from(ErrorKind::InvalidData))
         }
     }
 

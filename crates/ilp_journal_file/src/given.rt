@@ -1,5 +1,5 @@
 //! A file, and how much it was given.
-ghost use Rattle.std.specs.Prelude.{◌≡◌, ◌≤◌, [], true, length, IfOk, OnOk};
+ghost use Rattle.std.specs.Prelude.{◌≡◌, ◌≤◌, ◌+◌, [], true, length, max, IfOk, OnOk};
 ghost use Rattle.ilp_line_file.specs.Device.{Torn, Holds};
 ghost use Rattle.ilp_journal_file.specs.Files.{AddsNone, Lasts, LeavesEither, Steps};
 
@@ -67,14 +67,15 @@ impl<F> GivenFile<F> {
         requires { R.claims → at ≤ length (R.seen self.old.file) }
         ensures written { R.claims → OnOk result
             (Holds (R.seen self.old.file) at octets.now (R.seen self.new.file)) }
+        ensures len { OnOk result (self.new.len ≡ max self.old.len (at + length octets.now)) }
         ensures stop { R.claims → Steps R.may_leave (Torn at octets.now) self.old.file self.new.file }
         ensures time { R.claims → Lasts R.may_leave R.moment R.left_since self.old.file self.new.file }
         ensures sound { R.claims → OnOk result (R.is_sound self.new.file ≡ R.is_sound self.old.file) }
     {
-        let end = at.saturating_add(octets.len() as u64);
-        if end > most {
-            return Err(too_large());
-        }
+        let end = match at.checked_add(octets.len() as u64) {
+            Some(end) if end <= most => end,
+            _ => return Err(too_large()),
+        };
         rt.write_at(&mut self.file, at, octets)?;
         self.len = self.len.max(end);
         Ok(())

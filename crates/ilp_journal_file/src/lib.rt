@@ -36,6 +36,7 @@ mod kept_text;
 mod limited;
 mod locking;
 mod log_device;
+mod log_place;
 mod logging;
 mod looking;
 mod marking;
@@ -52,6 +53,7 @@ mod setting_aside;
 mod standing;
 mod system_text;
 mod taking;
+mod telling;
 mod watching;
 mod writing;
 

@@ -1,48 +1,23 @@
 //! The file of a log as a device.
-ghost use Rattle.std.specs.Prelude.{◌≡◌, ◌⊎◌, ◌≤◌, ◌<◌, ◌++◌, [], Bool, true, false, Some, None, List, ℕ, length, take, IfOk, OnOk};
+ghost use Rattle.std.specs.Prelude.{◌≡◌, ◌⊎◌, ◌≤◌, ◌++◌, [], Bool, true, false, List, ℕ, length, take, IfOk, IfSome, OnOk};
 ghost use Rattle.ilp_line_file.specs.Device.{Only, Torn, Cut, Holds, Follows, Elapses, HasCause};
-ghost use Rattle.ilp_line_file.specs.declared.device.DeviceFault.TheVariants.{Failed};
 ghost use Rattle.ilp_journal_file.specs.Files.{AddsNone, IsKept, Lasts, LeavesEither, Steps};
 ghost use Rattle.ilp_journal_file.specs.Anew.{octets_of};
+ghost use Rattle.std.proofs.Props.{props};
 
 use crate::given::GivenFile;
-use crate::holding::HeldLock;
-use crate::named_log::NamedLog;
+use crate::log_place::LogPlace;
 use crate::placing::PlacesFiles;
 use crate::reading::TEXT_LIMIT;
+use crate::telling::Telling;
 use ilp_accounts::LogSync;
 use ilp_io::ReadFault;
 use ilp_line_file::{Device, DeviceFault};
-use ilp_notices::{journal_lost, log_begun, log_unwritten};
 use std::alloc::Global;
 use std::fs::File;
 use std::io;
 use std::io::{Eprint, ErrorKind};
-use std::sync::Arc;
 use std::time::Clock;
-
-/// Where a log lies, and what it may be.
-#[derive(Drop)]
-pub(crate) struct LogPlace {
-    /// The path of its journal, as lines tell it.
-    pub(crate) journal: String,
-    /// Its path, likewise.
-    pub(crate) path: String,
-    /// What is written, and then takes its place.
-    pub(crate) new: String,
-    /// What is locked by whoever has the journal.
-    pub(crate) lock: String,
-    pub(crate) held: HeldLock,
-    /// Which file it is.
-    pub(crate) named: Arc<NamedLog, Global>,
-    pub(crate) folder: String,
-    /// The rights of its file.
-    pub(crate) mode: u32,
-    /// The most octets that it may have.
-    pub(crate) most: u64,
-    /// When its lines reach the disk.
-    pub(crate) sync: LogSync,
-}
 
 /// The file of a log, `J.log`. It does as a device does where its system does as that claims.
 ///
@@ -62,14 +37,10 @@ pub struct LogDevice<'r, R: PlacesFiles<File = F>, F = File> {
     is_failed: bool,
     // The new file beside it, of which no call has failed.
     anew: Option<GivenFile<F>>,
-    // How many calls have failed.
-    failures: u64,
-    // Whether a line has told of a failure, and whether it was made anew since.
-    is_told: bool,
-    is_anew: bool,
+    telling: Telling,
     ghost sound: { is_failed ≡ false → R.claims → R.is_sound file.file ≡ true },
-    ghost whole: { R.claims → (a : GivenFile F) → anew ≡ Some a → R.is_sound a.file ≡ true },
-    ghost length: { R.claims → (a : GivenFile F) → anew ≡ Some a → length (R.seen a.file) ≡ a.len },
+    ghost whole: { R.claims → IfSome anew (λ a. (R.is_sound a.file ≡ true)
+        × (length (R.seen a.file) ≡ a.len)) } by { Prim.hlevel props },
 }
 
 impl<'r, R, F> LogDevice<'r, R, F>
@@ -96,9 +67,7 @@ where
             file: given,
             is_failed: false,
             anew: None,
-            failures: 0,
-            is_told: false,
-            is_anew: false,
+            telling: Telling::new(),
         })
     }
 
@@ -106,7 +75,7 @@ where
     fn create_anew(&mut self) -> io::Result<()>
         ensures file { self.new.file ≡ self.old.file }
         ensures sync { self.new.place.sync ≡ self.old.place.sync }
-        ensures failures { self.new.failures ≡ self.old.failures }
+        ensures failures { self.new.telling.failures ≡ self.old.telling.failures }
         ensures empty { R.claims → OnOk result (octets_of R.seen self.new.anew ≡ []) }
     {
         self.place.expect_held(self.rt)?;
@@ -120,7 +89,7 @@ where
     fn add_anew(&mut self, octets: &[u8]) -> io::Result<()>
         ensures file { self.new.file ≡ self.old.file }
         ensures sync { self.new.place.sync ≡ self.old.place.sync }
-        ensures failures { self.new.failures ≡ self.old.failures }
+        ensures failures { self.new.telling.failures ≡ self.old.telling.failures }
         ensures written { R.claims → OnOk result
             (octets_of R.seen self.new.anew ≡ octets_of R.seen self.old.anew ++ octets.now) }
     {
@@ -137,7 +106,7 @@ where
     // Has the new file take the log's name, once the disk has it.
     fn take_name(&mut self) -> io::Result<()>
         ensures sync { self.new.place.sync ≡ self.old.place.sync }
-        ensures failures { self.new.failures ≡ self.old.failures }
+        ensures failures { self.new.telling.failures ≡ self.old.telling.failures }
         ensures seen { R.claims → OnOk result
             (R.seen self.new.file.file ≡ octets_of R.seen self.old.anew) }
         ensures kept { R.claims → OnOk result (IsKept R.seen R.may_leave self.new.file.file) }
@@ -158,7 +127,7 @@ where
     fn put_in_place(&mut self, by: GivenFile<F>) -> io::Result<()>
         requires sound { R.claims → R.is_sound by.file ≡ true }
         ensures sync { self.new.place.sync ≡ self.old.place.sync }
-        ensures failures { self.new.failures ≡ self.old.failures }
+        ensures failures { self.new.telling.failures ≡ self.old.telling.failures }
         ensures seen { R.claims → OnOk result (R.seen self.new.file.file ≡ R.seen by.file) }
         ensures whole { R.claims → OnOk result (AddsNone R.may_leave by.file self.new.file.file) }
         ensures stop { R.claims
@@ -172,7 +141,7 @@ where
         self.file.put_in_place(self.rt, by, new, path, folder)?;
         self.is_failed = false;
         self.place.named.set(identity);
-        self.is_anew = true;
+        self.telling.is_anew = true;
         Ok(())
     }
 
@@ -180,7 +149,7 @@ where
     fn put(&mut self, at: u64, octets: &[u8]) -> io::Result<()>
         requires { R.claims → at ≤ length (R.seen self.old.file.file) }
         ensures sync { self.new.place.sync ≡ self.old.place.sync }
-        ensures failures { self.new.failures ≡ self.old.failures }
+        ensures failures { self.new.telling.failures ≡ self.old.telling.failures }
         ensures written { R.claims → OnOk result
             (Holds (R.seen self.old.file.file) at octets.now (R.seen self.new.file.file)) }
         ensures stop { R.claims
@@ -200,7 +169,7 @@ where
     fn shorten(&mut self, len: u64) -> io::Result<()>
         requires { R.claims → len ≤ length (R.seen self.old.file.file) }
         ensures sync { self.new.place.sync ≡ self.old.place.sync }
-        ensures failures { self.new.failures ≡ self.old.failures }
+        ensures failures { self.new.telling.failures ≡ self.old.telling.failures }
         ensures cut { R.claims → OnOk result
             (R.seen self.new.file.file ≡ take len (R.seen self.old.file.file)) }
         ensures stop { R.claims
@@ -220,7 +189,7 @@ where
     // file meanwhile.
     fn keep(&mut self) -> io::Result<()>
         ensures sync { self.new.place.sync ≡ self.old.place.sync }
-        ensures failures { self.new.failures ≡ self.old.failures }
+        ensures failures { self.new.telling.failures ≡ self.old.telling.failures }
         ensures durable { R.claims → OnOk result (Only (R.seen self.old.file.file)
             (R.may_leave self.old.place.sync self.new.file.file)) }
         ensures seen { R.claims → R.seen self.new.file.file ≡ R.seen self.old.file.file }
@@ -256,70 +225,6 @@ where
     }
 }
 
-impl LogPlace {
-    // Where a new file lies, the name that it takes, and the folder of both.
-    fn renaming(&self) -> (&str, &str, &str) {
-        (self.new.as_str(), self.path.as_str(), self.folder.as_str())
-    }
-
-    // Finds that the file that is locked lies at the lock's path.
-    fn expect_held<R: PlacesFiles>(&self, rt: &R) -> io::Result<()> {
-        match self.held.is_at(rt, self.lock.as_str())? {
-            true => Ok(()),
-            false => Err(io::Error::from(ErrorKind::ResourceBusy)),
-        }
-    }
-}
-
-impl<R: PlacesFiles<File = F> + Clock + Eprint, F> LogDevice<'_, R, F> {
-    // Notes that the disk has what was written.
-    fn note_kept(&mut self)
-        ensures { self.new ≡ record self.old { is_anew = self.new.is_anew; is_told = self.new.is_told } }
-    {
-        if self.is_anew {
-            log_begun(self.rt, self.place.path.as_str(), self.place.sync);
-            self.is_anew = false;
-        }
-        self.is_told = false;
-    }
-
-    // A call has failed. The first one is told.
-    fn failed(&mut self, error: &io::Error) -> DeviceFault
-        ensures same { self.new ≡ record self.old { failures = self.new.failures; is_told = self.new.is_told } }
-        ensures later { self.old.failures ≤ self.new.failures }
-        ensures counted { result ≡ Failed → self.old.failures < self.new.failures }
-    {
-        if !self.is_told {
-            self.tell(error);
-            self.is_told = true;
-        }
-        self.count()
-    }
-
-    // Counts a call that has failed. More than have a number are told as want of memory.
-    fn count(&mut self) -> DeviceFault
-        ensures same { self.new ≡ record self.old { failures = self.new.failures } }
-        ensures later { self.old.failures ≤ self.new.failures }
-        ensures counted { result ≡ Failed → self.old.failures < self.new.failures }
-    {
-        match self.failures.checked_add(1) {
-            Some(failures) => {
-                self.failures = failures;
-                DeviceFault::Failed
-            }
-            None => DeviceFault::Memory,
-        }
-    }
-
-    fn tell(&self, error: &io::Error) {
-        let place = &self.place;
-        match place.held.is_at(self.rt, place.lock.as_str()) {
-            Ok(false) => journal_lost(self.rt, place.journal.as_str(), place.lock.as_str()),
-            _ => log_unwritten(self.rt, place.path.as_str(), error),
-        }
-    }
-}
-
 impl<R, F> Device for LogDevice<'_, R, F>
 where
     R: PlacesFiles<File = F> + Clock + Eprint,
@@ -337,7 +242,7 @@ where
 
     ghost left_since = { λ d. R.left_since d.place.sync d.file.file };
 
-    ghost faults = { λ d. d.failures };
+    ghost faults = { λ d. d.telling.failures };
 
     ghost counts_now = { λ claimed d t left. R.counts_now claimed d.place.sync d.file.file t left };
 
@@ -347,52 +252,52 @@ where
         match self.rt.read(alloc, &mut self.file.file, TEXT_LIMIT) {
             Ok(text) => Ok(text),
             Err(ReadFault::Memory) => Err(DeviceFault::Memory),
-            Err(_) => Err(self.count()),
+            Err(_) => Err(self.telling.count()),
         }
     }
 
     fn write_at(&mut self, at: usize, octets: &[u8]) -> Result<(), DeviceFault> {
         match self.put(at as u64, octets) {
             Ok(()) => Ok(()),
-            Err(error) => Err(self.failed(&error)),
+            Err(error) => Err(self.telling.failed(self.rt, &self.place, &error)),
         }
     }
 
     fn cut(&mut self, len: usize) -> Result<(), DeviceFault> {
         match self.shorten(len as u64) {
             Ok(()) => Ok(()),
-            Err(error) => Err(self.failed(&error)),
+            Err(error) => Err(self.telling.failed(self.rt, &self.place, &error)),
         }
     }
 
     fn sync(&mut self) -> Result<(), DeviceFault> {
         match self.keep() {
             Ok(()) => {
-                self.note_kept();
+                self.telling.note_kept(self.rt, &self.place);
                 Ok(())
             }
-            Err(error) => Err(self.failed(&error)),
+            Err(error) => Err(self.telling.failed(self.rt, &self.place, &error)),
         }
     }
 
     fn open_anew(&mut self) -> Result<(), DeviceFault> {
         match self.create_anew() {
             Ok(()) => Ok(()),
-            Err(error) => Err(self.failed(&error)),
+            Err(error) => Err(self.telling.failed(self.rt, &self.place, &error)),
         }
     }
 
     fn write_anew(&mut self, octets: &[u8]) -> Result<(), DeviceFault> {
         match self.add_anew(octets) {
             Ok(()) => Ok(()),
-            Err(error) => Err(self.failed(&error)),
+            Err(error) => Err(self.telling.failed(self.rt, &self.place, &error)),
         }
     }
 
     fn take_place(&mut self) -> Result<(), DeviceFault> {
         match self.take_name() {
             Ok(()) => Ok(()),
-            Err(error) => Err(self.failed(&error)),
+            Err(error) => Err(self.telling.failed(self.rt, &self.place, &error)),
         }
     }
 }
