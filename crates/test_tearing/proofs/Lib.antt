@@ -1,0 +1,4 @@
+pub mod Changes
+pub mod Mixing
+pub mod Epochs
+pub mod Disks

@@ -1,0 +1,3 @@
+pub mod Tearing
+pub mod Past
+pub mod Files
