@@ -11,7 +11,7 @@ length_behind at octets old new same holds =
     let none : drop (at + length octets) old ≡ [] = drop_of_length-le old (omega (arith, same)) in
     let all : take at old ≡ old = ap (λ (n : ℕ). take n old) (omega (arith, same)) ∙ take-length old in
     let new_is : new ≡ (old ++ octets) ++ [] =
-      holds ∙ ap (λ (l : List ℕ). (l ++ octets) ++ drop (at + length octets) old) all ∙ ap (λ (l : List ℕ). (old ++ octets) ++ l) none in
+    holds ∙ ap (λ (l : List ℕ). (l ++ octets) ++ drop (at + length octets) old) all ∙ ap (λ (l : List ℕ). (old ++ octets) ++ l) none in
     omega (arith, ap (λ (l : List ℕ). length l) new_is, length-append (old ++ octets) [], length-append old octets, same)
 
 -- so many more are those behind the first
@@ -20,4 +20,4 @@ take_more n m xs le =
     let front : List ℕ = take n xs in
     let back : List ℕ = drop n xs in
     subst (λ (k : ℕ). take (k + m) xs ≡ front ++ take m back) (length-take-le n xs le)
-      (subst (λ (l : List ℕ). take (length front + m) l ≡ front ++ take m back) (take-append-drop n xs) (take-append-add front back m))
+    (subst (λ (l : List ℕ). take (length front + m) l ≡ front ++ take m back) (take-append-drop n xs) (take-append-add front back m))

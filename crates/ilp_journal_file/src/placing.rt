@@ -65,12 +65,7 @@ pub trait PlacesFiles {
         ensures sound { claims → IfOk result (λ file. is_sound file ≡ true) };
 
     /// All the octets. It is refused as too long where they are more than `most`.
-    fn read(
-        &self,
-        alloc: Global,
-        file: &mut Self::File,
-        most: usize,
-    ) -> Result<Vec<u8>, ReadFault>
+    fn read(&self, alloc: Global, file: &mut Self::File, most: usize) -> Result<Vec<u8>, ReadFault>
         ensures octets { claims → IfOk result (λ octets. octets.items ≡ seen file.old) }
         ensures seen { claims → seen file.new ≡ seen file.old }
         ensures stop { claims → AddsNone may_leave file.old file.new }
@@ -216,13 +211,7 @@ impl PlacesFiles for HostRuntime {
         file.sync_all()
     }
 
-    fn give_name(
-        &self,
-        _file: &mut File,
-        new: &str,
-        path: &str,
-        folder: &str,
-    ) -> io::Result<()> {
+    fn give_name(&self, _file: &mut File, new: &str, path: &str, folder: &str) -> io::Result<()> {
         rename_in(self, new, path, folder)
     }
 

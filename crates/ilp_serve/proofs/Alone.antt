@@ -9,4 +9,4 @@ pub alone_as : {D : Type 0} (seen : D → List ℕ) (may_leave : D → List ℕ 
     → ForSome (Some log) (running.IsAlone seen may_leave)
 alone_as {D} seen may_leave log alone other is =
     subst (λ (o : Option (BegunLog D)). IfSome o (λ (l : BegunLog D). running.IsAlone seen may_leave l)) is
-      (record { read = alone.read; kept = alone.kept; end = alone.end; lines = alone.lines })
+    (record { read = alone.read; kept = alone.kept; end = alone.end; lines = alone.lines })

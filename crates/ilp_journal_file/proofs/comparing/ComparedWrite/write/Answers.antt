@@ -16,7 +16,7 @@ returns-then-starts_with-clause-bytes g c =
     let whole : left ≡ back = take_all (length text - compared.count) back (omega (arith, length-drop compared.count text)) in
     let begins : left ≡ octets ++ drop (length octets) left = (starts_is Decides-eqb left octets c.starts_with.result c.starts_with.ensures.value).0 c.if-starts_with.true in
     let more : take (length octets) back ≡ take (length octets) octets =
-      ap (λ (l : List ℕ). take (length octets) l) (sym whole ∙ begins) ∙ take-append_seam octets (drop (length octets) left) ∙ sym (take-length octets) in
+    ap (λ (l : List ℕ). take (length octets) l) (sym whole ∙ begins) ∙ take-append_seam octets (drop (length octets) left) ∙ sym (take-length octets) in
     let all : take (compared.count + length octets) text ≡ take compared.count text ++ take (length octets) octets =
-      take_more compared.count (length octets) text compared.within ∙ ap (λ (l : List ℕ). take compared.count text ++ l) more in
+    take_more compared.count (length octets) text compared.within ∙ ap (λ (l : List ℕ). take compared.count text ++ l) more in
     ap (λ (l : List ℕ). take (compared.count + length octets) l) (sym compared.is) ∙ all ∙ ap (λ (l : List ℕ). take compared.count l ++ take (length octets) octets) compared.is
