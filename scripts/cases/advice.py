@@ -1,10 +1,12 @@
 """What lines advise an operator of a journal that is refused, each followed word for word: the start is taken then."""
 import re
 import shutil
+import subprocess
 
 from cases.case import case, expect, expect_that
+from cases.disks import Disk
 from cases.journal_files import IN_USE, UNREAD
-from cases.journals import Kept
+from cases.journals import STOPPED, TO_DO, Kept
 from cases.laboratory import Laboratory, close, credit, post_close
 from cases.lines import OF_ANOTHER_TEXT
 from cases.logs import killed, log_of, saved
@@ -14,6 +16,11 @@ from cases.running_periods import expect_end_of
 from connections import quantity
 
 OLDER = r"error journal .+: the period \d+ has ended beside it, and it lacks what that has: .+"
+# In seconds: what a close takes where the journal can't be saved, which is tried for a minute.
+A_MINUTE = 75.0
+
+UNLOCKED = r"error can't lock .+: keep the journal where files can be locked"
+LOOSE = r"error journal .+: it is the new one, but its folder can't be synced: .+: see to the disk, and keep .+"
 GONE = r"error journal .+: it isn't there, and what was kept beside it is: .+"
 
 
@@ -150,3 +157,85 @@ def advice_to_close_another_connector(laboratory: Laboratory) -> None:
     close(Kept(laboratory).serve())
     close(first, bob=7)
     close(kept.serve(), bob=7)
+
+
+@case
+def advice_to_begin_with_another_run(laboratory: Laboratory) -> None:
+    """Who can't tell what a connector without a log had booked moves the journal and its mark away, and begins with a
+    `run` that no earlier start had."""
+    kept = Kept(laboratory)
+    saved(kept, "k0")
+    kept.beside("running").write_text("run r1, begun with 1 entries\n")
+    kept.expect_refused(UNREAD, STOPPED.format(1), TO_DO)
+    folder = laboratory.folder()
+    kept.path.rename(folder / "journal")
+    kept.beside("running").rename(folder / "journal.running")
+    kept.setup.top["run"] = "r2"
+    program = kept.serve()
+    expect("a credit under an earlier key", credit(program, 7, key="k0"), created(quantity(7, 2)))
+    close(program, bob=7)
+
+
+@case
+def advice_to_keep_it_where_files_can_be_locked(laboratory: Laboratory) -> None:
+    """A journal whose files can't be locked is moved to where they can be. This is left out where there is no C
+    compiler."""
+    if (disk := Disk.of(laboratory)) is None:
+        return
+    kept = Kept(laboratory)
+    saved(kept, "k0")
+    disk.open.touch()
+    program = kept.start(disk.environment())
+    expect("the exit status", program.end(10.0), 1)
+    expect("standard output", program.output(), "refused 73 JournalUnread\n")
+    expect("how many lines say so", len(program.told(UNLOCKED)), 1)
+    elsewhere = Kept(laboratory, kept.setup)
+    kept.path.rename(elsewhere.path)
+    close(elsewhere.serve(), bob=7)
+
+
+@case
+def advice_to_mount_its_folder(laboratory: Laboratory) -> None:
+    """A journal that is mounted by itself is refused, and taken where its folder is mounted. This is left out where
+    nothing may be mounted."""
+    if subprocess.run(["unshare", "--mount", "true"], capture_output=True).returncode != 0:
+        return
+    kept = Kept(laboratory)
+    program = kept.serve()
+    expect("a credit", credit(program, 7), created(quantity(7, 2)))
+    close(program, bob=7)
+
+    def checked(mounted: str) -> tuple[int, str, str]:
+        """What `check` says of it where this is mounted."""
+        words = [str(program.binary), "check", str(program.configuration), str(kept.path)]
+        shell = ["unshare", "--mount", "sh", "-c", 'mount --bind "$0" "$0" && exec "$@"', mounted]
+        done = subprocess.run([*shell, *words], capture_output=True, text=True, timeout=10.0)
+        return done.returncode, done.stdout, done.stderr
+
+    status, told, errors = checked(str(kept.path))
+    expect("what is refused", (status, told), (1, "refused 73 JournalUnread\n"))
+    expect_that(f"it does not say so: {errors!r}", "mount the folder that it lies in" in errors)
+    expect("its folder mounted", checked(str(kept.folder)), (0, "ok 2 peers 1 assets 2 routes 1 entries\n", ""))
+
+
+@case
+def advice_to_keep_the_log_of_a_loose_folder(laboratory: Laboratory) -> None:
+    """Where the folder of a new journal can't be synced at a close, the log is kept, from which the next start goes on
+    with all, whether the system has the new journal or forgot it. This is left out where there is no C compiler."""
+    if (disk := Disk.of(laboratory)) is None:
+        return
+    kept = Kept(laboratory)
+    saved(kept, "k0")
+    older = kept.path.read_bytes()
+    program = kept.serve(environment=disk.environment())
+    expect("a credit", credit(program, 7, key="k1"), created(quantity(7, 2)))
+    disk.loose.touch()
+    post_close(program)
+    expect("the exit status", program.end(A_MINUTE), 1)
+    expect("standard output", program.output().splitlines()[-1], "refused 64 WriteFault")
+    expect("how many lines say so", len(program.told(LOOSE)), 1)
+    newer, log = kept.path.read_bytes(), log_of(kept)
+    for found in (older, newer):
+        kept.path.write_bytes(found)
+        kept.beside("log").write_text(log)
+        close(kept.serve(), bob=14)

@@ -1,17 +1,20 @@
-/* Preloaded before a program, it stands before the calls that open files, write to them and have the disk keep them. Each call
- * that has the disk keep one is told as a line in the file that DISK_TOLD names. Where a file lies at the path that
- * one of these names, there is
+/* Preloaded before a program, it stands before the calls that open files, lock them, write to them and have the disk
+ * keep them. Each call that has the disk keep one is told as a line in the file that DISK_TOLD names. Where a file lies
+ * at the path that one of these names, there is
  *
  *     DISK_BUSY    no end of such a call, until that is gone
  *     DISK_BROKEN  none that succeeds (EIO)
+ *     DISK_LOOSE   none of a folder that succeeds (EIO)
  *     DISK_FULL    room for half of what is written to a plain file, and for no single octet (ENOSPC)
  *     DISK_HUNG    no end of an open of a file whose name ends in .toml, until that is gone
+ *     DISK_OPEN    no file that can be locked (ENOLCK)
  */
 #include <errno.h>
 #include <fcntl.h>
 #include <stdarg.h>
 #include <stdlib.h>
 #include <string.h>
+#include <sys/file.h>
 #include <sys/stat.h>
 #include <sys/syscall.h>
 #include <unistd.h>
@@ -63,11 +66,16 @@ static void tell(const char *line) {
     close(told);
 }
 
+static int is_folder(int file) {
+    struct stat found;
+    return fstat(file, &found) == 0 && S_ISDIR(found.st_mode);
+}
+
 static int sync_by(long call, const char *line, int file) {
     tell(line);
     while (is_so("DISK_BUSY"))
         usleep(PAUSE_US);
-    if (is_so("DISK_BROKEN")) {
+    if (is_so("DISK_BROKEN") || (is_so("DISK_LOOSE") && is_folder(file))) {
         errno = EIO;
         return -1;
     }
@@ -80,6 +88,16 @@ int fsync(int file) {
 
 int fdatasync(int file) {
     return sync_by(SYS_fdatasync, "fdatasync\n", file);
+}
+
+// ---- what locks one
+
+int flock(int file, int how) {
+    if (is_so("DISK_OPEN")) {
+        errno = ENOLCK;
+        return -1;
+    }
+    return (int)syscall(SYS_flock, file, how);
 }
 
 // ---- what writes to one

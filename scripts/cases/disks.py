@@ -28,7 +28,7 @@ class Disk:
         self.told = folder / "told"
         # The disk is so while these are there.
         self.busy, self.broken, self.full = folder / "busy", folder / "broken", folder / "full"
-        self.hung = folder / "hung"
+        self.hung, self.loose, self.open = folder / "hung", folder / "loose", folder / "open"
 
     @classmethod
     def of(cls, laboratory: Laboratory) -> Self | None:
@@ -40,7 +40,8 @@ class Disk:
     def environment(self) -> dict[str, str]:
         """What has a program find this disk."""
         return {"LD_PRELOAD": str(self.library), "DISK_TOLD": str(self.told), "DISK_BUSY": str(self.busy),
-                "DISK_BROKEN": str(self.broken), "DISK_FULL": str(self.full), "DISK_HUNG": str(self.hung)}
+                "DISK_BROKEN": str(self.broken), "DISK_FULL": str(self.full), "DISK_HUNG": str(self.hung),
+                "DISK_LOOSE": str(self.loose), "DISK_OPEN": str(self.open)}
 
     def syncs(self) -> Counter[str]:
         """How often each call was made so far that has the disk keep a file."""

@@ -55,9 +55,11 @@ class Kept:
         paths = [self.folder / name for name in self.files()]
         return {path.name: path.read_bytes() if path.is_file() and not path.is_symlink() else b"" for path in paths}
 
-    def start(self) -> Program:
-        """A program that was started over it, and may not listen yet."""
-        return self.laboratory.start(self.setup, journal=self.path)
+    def start(self, environment: dict[str, str] | None = None) -> Program:
+        """A program that was started over it, and may not listen yet, with such an environment where one is given."""
+        laboratory = self.laboratory
+        return laboratory.run(Program(laboratory.binary, laboratory.folder(), self.setup, journal=self.path,
+                                      environment=environment))
 
     def serve(self, largest_file: int | None = None, environment: dict[str, str] | None = None) -> Program:
         """A program that listens, with such a limit and such an environment where these are given."""

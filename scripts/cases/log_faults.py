@@ -12,7 +12,8 @@ from cases.case import case, expect, expect_that
 from cases.conversations import report
 from cases.disks import Disk
 from cases.journals import PACKETS, SETTLEMENTS, Kept, keys_of
-from cases.laboratory import Laboratory, close, credit, expect_packet, expect_served, send_packet
+from cases.laboratory import (Laboratory, close, credit, expect_end, expect_packet, expect_served, post_close,
+                              send_packet)
 from cases.lines import DISK_HAS_KEPT, DISK_TAKES, INCOMPLETE, KEPT_AGAIN, LOG_GONE, MORE, TOLD_LATE, UNKEPT
 from cases.logs import ABSENT, LOGGED, expect_begun, head, log_of
 from cases.messages import created, response, soon
@@ -424,3 +425,28 @@ def disk_that_takes_long(laboratory: Laboratory) -> None:
         expect("who was told late", [line.said.split()[4] for line in program.await_told(TOLD_LATE)], ["alice"])
         expect("what the report has of that", report(program).splitlines()[-1], f"{'late':30}{1:30}")
         close(program, alice=-2, bob=2)
+
+
+@case
+def close_beside_a_busy_disk(laboratory: Laboratory) -> None:
+    """A connector that is asked to close while its disk keeps nothing says why it doesn't end, and ends as any once the
+    disk has kept what it was given. This is left out where there is no C compiler."""
+    if (disk := Disk.of(laboratory)) is None:
+        return
+    kept = Kept(laboratory)
+    program = kept.serve(environment=disk.environment())
+    expect_served(program, amount=1)
+    begun = disk.syncs()
+    with ThreadPoolExecutor(1) as pool:
+        disk.busy.touch()
+        try:
+            packet = pool.submit(send_packet, program, soon(1, milliseconds=2_000), 3 * AGAIN)
+            disk.await_sync(begun)
+            post_close(program)
+            program.await_told(DISK_TAKES, within=AGAIN)
+            program.expect_running()
+        finally:
+            disk.busy.unlink()
+        expect("the answer", packet.result(), response(200, FULFILL))
+    expect_end(program, alice=-2, bob=2)
+    expect("the entries", kept.entries(), 4)

@@ -250,13 +250,7 @@ where
     };
     match log {
         None => {
-            let disk = DiskWait::new();
-            let kept_by = KeptBy {
-                keeper: Forgetful,
-                way: KeepingWay::InLoops,
-                disk: &disk,
-            };
-            let RunDesk { ends, sides } = run_between(rt, &desk, shares, between, kept_by)?;
+            let RunDesk { ends, sides } = run_unlogged(rt, &desk, shares, between)?;
             let book = close_desk(desk, ends)?.into_book();
             let run = ClosedRun { book, log: None };
             Ok(RunPeriod { run, sides })
@@ -300,6 +294,30 @@ where
     let book = close_desk(desk, ends)?;
     let run = log.close(rt, book);
     Ok(RunPeriod { run, sides })
+}
+
+// Runs a desk between these, whose journal nobody keeps.
+fn run_unlogged<J, R, L, P>(
+    rt: &R,
+    desk: &Desk<J>,
+    shares: Vec<Share<J>>,
+    between: Between<'_, L, P>,
+) -> Result<RunDesk<J>, ServeFault>
+where
+    J: Naming + Send + Sync,
+    R: Net<Listener = TcpListener, Stream = TcpStream> + Threads + Wait + Clock + Eprint + Sync,
+    L: Links,
+    P: OnDisk + Drop + Send,
+    requires shares { 2 ≤ vec_len shares }
+    ensures refused { IfErr result (IsWhyUnclosed J.desk) }
+{
+    let disk = DiskWait::new();
+    let kept_by = KeptBy {
+        keeper: Forgetful,
+        way: KeepingWay::InLoops,
+        disk: &disk,
+    };
+    run_between(rt, desk, shares, between, kept_by)
 }
 
 // Runs a desk between these, whose journal is kept so.

@@ -12,7 +12,7 @@ use ilp_line_file::{Device, DeviceFault};
 use std::alloc::{AllocError, Global};
 
 /// A file in memory, of which a crash leaves what was synced, and any pieces of what was not. It syncs what was
-/// written before it is cut.
+/// written before it is cut: by the clause of `Device::cut` a crash leaves as many octets, though the call fail.
 #[derive(Drop)]
 pub struct TearingFile {
     alloc: Global,

@@ -10,8 +10,8 @@ use Rattle.ilp_running.proofs.Logged.{ends_since}
 use Rattle.ilp_running.proofs.serving.serve_desk.Goals as goal
 
 -- A desk has a share for each actor, and so two at least.
-pub run_between-requires-clause-shares : goal.run_between-requires-clause-shares
-run_between-requires-clause-shares g c =
+pub run_unlogged-requires-clause-shares : goal.run_unlogged-requires-clause-shares
+run_unlogged-requires-clause-shares g c =
     let desk = g.J.Naming.desk in
     let shares = ap length c.in-Ok.ensures.shares ∙ length-map-range_with_len (λ actor. portion actor 0) 0 (actors_of desk) in
     omega (arith, shares, c.in-Ok.shares.ok.0)

@@ -1,0 +1,4 @@
+pub mod Digest
+pub mod Own
+pub mod Reached
+pub mod Recovered
