@@ -91,7 +91,7 @@ where
     let mut file = rt.create_anew(new, mode_of(rt, path))?;
     file.write_all(text)?;
     file.sync_all()?;
-    rt.put_in_place(new, name, folder_of(path))
+    rt.give_name(&mut file, new, name, folder_of(path))
 }
 
 // The rights of the journal at a path.
