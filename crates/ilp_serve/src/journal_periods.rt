@@ -1,6 +1,6 @@
 //! Periods of a connector whose books are kept in a journal's file and beside it.
 ghost use denote.Param.Send.{IsSend, IsSync};
-ghost use Rattle.std.specs.Prelude.{◌≡◌, length, None, IfOk, IfErr, IfSome};
+ghost use Rattle.std.specs.Prelude.{◌≡◌, length, None, IfOk, IfErr, IfSome, IsSome};
 ghost use Rattle.ilp_running.specs.Serving.{desk_of_book, IsClosed, IsOfNoDesk, IsWhyUnclosed};
 ghost use Rattle.ilp_serve.specs.Following.{BeginsAs, FollowsAs};
 ghost use Rattle.ilp_serve.specs.declared.followed.Change.TheVariants as changes;
@@ -93,6 +93,7 @@ where
         is_logged: bool,
     ) -> Result<FollowedBy<'r, R>, ServeFault>
         ensures follows { IfOk result (λ f. FollowsAs f.change book next f.period.book) }
+        ensures logged { IfOk result (λ f. IsSome f.period.log) }
         ensures unkept { IfOk result (λ f. IfSome f.unkept (λ ended. ended ≡ book)) }
         ensures refused { IfErr result IsOfNoDesk }
     {
@@ -129,6 +130,7 @@ where
     ) -> Result<FollowedBy<'r, R>, ServeFault>
         requires opening { length next.entries ≡ next.base }
         ensures book { IfOk result (λ f. BeginsAs f.change ended next f.period.book) }
+        ensures logged { IfOk result (λ f. IsSome f.period.log) }
         ensures unkept { IfOk result (λ f. IfSome f.unkept (λ b. b ≡ ended)) }
         ensures refused { IfErr result IsOfNoDesk }
     {
@@ -157,6 +159,7 @@ where
     fn go_on(&self, book: Book, told: Option<String>) -> Result<FollowedBy<'r, R>, ServeFault>
         requires opening { length book.entries ≡ book.base }
         ensures book { IfOk result (λ f. (f.change ≡ changes.None) × (f.period.book ≡ book)) }
+        ensures logged { IfOk result (λ f. IsSome f.period.log) }
         ensures unkept { IfOk result (λ f. f.unkept ≡ None) }
         ensures refused { IfErr result IsOfNoDesk }
     {
@@ -178,6 +181,7 @@ where
     ) -> Result<BegunPeriod<LogDevice<'r, R, File>>, ServeFault>
         requires opening { length book.entries ≡ book.base }
         ensures book { IfOk result (λ period. period.book ≡ book) }
+        ensures logged { IfOk result (λ period. IsSome period.log) }
         ensures refused { IfErr result IsOfNoDesk }
     {
         let log = self.log_of(&book, kept)?;

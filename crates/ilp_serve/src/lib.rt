@@ -13,6 +13,7 @@
 //! - Behind a period come the books of the next one, as `Book::bring_forward` makes them, only where they may
 //!   follow; or the same books, opened anew with all that they have (`specs/Following.antt`). The book whose text is
 //!   still to be kept is the one that ended.
+//! - Where books are kept, the first period begins with a log, and what comes behind each has one.
 //! - A configuration that is read again is taken only where the connector's address, its run, where it listens
 //!   and its number of workers are the same; else one of them is named that isn't (`specs/Restart.antt`).
 //! - The report is that of the book by `ilp_running::write_report`.

@@ -1,5 +1,5 @@
 //! A connector from its first period on.
-ghost use Rattle.std.specs.Prelude.{◌≡◌, Some, None, Option, IfOk, IfErr, IfSome};
+ghost use Rattle.std.specs.Prelude.{◌≡◌, Some, None, Option, IfOk, IfErr, IfSome, IsSome};
 ghost use Rattle.ilp_accounts.specs.Configuration.{Configuration};
 ghost use Rattle.ilp_running.specs.Serving.{desk_of_book, IsClosed, IsOfNoDesk, IsWhyUnclosed};
 ghost use Rattle.ilp_serve.specs.Following.{Follows, FollowsAs};
@@ -53,6 +53,7 @@ where
     ///
     /// A refusal gives nothing back. It is of the last period, or `NextRefused` where none could be begun.
     pub(crate) fn run(&self, first: BegunPeriod<LogDevice<'r, R, File>>) -> Result<Book, ServeFault>
+        requires logged { IsSome self.now.kept → IsSome first.log }
         ensures closed { IfOk result (ComesTo first.entry.book) }
         ensures refused { IfErr result (EndsBy first.entry.book) }
     {
