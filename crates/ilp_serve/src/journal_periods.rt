@@ -6,6 +6,7 @@ ghost use Rattle.ilp_serve.specs.Following.{BeginsAs, FollowsAs};
 ghost use Rattle.ilp_serve.specs.declared.followed.Change.TheVariants as changes;
 ghost use Rattle.ilp_starting.specs.GoingOn.{IsAlone};
 
+use crate::begun::begun_with;
 use crate::config_path::{ConnectorFiles, ReadsConfigs};
 use crate::followed::{Change, Followed, FollowedBy};
 use crate::keeping::KeepsPeriods;
@@ -185,10 +186,7 @@ where
         ensures refused { IfErr result IsOfNoDesk }
     {
         let log = self.log_of(&book, kept)?;
-        Ok(BegunPeriod {
-            book,
-            log: Some(log),
-        })
+        Ok(begun_with(book, log))
     }
 
     // A log that goes on from this book. What can't be written is told, and tried again until it can.

@@ -20,6 +20,7 @@
 //! - All else is proved safe, and no more.
 #![tactic(auto)]
 
+mod begun;
 mod config_path;
 mod ending;
 mod followed;

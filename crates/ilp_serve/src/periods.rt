@@ -15,6 +15,7 @@ use crate::telling::tell_asker;
 use ilp_accounts::Config;
 use ilp_book::Book;
 use ilp_journal_file::{JournalWatch, LogDevice, PlacesFiles};
+use ilp_line_file::Device;
 use ilp_links::{SystemClock, TcpLinks};
 use ilp_notices::Notices;
 use ilp_running::{
@@ -66,7 +67,7 @@ where
         for _ in rt.forever() {
             let RunPeriod { run, sides: left } = self.run_one(next, sides)?;
             let Some(left) = left else {
-                return Ok(run.book);
+                return Ok(book_of(run));
             };
             sides = left;
             next = self.go_on(run, &mut sides)?;
@@ -225,4 +226,11 @@ where
 {
     let notices = Notices::new(rt.alloc(), config)?;
     Ok(TcpLinks::new(SystemClock::new(*rt), notices))
+}
+
+// The book of a period that was closed. What else there is of it goes here.
+fn book_of<D: Device + Drop>(run: ClosedRun<D>) -> Book
+    ensures { result ≡ run.entry.book }
+{
+    run.book
 }

@@ -2,6 +2,7 @@
 ghost use Rattle.std.specs.Prelude.{◌≡◌, length};
 ghost use Rattle.ilp_starting.specs.GoingOn.{IsAlone};
 
+use crate::begun::begun_with;
 use crate::config_path::ReadsConfigs;
 use crate::ending::{end, leave_unsaved, run_fault};
 use crate::journal_periods::JournalPeriods;
@@ -105,10 +106,7 @@ where
     {
         let rt = self.rt;
         let Begun { book, log } = begun;
-        let first = BegunPeriod {
-            book,
-            log: Some(log),
-        };
+        let first = begun_with(book, log);
         let periods = Periods {
             rt,
             config_path: self.path,
