@@ -2,6 +2,7 @@
 beside a journal, whatever configurations the periods began and went on with."""
 import re
 from dataclasses import replace
+from hashlib import sha256
 from pathlib import Path
 
 from cases.case import case, expect, expect_that
@@ -39,6 +40,11 @@ def expect_broken(kept: Kept, *periods: int, told: str, line: str) -> None:
     expect_lines("standard error", errors, (line,))
 
 
+def remembered_of(peers: list[str], configuration: bytes) -> str:
+    """What is kept of a configuration between periods, with these lines of its peers."""
+    return f"ilp-remembered 1\nrun r1\n{''.join(peers)}end\nconfig {sha256(configuration).hexdigest()}\n"
+
+
 def end(kept: Kept, amount: int) -> None:
     """A connector by the setup serves a packet, and is closed."""
     program = kept.serve()
@@ -61,10 +67,12 @@ def three_periods(laboratory: Laboratory) -> Kept:
 @case
 def chain_of_reordered_peers(laboratory: Laboratory) -> None:
     """A reload puts the peers in another order, and the next start is by the old configuration, also where it was killed
-    meanwhile: all periods follow. What is kept of the two configurations has names, assets and the run."""
+    meanwhile: all periods follow. What is kept of the two configurations has names, assets, the run, and which files they
+    were."""
     kept = Kept(laboratory)
     for is_killed in (False, True):
         program = kept.serve()
+        began_by = program.configuration.read_bytes()
         expect_served(program, amount=5)
         expect("a credit", credit(program, 9, key=f"of {is_killed}"), created(quantity(9, 2)))
         program.configuration.write_text(in_another_order(kept.setup))
@@ -77,8 +85,8 @@ def chain_of_reordered_peers(laboratory: Laboratory) -> None:
             post_close(program)
             expect("the exit status", program.end(END), 0)
     peers = ["peer alice USD 2\n", "peer bob USD 2\n"]
-    first, last = "ilp-remembered 1\nrun r1\n", "end\n"
-    in_order, turned = first + "".join(peers) + last, first + "".join(reversed(peers)) + last
+    in_order = remembered_of(peers, began_by)
+    turned = remembered_of(peers[::-1], program.configuration.read_bytes())
     for period in ("0", "1"):
         expect(f"what is kept behind the period {period}", kept.beside(f"{period}.remembered").read_text(), in_order + turned)
     expect_chain(kept, 1, 2)

@@ -21,6 +21,7 @@ use crate::settings::{LogSync, Settings, settings_of};
 use ilp_assets::AssetTable;
 use ilp_fields::ConfigFault;
 use ilp_lookup::RouteIndex;
+use sha2::{Digest, Sha256};
 use std::alloc::{AllocError, Global};
 use std::marker::Model;
 use toml::Table;
@@ -32,6 +33,7 @@ pub struct Config {
     assets: AssetTable,
     peers: Peers,
     routes: RouteIndex,
+    digest: [u8; 32],
 }
 
 // By hand, so that who owns a configuration proves one call where it goes, and not what becomes of each of its parts.
@@ -42,6 +44,7 @@ impl Drop for Config {
             assets: _,
             peers: _,
             routes: _,
+            digest: _,
         } = self;
     }
 }
@@ -89,7 +92,7 @@ impl Config {
             → (result ≡ Err ConfigFault.NotToml) ⊎ (result ≡ Err ConfigFault.Memory) }
     {
         match toml::table_from_slice(alloc, octets) {
-            Ok(table) => Config::from_table(alloc, &table),
+            Ok(table) => Config::from_table(alloc, &table, Sha256::digest(octets)),
             Err(fault) => {
                 if fault.is_memory() {
                     return Err(ConfigFault::Memory);
@@ -99,9 +102,9 @@ impl Config {
         }
     }
 
-    // The configuration that a table stands for.
+    // The configuration that a table stands for, read from octets of this digest.
     #[tactic(auto, unfolding(crate::specs::Faults::first_fault))]
-    fn from_table(alloc: Global, table: &Table) -> Result<Config, ConfigFault>
+    fn from_table(alloc: Global, table: &Table, digest: [u8; 32]) -> Result<Config, ConfigFault>
         ensures { Reads (λ c. c) result
             (first_fault (table_view table.now)) (configuration (table_view table.now)) }
     {
@@ -116,6 +119,7 @@ impl Config {
             assets,
             peers,
             routes,
+            digest,
         })
     }
 }
@@ -131,7 +135,14 @@ impl Config {
             assets: self.assets.copy()?,
             peers: self.peers.copy()?,
             routes: self.routes.copy()?,
+            digest: self.digest,
         })
+    }
+
+    /// The SHA-256 digest (FIPS 180-4) of the octets that it was read from, for whoever wants to know which file it was.
+    /// Two that are equal by what they say may have different ones, so no clause is about it.
+    pub fn digest(&self) -> &[u8; 32] {
+        &self.digest
     }
 
     /// The heap that it lies on.

@@ -1,20 +1,19 @@
 //! A file, and how much it was given.
+ghost use Rattle.std.specs.Prelude.{◌≡◌, ◌≤◌, ◌+◌, [], true, length, max, IfOk, OnOk};
+ghost use Rattle.ilp_line_file.specs.Device.{Torn, Holds};
+ghost use Rattle.ilp_journal_file.specs.Files.{AddsNone, Lasts, LeavesEither, Steps};
 
 use crate::limited::too_large;
 use crate::placing::{FileIdentity, PlacesFiles};
-use std::fs::OpenFile;
 use std::io;
-use std::io::{ErrorKind, Seek, SeekFrom, Write};
+use std::io::ErrorKind;
 
 /// A file that is written by one process alone, and how many octets that has given it.
 #[derive(Drop)]
 pub(crate) struct GivenFile<F> {
-    file: F,
+    pub(crate) file: F,
     identity: FileIdentity,
-    len: u64,
-    // Where the system writes next, where that is known: each packet may wait for a write, and a call that
-    // only says where it goes costs as much as the look before it.
-    at: Option<u64>,
+    pub(crate) len: u64,
 }
 
 impl<F> GivenFile<F> {
@@ -26,6 +25,9 @@ impl<F> GivenFile<F> {
     ) -> io::Result<GivenFile<F>>
     where
         F: Drop,
+        ensures empty { R.claims → IfOk result (λ given. R.seen given.file ≡ []) }
+        ensures sound { R.claims → IfOk result (λ given. R.is_sound given.file ≡ true) }
+        ensures len { IfOk result (λ given. given.len ≡ 0) }
     {
         let file = rt.create_anew(path, mode)?;
         let identity = rt.identity(&file)?;
@@ -33,7 +35,6 @@ impl<F> GivenFile<F> {
             file,
             identity,
             len: 0,
-            at: Some(0),
         })
     }
 
@@ -54,51 +55,54 @@ impl<F> GivenFile<F> {
         }
         Ok(())
     }
-}
 
-impl<F: Write + Seek + OpenFile> GivenFile<F> {
     /// Writes these octets from a place on. None is written where the file would have more than `most`.
-    pub(crate) fn put(&mut self, at: u64, octets: &[u8], most: u64) -> io::Result<()> {
-        let end = at.saturating_add(octets.len() as u64);
-        if end > most {
-            return Err(too_large());
-        }
-        if self.at != Some(at) {
-            self.file.seek(SeekFrom::Start(at))?;
-        }
-        self.at = None;
-        self.file.write_all(octets)?;
-        self.at = Some(end);
+    pub(crate) fn put<R: PlacesFiles<File = F>>(
+        &mut self,
+        rt: &R,
+        at: u64,
+        octets: &[u8],
+        most: u64,
+    ) -> io::Result<()>
+        requires { R.claims → at ≤ length (R.seen self.old.file) }
+        ensures written { R.claims → OnOk result
+            (Holds (R.seen self.old.file) at octets.now (R.seen self.new.file)) }
+        ensures len { OnOk result (self.new.len ≡ max self.old.len (at + length octets.now)) }
+        ensures stop { R.claims → Steps R.may_leave (Torn at octets.now) self.old.file self.new.file }
+        ensures time { R.claims → Lasts R.may_leave R.moment R.left_since self.old.file self.new.file }
+        ensures sound { R.claims → OnOk result (R.is_sound self.new.file ≡ R.is_sound self.old.file) }
+    {
+        let end = match at.checked_add(octets.len() as u64) {
+            Some(end) if end <= most => end,
+            _ => return Err(too_large()),
+        };
+        rt.write_at(&mut self.file, at, octets)?;
         self.len = self.len.max(end);
         Ok(())
     }
 
-    /// Writes these octets behind what it has, likewise.
-    pub(crate) fn add(&mut self, octets: &[u8], most: u64) -> io::Result<()> {
-        let len = self.len;
-        self.put(len, octets, most)
-    }
-
-    /// The file, to be read from its start on.
-    pub(crate) fn from_start(&mut self) -> io::Result<&mut F> {
-        self.at = None;
-        self.file.seek(SeekFrom::Start(0))?;
-        Ok(&mut self.file)
-    }
-
-    /// Has the disk keep its octets and its length.
-    pub(crate) fn sync_data(&self) -> io::Result<()> {
-        self.file.sync_data()
-    }
-
-    /// Has the disk keep all of it.
-    pub(crate) fn sync_all(&self) -> io::Result<()> {
-        self.file.sync_all()
-    }
-
-    /// Cuts the file to a length.
-    pub(crate) fn shorten(&mut self, len: u64) -> io::Result<()> {
-        self.file.set_len(len)?;
+    /// Has this new file take the place of it, which lies at `path`. At `Err` it is the one that was there.
+    pub(crate) fn put_in_place<R: PlacesFiles<File = F>>(
+        &mut self,
+        rt: &R,
+        by: GivenFile<F>,
+        new: &str,
+        path: &str,
+        folder: &str,
+    ) -> io::Result<()>
+        ensures seen { R.claims → OnOk result (R.seen self.new.file ≡ R.seen by.file) }
+        ensures whole { R.claims → OnOk result (AddsNone R.may_leave by.file self.new.file) }
+        ensures stop { R.claims → LeavesEither R.may_leave self.old.file by.file self.new.file }
+        ensures time { R.claims → Lasts R.may_leave R.moment R.left_since self.old.file self.new.file }
+        ensures sound { R.claims → OnOk result (R.is_sound self.new.file ≡ R.is_sound by.file) }
+    {
+        let GivenFile {
+            file,
+            identity,
+            len,
+        } = by;
+        rt.put_in_place(&mut self.file, file, new, path, folder)?;
+        self.identity = identity;
         self.len = len;
         Ok(())
     }

@@ -19,11 +19,15 @@
 //! None of them may be a link or have a second name: else two connectors would have one journal. Where
 //! `J.running` lies there, the mark of an earlier version that kept no log, the journal is refused.
 //!
-//! What a file system does, no clause can say: it stands in the comments, and the cases of
+//! What the host's files do, no clause can show: it stands in the comments, and the cases of
 //! `scripts/check.py` try it on the program.
 //!
 //! # What is proved
 //!
+//! - `LogDevice` is a device (`ilp_line_file::Device`) where its system does what `PlacesFiles` says of each call: a new
+//!   file takes the name of a log only once it is kept, a sync is asked for, and none behind one that failed.
+//! - `begin_log` gives a device that has its first lines alone, and a stop leaves nothing else.
+//! - A text that `has_text` takes is that of the content.
 //! - The names of a journal's files (`Names::of`). All else is proved safe, and no more.
 #![tactic(auto)]
 
@@ -36,6 +40,7 @@ mod kept_text;
 mod limited;
 mod locking;
 mod log_device;
+mod log_place;
 mod logging;
 mod looking;
 mod marking;
@@ -52,6 +57,7 @@ mod setting_aside;
 mod standing;
 mod system_text;
 mod taking;
+mod telling;
 mod watching;
 mod writing;
 
@@ -63,7 +69,7 @@ pub use locking::LockFile;
 pub use log_device::LogDevice;
 pub use looking::{Found, look_at};
 pub use noting::Noting;
-pub use placing::{FileIdentity, FileThere, PlacesFiles, put_in_place};
+pub use placing::{FileIdentity, FileThere, PlacesFiles, rename_in};
 pub use reading::read_text;
 pub use taking::JournalFile;
 pub use watching::JournalWatch;

@@ -1,86 +1,83 @@
 //! The file of a log as a device.
-ghost use Rattle.std.specs.Prelude.{[]};
+ghost use Rattle.std.specs.Prelude.{◌≡◌, ◌⊎◌, ◌≤◌, ◌++◌, [], Bool, true, false, List, ℕ, length, take, IfOk, IfSome, OnOk};
+ghost use Rattle.ilp_line_file.specs.Device.{Only, Torn, Cut, Holds, Follows, Elapses, HasCause};
+ghost use Rattle.ilp_journal_file.specs.Files.{AddsNone, IsKept, Lasts, LeavesEither, Steps};
+ghost use Rattle.ilp_journal_file.specs.Anew.{octets_of};
+ghost use Rattle.std.proofs.Props.{props};
 
 use crate::given::GivenFile;
-use crate::holding::HeldLock;
-use crate::named_log::NamedLog;
+use crate::log_place::LogPlace;
 use crate::placing::PlacesFiles;
 use crate::reading::TEXT_LIMIT;
+use crate::telling::Telling;
 use ilp_accounts::LogSync;
-use ilp_io::{ReadFault, read_to_limit};
+use ilp_io::ReadFault;
 use ilp_line_file::{Device, DeviceFault};
-use ilp_notices::{journal_lost, log_begun, log_unwritten};
 use std::alloc::Global;
-use std::fs::{File, OpenFile};
+use std::fs::File;
 use std::io;
-use std::io::{Eprint, ErrorKind, Read, Seek, Write};
-use std::sync::Arc;
+use std::io::{Eprint, ErrorKind};
 use std::time::Clock;
 
-/// Where a log lies, and what it may be.
-#[derive(Drop)]
-pub(crate) struct LogPlace {
-    /// The path of its journal, as lines tell it.
-    pub(crate) journal: String,
-    /// Its path, likewise.
-    pub(crate) path: String,
-    /// What is written, and then takes its place.
-    pub(crate) new: String,
-    /// What is locked by whoever has the journal.
-    pub(crate) lock: String,
-    pub(crate) held: HeldLock,
-    /// Which file it is.
-    pub(crate) named: Arc<NamedLog, Global>,
-    pub(crate) folder: String,
-    /// The rights of its file.
-    pub(crate) mode: u32,
-    /// The most octets that it may have.
-    pub(crate) most: u64,
-    /// When its lines reach the disk.
-    pub(crate) sync: LogSync,
-}
-
-/// The file of a log, `J.log`. Of it nothing is claimed: what a file of the system does, no clause can say.
+/// The file of a log, `J.log`. It does as a device does where its system does as that claims.
 ///
 /// The first write, cut or sync that fails is told by a line on standard error, and one more line tells of the
 /// first sync once the log was made anew. A log that is removed, moved or cut under a running connector is a
 /// failure too: each write and sync finds that the file has all that it was given, and lies at its path; and that the
 /// file that is locked lies at its own, since else another connector may have the journal: then none of its files is
 /// touched any more, and a line says so. One that is made anew is `J.log.new` until it takes the place of `J.log`.
+///
+/// Where a change or a sync of the file has failed, it is written and synced no more, until another takes its place.
 #[derive(Drop)]
-pub struct LogDevice<'r, R, F = File> {
+pub struct LogDevice<'r, R: PlacesFiles<File = F>, F = File> {
     rt: &'r R,
     place: LogPlace,
     file: GivenFile<F>,
-    // The new file beside it.
+    // Whether a change or a sync of the file has failed.
+    is_failed: bool,
+    // The new file beside it, of which no call has failed.
     anew: Option<GivenFile<F>>,
-    // Whether a line has told of a failure, and whether it was made anew since.
-    is_told: bool,
-    is_anew: bool,
+    telling: Telling,
+    ghost sound: { is_failed ≡ false → R.claims → R.is_sound file.file ≡ true },
+    ghost whole: { R.claims → IfSome anew (λ a. (R.is_sound a.file ≡ true)
+        × (length (R.seen a.file) ≡ a.len)) } by { Prim.hlevel props },
 }
 
 impl<'r, R, F> LogDevice<'r, R, F>
 where
     R: PlacesFiles<File = F>,
-    F: Write + Seek + OpenFile + Drop,
+    F: Drop,
 {
     /// A log with these first lines, in place of one that is there.
-    pub(crate) fn create(rt: &'r R, place: LogPlace, head: &[u8]) -> io::Result<Self> {
-        let mut file = GivenFile::create(rt, place.new.as_str(), place.mode)?;
-        file.put(0, head, place.most)?;
-        file.take_name(rt, &place)?;
+    pub(crate) fn create(rt: &'r R, place: LogPlace, head: &[u8]) -> io::Result<Self>
+        ensures seen { R.claims → IfOk result (λ d. R.seen d.file.file ≡ head.now) }
+        ensures kept { R.claims → IfOk result (λ d. IsKept R.seen R.may_leave d.file.file) }
+        ensures sync { IfOk result (λ d. d.place.sync ≡ place.sync) }
+    {
+        let mut given = GivenFile::create(rt, place.new.as_str(), place.mode)?;
+        given.put(rt, 0, head, place.most)?;
+        rt.keep_all(&mut given.file)?;
+        place.expect_held(rt)?;
+        let (new, path, folder) = place.renaming();
+        rt.give_name(&mut given.file, new, path, folder)?;
+        place.named.set(given.identity());
         Ok(LogDevice {
             rt,
             place,
-            file,
+            file: given,
+            is_failed: false,
             anew: None,
-            is_told: false,
-            is_anew: false,
+            telling: Telling::new(),
         })
     }
 
     // Makes the new file.
-    fn create_anew(&mut self) -> io::Result<()> {
+    fn create_anew(&mut self) -> io::Result<()>
+        ensures file { self.new.file ≡ self.old.file }
+        ensures sync { self.new.place.sync ≡ self.old.place.sync }
+        ensures failures { self.new.telling.failures ≡ self.old.telling.failures }
+        ensures empty { R.claims → OnOk result (octets_of R.seen self.new.anew ≡ []) }
+    {
         self.place.expect_held(self.rt)?;
         let file = GivenFile::create(self.rt, self.place.new.as_str(), self.place.mode)?;
         self.anew = Some(file);
@@ -88,42 +85,136 @@ where
         Ok(())
     }
 
-    // Writes behind what the new file has.
-    fn add_anew(&mut self, octets: &[u8]) -> io::Result<()> {
-        match &mut self.anew {
-            Some(file) => {
-                file.expect_at(self.rt, self.place.new.as_str())?;
-                file.add(octets, self.place.most)
-            }
-            None => Err(io::Error::from(ErrorKind::NotFound)),
-        }
+    // Writes behind what the new file has. Where that fails there is none any more.
+    fn add_anew(&mut self, octets: &[u8]) -> io::Result<()>
+        ensures file { self.new.file ≡ self.old.file }
+        ensures sync { self.new.place.sync ≡ self.old.place.sync }
+        ensures failures { self.new.telling.failures ≡ self.old.telling.failures }
+        ensures written { R.claims → OnOk result
+            (octets_of R.seen self.new.anew ≡ octets_of R.seen self.old.anew ++ octets.now) }
+    {
+        let Some(mut file) = self.anew.take() else {
+            return Err(io::Error::from(ErrorKind::NotFound));
+        };
+        file.expect_at(self.rt, self.place.new.as_str())?;
+        let len = file.len;
+        file.put(self.rt, len, octets, self.place.most)?;
+        self.anew = Some(file);
+        Ok(())
     }
 
     // Has the new file take the log's name, once the disk has it.
-    fn take_name(&mut self) -> io::Result<()> {
-        let Some(file) = self.anew.take() else {
+    fn take_name(&mut self) -> io::Result<()>
+        ensures sync { self.new.place.sync ≡ self.old.place.sync }
+        ensures failures { self.new.telling.failures ≡ self.old.telling.failures }
+        ensures seen { R.claims → OnOk result
+            (R.seen self.new.file.file ≡ octets_of R.seen self.old.anew) }
+        ensures kept { R.claims → OnOk result (IsKept R.seen R.may_leave self.new.file.file) }
+        ensures stop { R.claims → (sync : LogSync) (left : List ℕ) → R.may_leave sync self.new.file.file left
+            → R.may_leave sync self.old.file.file left ⊎ (left ≡ octets_of R.seen self.old.anew) }
+        ensures time { R.claims
+            → Lasts R.may_leave R.moment R.left_since self.old.file.file self.new.file.file }
+    {
+        let Some(mut by) = self.anew.take() else {
             return Err(io::Error::from(ErrorKind::NotFound));
         };
-        file.take_name(self.rt, &self.place)?;
-        self.file = file;
-        self.is_anew = true;
+        self.rt.keep_all(&mut by.file)?;
+        self.place.expect_held(self.rt)?;
+        self.put_in_place(by)
+    }
+
+    // Has this file take the log's name.
+    fn put_in_place(&mut self, by: GivenFile<F>) -> io::Result<()>
+        requires sound { R.claims → R.is_sound by.file ≡ true }
+        ensures sync { self.new.place.sync ≡ self.old.place.sync }
+        ensures failures { self.new.telling.failures ≡ self.old.telling.failures }
+        ensures seen { R.claims → OnOk result (R.seen self.new.file.file ≡ R.seen by.file) }
+        ensures whole { R.claims → OnOk result (AddsNone R.may_leave by.file self.new.file.file) }
+        ensures stop { R.claims
+            → LeavesEither R.may_leave self.old.file.file by.file self.new.file.file }
+        ensures time { R.claims
+            → Lasts R.may_leave R.moment R.left_since self.old.file.file self.new.file.file }
+    {
+        let identity = by.identity();
+        let (new, path, folder) = self.place.renaming();
+        self.is_failed = true;
+        self.file.put_in_place(self.rt, by, new, path, folder)?;
+        self.is_failed = false;
+        self.place.named.set(identity);
+        self.telling.is_anew = true;
         Ok(())
     }
 
     // Writes these octets from a place on.
-    fn put(&mut self, at: u64, octets: &[u8]) -> io::Result<()> {
+    fn put(&mut self, at: u64, octets: &[u8]) -> io::Result<()>
+        requires { R.claims → at ≤ length (R.seen self.old.file.file) }
+        ensures sync { self.new.place.sync ≡ self.old.place.sync }
+        ensures failures { self.new.telling.failures ≡ self.old.telling.failures }
+        ensures written { R.claims → OnOk result
+            (Holds (R.seen self.old.file.file) at octets.now (R.seen self.new.file.file)) }
+        ensures stop { R.claims
+            → Steps R.may_leave (Torn at octets.now) self.old.file.file self.new.file.file }
+        ensures time { R.claims
+            → Lasts R.may_leave R.moment R.left_since self.old.file.file self.new.file.file }
+    {
+        self.expect_sound()?;
         self.expect_whole()?;
-        self.file.put(at, octets, self.place.most)
+        self.is_failed = true;
+        self.file.put(self.rt, at, octets, self.place.most)?;
+        self.is_failed = false;
+        Ok(())
     }
 
-    // Has the disk keep what was written, where that is asked for, and finds all of it: a sync takes long
-    // enough for somebody to remove or cut the file meanwhile.
-    fn keep(&mut self) -> io::Result<()> {
-        if self.place.sync == LogSync::Off {
-            return Ok(());
+    // Cuts the file to a length.
+    fn shorten(&mut self, len: u64) -> io::Result<()>
+        requires { R.claims → len ≤ length (R.seen self.old.file.file) }
+        ensures sync { self.new.place.sync ≡ self.old.place.sync }
+        ensures failures { self.new.telling.failures ≡ self.old.telling.failures }
+        ensures cut { R.claims → OnOk result
+            (R.seen self.new.file.file ≡ take len (R.seen self.old.file.file)) }
+        ensures stop { R.claims
+            → Steps R.may_leave (Cut len) self.old.file.file self.new.file.file }
+        ensures time { R.claims
+            → Lasts R.may_leave R.moment R.left_since self.old.file.file self.new.file.file }
+    {
+        let was_failed = self.is_failed;
+        self.is_failed = true;
+        self.rt.shorten(&mut self.file.file, len)?;
+        self.file.len = len;
+        self.is_failed = was_failed;
+        Ok(())
+    }
+
+    // Has what was written stand a stop, and finds all of it: a sync takes long enough for somebody to remove or cut the
+    // file meanwhile.
+    fn keep(&mut self) -> io::Result<()>
+        ensures sync { self.new.place.sync ≡ self.old.place.sync }
+        ensures failures { self.new.telling.failures ≡ self.old.telling.failures }
+        ensures durable { R.claims → OnOk result (Only (R.seen self.old.file.file)
+            (R.may_leave self.old.place.sync self.new.file.file)) }
+        ensures seen { R.claims → R.seen self.new.file.file ≡ R.seen self.old.file.file }
+        ensures stop { R.claims → AddsNone R.may_leave self.old.file.file self.new.file.file }
+        ensures time { R.claims
+            → Lasts R.may_leave R.moment R.left_since self.old.file.file self.new.file.file }
+    {
+        self.expect_sound()?;
+        self.is_failed = true;
+        self.rt.keep(&mut self.file.file, self.place.sync)?;
+        self.is_failed = false;
+        match self.place.sync {
+            LogSync::Group => self.expect_whole(),
+            LogSync::Off => Ok(()),
         }
-        self.file.sync_data()?;
-        self.expect_whole()
+    }
+
+    // Finds that no change and no sync of the file has failed: what that was to write no later sync writes.
+    fn expect_sound(&self) -> io::Result<()>
+        ensures { OnOk result (self.now.is_failed ≡ false) }
+    {
+        match self.is_failed {
+            true => Err(io::Error::from(ErrorKind::BrokenPipe)),
+            false => Ok(()),
+        }
     }
 
     // Finds that the file lies at its path, with all that it was given, and that the journal is still had: who takes it
@@ -134,126 +225,79 @@ where
     }
 }
 
-impl<F: Write + Seek + OpenFile> GivenFile<F> {
-    // Takes the name of a log, once the disk has it.
-    fn take_name<R: PlacesFiles>(&self, rt: &R, place: &LogPlace) -> io::Result<()> {
-        self.sync_all()?;
-        place.expect_held(rt)?;
-        rt.put_in_place(
-            place.new.as_str(),
-            place.path.as_str(),
-            place.folder.as_str(),
-        )?;
-        place.named.set(self.identity());
-        Ok(())
-    }
-}
-
-impl LogPlace {
-    // Finds that the file that is locked lies at the lock's path.
-    fn expect_held<R: PlacesFiles>(&self, rt: &R) -> io::Result<()> {
-        match self.held.is_at(rt, self.lock.as_str())? {
-            true => Ok(()),
-            false => Err(io::Error::from(ErrorKind::ResourceBusy)),
-        }
-    }
-}
-
-impl<R: PlacesFiles + Clock + Eprint, F> LogDevice<'_, R, F> {
-    // Notes that the disk has what was written.
-    fn note_kept(&mut self) {
-        if self.is_anew {
-            log_begun(self.rt, self.place.path.as_str(), self.place.sync);
-            self.is_anew = false;
-        }
-        self.is_told = false;
-    }
-
-    // What a call came to. The first one that fails is told.
-    fn outcome(&mut self, done: io::Result<()>) -> Result<(), DeviceFault> {
-        let Err(error) = done else {
-            return Ok(());
-        };
-        if !self.is_told {
-            self.tell(&error);
-            self.is_told = true;
-        }
-        Err(DeviceFault::Failed)
-    }
-
-    fn tell(&self, error: &io::Error) {
-        let place = &self.place;
-        match place.held.is_at(self.rt, place.lock.as_str()) {
-            Ok(false) => journal_lost(self.rt, place.journal.as_str(), place.lock.as_str()),
-            _ => log_unwritten(self.rt, place.path.as_str(), error),
-        }
-    }
-}
-
 impl<R, F> Device for LogDevice<'_, R, F>
 where
     R: PlacesFiles<File = F> + Clock + Eprint,
-    F: Read + Write + Seek + OpenFile + Drop,
+    F: Drop,
 {
-    ghost claims = { ⊥ };
+    ghost claims = { R.claims };
 
-    ghost seen = { λ _. [] };
+    ghost seen = { λ d. R.seen d.file.file };
 
-    ghost anew = { λ _. [] };
+    ghost anew = { λ d. octets_of R.seen d.anew };
 
-    ghost may_leave = { λ _ _. ⊥ };
+    ghost may_leave = { λ d. R.may_leave d.place.sync d.file.file };
 
-    ghost moment = { λ _. 0 };
+    ghost moment = { λ d. R.moment d.file.file };
 
-    ghost left_since = { λ _ _ _. ⊥ };
+    ghost left_since = { λ d. R.left_since d.place.sync d.file.file };
 
-    ghost faults = { λ _. 0 };
+    ghost faults = { λ d. d.telling.failures };
 
-    ghost counts_now = { λ none. absurd none };
+    ghost counts_now = { λ claimed d t left. R.counts_now claimed d.place.sync d.file.file t left };
 
-    ghost only_now = { λ none. absurd none };
+    ghost only_now = { λ claimed d left. R.only_now claimed d.place.sync d.file.file left };
 
     fn read(&mut self, alloc: Global) -> Result<Vec<u8>, DeviceFault> {
-        let Ok(file) = self.file.from_start() else {
-            return Err(DeviceFault::Failed);
-        };
-        match read_to_limit(alloc, file, TEXT_LIMIT) {
+        match self.rt.read(alloc, &mut self.file.file, TEXT_LIMIT) {
             Ok(text) => Ok(text),
             Err(ReadFault::Memory) => Err(DeviceFault::Memory),
-            Err(_) => Err(DeviceFault::Failed),
+            Err(_) => Err(self.telling.count()),
         }
     }
 
     fn write_at(&mut self, at: usize, octets: &[u8]) -> Result<(), DeviceFault> {
-        let done = self.put(at as u64, octets);
-        self.outcome(done)
+        match self.put(at as u64, octets) {
+            Ok(()) => Ok(()),
+            Err(error) => Err(self.telling.failed(self.rt, &self.place, &error)),
+        }
     }
 
     fn cut(&mut self, len: usize) -> Result<(), DeviceFault> {
-        let done = self.file.shorten(len as u64);
-        self.outcome(done)
+        match self.shorten(len as u64) {
+            Ok(()) => Ok(()),
+            Err(error) => Err(self.telling.failed(self.rt, &self.place, &error)),
+        }
     }
 
     fn sync(&mut self) -> Result<(), DeviceFault> {
-        let done = self.keep();
-        if done.is_ok() {
-            self.note_kept();
+        match self.keep() {
+            Ok(()) => {
+                self.telling.note_kept(self.rt, &self.place);
+                Ok(())
+            }
+            Err(error) => Err(self.telling.failed(self.rt, &self.place, &error)),
         }
-        self.outcome(done)
     }
 
     fn open_anew(&mut self) -> Result<(), DeviceFault> {
-        let done = self.create_anew();
-        self.outcome(done)
+        match self.create_anew() {
+            Ok(()) => Ok(()),
+            Err(error) => Err(self.telling.failed(self.rt, &self.place, &error)),
+        }
     }
 
     fn write_anew(&mut self, octets: &[u8]) -> Result<(), DeviceFault> {
-        let done = self.add_anew(octets);
-        self.outcome(done)
+        match self.add_anew(octets) {
+            Ok(()) => Ok(()),
+            Err(error) => Err(self.telling.failed(self.rt, &self.place, &error)),
+        }
     }
 
     fn take_place(&mut self) -> Result<(), DeviceFault> {
-        let done = self.take_name();
-        self.outcome(done)
+        match self.take_name() {
+            Ok(()) => Ok(()),
+            Err(error) => Err(self.telling.failed(self.rt, &self.place, &error)),
+        }
     }
 }

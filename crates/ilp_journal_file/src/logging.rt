@@ -1,12 +1,16 @@
 //! The log beside a journal: how it begins and ends.
+ghost use Rattle.std.specs.Prelude.{IfOk};
+ghost use Rattle.ilp_journal_file.specs.Begun.{HasAlone};
 
 use crate::fault::FileFault;
 use crate::limited::most_octets;
-use crate::log_device::{LogDevice, LogPlace};
+use crate::log_device::LogDevice;
+use crate::log_place::LogPlace;
 use crate::names::Names;
 use crate::placing::PlacesFiles;
 use crate::taking::JournalFile;
 use ilp_accounts::LogSync;
+use ilp_line_file::Device;
 use ilp_notices::{journal_unread, log_begun, log_grows, log_left, not_made};
 use std::alloc::{AllocError, Global};
 use std::fs;
@@ -38,6 +42,8 @@ impl<F> JournalFile<F> {
     where
         R: Files<File = F> + PlacesFiles<File = F> + Clock + Eprint,
         F: Read + Write + Seek + OpenFile + Drop,
+        ensures begun { R.PlacesFiles.claims → IfOk result
+            (HasAlone ⟦<LogDevice<'r, R, F> as Device>⟧.seen ⟦<LogDevice<'r, R, F> as Device>⟧.may_leave head.now) }
     {
         self.expect_held(rt)?;
         let place = self.log_place(rt, alloc, sync)?;

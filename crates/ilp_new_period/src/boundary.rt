@@ -29,8 +29,8 @@ pub(crate) fn boundary_path(alloc: Global, path: &str, period: u32) -> Result<St
     format!(in alloc; "{path}.{period}.remembered")
 }
 
-/// Keeps the names and the assets of the peers of two configurations, and their runs: of the one by which a period ends,
-/// and of the one by which the next begins. It is written as `JOURNAL.new`, and takes its name once the device has it,
+/// Keeps the names and the assets of the peers of two configurations, their runs, and the SHA-256 digests of their files:
+/// of the one by which a period ends, and of the one by which the next begins. It is written as `JOURNAL.new`, and takes its name once the device has it,
 /// in the place of what an earlier attempt to end the period has left.
 ///
 /// Refusals: `WriteFault` where it can't be written; `JournalUnread` where another may have the journal by now. A line
@@ -65,11 +65,18 @@ where
     }
 }
 
-// What is remembered of both, one behind the other.
+// What is kept of both, one behind the other.
 fn boundary_text(alloc: Global, ended: &Config, next: &Config) -> Result<String, AllocError> {
-    let before = remembered_text(alloc, ended)?;
-    let behind = remembered_text(alloc, next)?;
+    let before = kept_text(alloc, ended)?;
+    let behind = kept_text(alloc, next)?;
     format!(in alloc; "{before}{behind}")
+}
+
+// What is remembered of a configuration, and behind it which file it was.
+fn kept_text(alloc: Global, config: &Config) -> Result<String, AllocError> {
+    let text = remembered_text(alloc, config)?;
+    let digest = hex::encode(alloc, config.digest().as_slice())?;
+    format!(in alloc; "{text}config {digest}\n")
 }
 
 // Writes a file anew beside the journal at a path, with its rights, until the device has it by its name.
@@ -84,7 +91,7 @@ where
     let mut file = rt.create_anew(new, mode_of(rt, path))?;
     file.write_all(text)?;
     file.sync_all()?;
-    rt.put_in_place(new, name, folder_of(path))
+    rt.give_name(&mut file, new, name, folder_of(path))
 }
 
 // The rights of the journal at a path.

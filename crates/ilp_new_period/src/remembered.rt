@@ -4,10 +4,14 @@ use ilp_accounts::{Config, ConfigFault};
 use std::alloc::{AllocError, Global};
 use std::str;
 
-// The lines with which what is remembered of a configuration begins and ends.
+// The line with which what is kept of a configuration begins, and what stands behind its lines, before the digest of its
+// file.
 const FIRST_LINE: &str = "ilp-remembered 1\n";
 
-const LAST_LINE: &str = "end\n";
+const BEFORE_DIGEST: &str = "\nend\nconfig ";
+
+// How many octets a digest's hexadecimal digits have, and the end of their line.
+const DIGEST_OCTETS: usize = 65;
 
 // What stands at the top beside the run, and in each table of a peer beside its name, its asset and its token. None of
 // it is looked at.
@@ -37,14 +41,18 @@ pub(crate) fn between_of(alloc: Global, octets: &[u8]) -> Result<Option<Between>
     }
 }
 
-// The lines between the first and the last of each of two texts that are whole.
+// The lines that name the peers in each of two texts that are whole.
 fn texts_in(octets: &[u8]) -> Option<(&str, &str)> {
     let text = str::from_utf8(octets).ok()?;
     let (before, behind) = text.strip_prefix(FIRST_LINE)?.split_once(FIRST_LINE)?;
-    Some((
-        before.strip_suffix(LAST_LINE)?,
-        behind.strip_suffix(LAST_LINE)?,
-    ))
+    Some((lines_in(before)?, lines_in(behind)?))
+}
+
+// The lines that name the peers, where a whole digest stands behind them.
+fn lines_in(text: &str) -> Option<&str> {
+    let (lines, digest) = text.split_once(BEFORE_DIGEST)?;
+    let is_whole = digest.len() == DIGEST_OCTETS && digest.ends_with('\n');
+    is_whole.then_some(lines)
 }
 
 // The configuration that has this run, these peers and their assets; none where the lines name none.

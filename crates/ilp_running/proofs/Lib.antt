@@ -1,3 +1,4 @@
 pub mod Printed
 pub mod Logged
 pub mod Where
+pub mod Alone

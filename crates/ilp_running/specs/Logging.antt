@@ -1,7 +1,8 @@
 -- The log of a running connector, as it begins and as it ends.
 use Rattle.std.specs.Prelude.{◌≡◌, ◌≤◌, ℕ, List, length, ⊤, Option, Some, None, option_map}
 use Rattle.ilp_line_file.specs.File.{IsSettled}
-use Rattle.ilp_line_file.specs.Text.{recovered, text_of, IsBetween}
+use Rattle.ilp_line_file.specs.Device.{Only}
+use Rattle.ilp_line_file.specs.Text.{recovered, text_of, IsText, IsBetween}
 use Rattle.ilp_accounts.specs.Configuration.{Configuration}
 use Rattle.ilp_journal.specs.Journal.{Entries}
 use Rattle.ilp_log.specs.declared.ack.Ack.{Ack}
@@ -14,6 +15,13 @@ pub record IsLogOf (form : LogForm) (desk : PlainDesk) (base : ℕ) : Type 0 whe
   pub config : form.config ≡ desk.config
   pub from : form.base ≡ base
   pub within : base ≤ length desk.opening
+
+-- the file has its head alone, which is whole lines, and a crash leaves nothing else
+pub record IsAlone {D : Type 0} (seen : D → List ℕ) (may_leave : D → List ℕ → Type 0) (log : BegunLog D) : Type 0 where
+  pub read : seen log.file.device ≡ log.start.head.items
+  pub kept : Only log.start.head.items (may_leave log.file.device)
+  pub end : log.file.end ≡ length log.start.head.items
+  pub lines : IsText log.start.head.items
 
 -- the file is ready to grow, and has the head alone
 pub record IsBegun {D : Type 0} (seen : D → List ℕ) (may_leave : D → List ℕ → Type 0) (log : BegunLog D) : Type 0 where

@@ -1,6 +1,7 @@
 //! With what a period of a connector begins, and what it comes to.
 ghost use Rattle.std.specs.Prelude.{◌≡◌, ◌≤◌, length};
 ghost use Rattle.std.specs.Option.{ForSome};
+ghost use Rattle.ilp_running.specs.Logging.{IsAlone};
 
 use crate::logging::ClosedRun;
 use ilp_book::Book;
@@ -16,6 +17,7 @@ pub struct BegunPeriod<D: Device + Drop> {
     pub log: Option<BegunLog<D>>,
     ghost opening: { length book.entries ≡ book.base },
     ghost base: { ForSome log (λ l. l.start.base ≤ length book.entries) },
+    ghost alone: { D.claims → ForSome log (IsAlone D.seen D.may_leave) },
 }
 
 /// A period that is over, and the sides where connections wait for the next one, if one is to begin.

@@ -129,7 +129,6 @@ where
     L: Links,
     D: Device + Drop + Send,
     P: OnDisk + Drop + Send,
-    requires begun { D.claims → IfSome begun.log (IsBegun D.seen D.may_leave) }
     ensures closed { IfOk result (λ period. IsClosed (desk_of_book begun.book) period.run.book) }
     ensures logged { D.claims → IfOk result (λ period. EndsLog D.seen D.may_leave D.left_since
         (form_of D.seen begun.book.config begun.log) (began_at D.moment begun.log)

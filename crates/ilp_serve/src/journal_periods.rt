@@ -1,9 +1,10 @@
 //! Periods of a connector whose books are kept in a journal's file and beside it.
 ghost use denote.Param.Send.{IsSend, IsSync};
-ghost use Rattle.std.specs.Prelude.{◌≡◌, ◌≤◌, length, None, IfOk, IfErr, IfSome};
+ghost use Rattle.std.specs.Prelude.{◌≡◌, length, None, IfOk, IfErr, IfSome};
 ghost use Rattle.ilp_running.specs.Serving.{desk_of_book, IsClosed, IsOfNoDesk, IsWhyUnclosed};
 ghost use Rattle.ilp_serve.specs.Following.{BeginsAs, FollowsAs};
 ghost use Rattle.ilp_serve.specs.declared.followed.Change.TheVariants as changes;
+ghost use Rattle.ilp_starting.specs.GoingOn.{IsAlone};
 
 use crate::config_path::{ConnectorFiles, ReadsConfigs};
 use crate::followed::{Change, Followed, FollowedBy};
@@ -13,6 +14,7 @@ use crate::telling::{line_of_refusal, why_of};
 use ilp_accounts::Config;
 use ilp_book::Book;
 use ilp_journal_file::{JournalFile, LogDevice, PlacesFiles};
+use ilp_line_file::Device;
 use ilp_links::{SystemClock, TcpLinks};
 use ilp_log::BegunLog;
 use ilp_new_period::{Kept, keep_behind};
@@ -191,7 +193,9 @@ where
         book: &Book,
         kept: Kept,
     ) -> Result<BegunLog<LogDevice<'r, R, File>>, ServeFault>
-        ensures base { IfOk result (λ log. log.start.base ≤ length book.now.entries) }
+        ensures base { IfOk result (λ log. log.start.base ≡ length book.now.entries) }
+        ensures alone { R.PlacesFiles.claims → IfOk result (IsAlone
+            ⟦<LogDevice<'r, R, File> as Device>⟧.seen ⟦<LogDevice<'r, R, File> as Device>⟧.may_leave) }
         ensures refused { IfErr result IsOfNoDesk }
     {
         let rt = self.rt;

@@ -1,5 +1,6 @@
 //! A run of a connector: from its configuration on until it is asked to close.
-ghost use Rattle.std.specs.Prelude.{◌≡◌, ◌≤◌, length};
+ghost use Rattle.std.specs.Prelude.{◌≡◌, length};
+ghost use Rattle.ilp_starting.specs.GoingOn.{IsAlone};
 
 use crate::config_path::ReadsConfigs;
 use crate::ending::{end, leave_unsaved, run_fault};
@@ -12,6 +13,7 @@ use ilp_accounts::Config;
 use ilp_book::Book;
 use ilp_io::Recording;
 use ilp_journal_file::{JournalFile, LogDevice, PlacesFiles};
+use ilp_line_file::Device;
 use ilp_notices::{no_journal, no_periods};
 use ilp_running::BegunPeriod;
 use ilp_starting::{Begun, BookFile, Host, RunFault, new_book};
@@ -97,7 +99,9 @@ where
         report: &mut Recording,
     ) -> Result<(), RunFault>
         requires opening { length begun.book.entries ≡ begun.book.base }
-        requires base { begun.log.start.base ≤ length begun.book.entries }
+        requires base { begun.log.start.base ≡ length begun.book.entries }
+        requires alone { R.PlacesFiles.claims → IsAlone
+            ⟦<LogDevice<'r, R, File> as Device>⟧.seen ⟦<LogDevice<'r, R, File> as Device>⟧.may_leave begun.log }
     {
         let rt = self.rt;
         let Begun { book, log } = begun;

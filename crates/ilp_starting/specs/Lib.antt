@@ -4,3 +4,4 @@ pub mod Ended
 pub mod Finding
 pub mod Remembering
 pub mod Sources
+pub mod GoingOn

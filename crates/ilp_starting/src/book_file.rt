@@ -1,6 +1,9 @@
 //! The book that lies in a journal's file and in the log beside it: how a run begins with it, and how it
 //! is kept in the end.
-ghost use Rattle.std.specs.Prelude.{◌≡◌, ◌≤◌, length, IfOk};
+ghost use Rattle.std.specs.Prelude.{◌≡◌, length, IfOk};
+ghost use Rattle.ilp_line_file.specs.Text.{text_of};
+ghost use Rattle.ilp_log_text.specs.Head.{head_lines};
+ghost use Rattle.ilp_starting.specs.GoingOn.{GoesOnFrom, IsAlone, IsKeptText};
 
 use crate::carrying::Carried;
 use crate::ended::{forget_next, keep_ended};
@@ -70,7 +73,9 @@ where
     pub fn begin(&self) -> Result<Begun<LogDevice<'r, R, F>>, Refused>
         ensures config { IfOk result (λ b. b.book.config ≡ self.now.config.now) }
         ensures opening { IfOk result (λ b. length b.book.entries ≡ b.book.base) }
-        ensures base { IfOk result (λ b. b.log.start.base ≤ length b.book.entries) }
+        ensures goes_on { IfOk result (λ b. GoesOnFrom self.now.config.now b.book b.log) }
+        ensures alone { R.PlacesFiles.claims → IfOk result (λ b. IsAlone
+            ⟦<LogDevice<'r, R, F> as Device>⟧.seen ⟦<LogDevice<'r, R, F> as Device>⟧.may_leave b.log) }
     {
         keep_ended(self.rt, self.file, self.path)?;
         let book = self.carried()?;
@@ -151,7 +156,9 @@ where
     /// booked stands in the files as before, or in these.
     pub fn go_on(&self, book: &Book) -> Result<BegunLog<LogDevice<'r, R, F>>, Refused>
         requires { book.now.config ≡ self.now.config.now }
-        ensures { IfOk result (λ log. log.start.base ≤ length book.now.entries) }
+        ensures goes_on { IfOk result (GoesOnFrom self.now.config.now book.now) }
+        ensures alone { R.PlacesFiles.claims → IfOk result
+            (IsAlone ⟦<LogDevice<'r, R, F> as Device>⟧.seen ⟦<LogDevice<'r, R, F> as Device>⟧.may_leave) }
     {
         let log = self.go_on_from(book, Standing::Unsure)?;
         let _ = self.forget_kept(book);
@@ -165,7 +172,9 @@ where
         standing: Standing,
     ) -> Result<BegunLog<LogDevice<'r, R, F>>, Refused>
         requires { book.now.config ≡ self.now.config.now }
-        ensures { IfOk result (λ log. log.start.base ≤ length book.now.entries) }
+        ensures goes_on { IfOk result (GoesOnFrom self.now.config.now book.now) }
+        ensures alone { R.PlacesFiles.claims → IfOk result
+            (IsAlone ⟦<LogDevice<'r, R, F> as Device>⟧.seen ⟦<LogDevice<'r, R, F> as Device>⟧.may_leave) }
     {
         forget_next(self.rt, self.file, book.period())?;
         keep_ended(self.rt, self.file, self.path)?;
@@ -180,7 +189,9 @@ where
     /// Refusals: those of `go_on`; `JournalUnread` where it isn't there.
     pub fn go_on_aside(&self, book: &Book) -> Result<BegunLog<LogDevice<'r, R, F>>, Refused>
         requires { book.now.config ≡ self.now.config.now }
-        ensures { IfOk result (λ log. log.start.base ≤ length book.now.entries) }
+        ensures goes_on { IfOk result (GoesOnFrom self.now.config.now book.now) }
+        ensures alone { R.PlacesFiles.claims → IfOk result
+            (IsAlone ⟦<LogDevice<'r, R, F> as Device>⟧.seen ⟦<LogDevice<'r, R, F> as Device>⟧.may_leave) }
     {
         let rt = self.rt;
         self.remember()?;
@@ -258,7 +269,11 @@ where
 
     // Begins a log that goes on from this text of so many entries.
     fn begin_log(&self, base: u32, text: &[u8]) -> Result<BegunLog<LogDevice<'r, R, F>>, Refused>
-        ensures { IfOk result (λ log. log.start.base ≡ base) }
+        ensures base { IfOk result (λ log. log.start.base ≡ base) }
+        ensures head { IfOk result (λ log. log.start.head.items
+            ≡ text_of (head_lines self.now.config.now base text.now)) }
+        ensures alone { R.PlacesFiles.claims → IfOk result
+            (IsAlone ⟦<LogDevice<'r, R, F> as Device>⟧.seen ⟦<LogDevice<'r, R, F> as Device>⟧.may_leave) }
     {
         let rt = self.rt;
         let head = head_text(rt.alloc(), self.config, base, text)?.into_bytes();
@@ -278,6 +293,7 @@ where
     // file is not so sure; a book in which nothing was booked needs no file.
     fn saved_text(&self, book: &Book, standing: Standing) -> Result<Vec<u8>, Refused>
         requires { book.now.config ≡ self.now.config.now }
+        ensures { IfOk result (λ text. IsKeptText self.now.config.now book.now text.items) }
     {
         let rt = self.rt;
         let saved = Saved {
@@ -293,8 +309,8 @@ where
         }
         self.file.save_at_start(rt, rt.alloc(), &saved)?;
         match self.file.read(rt, rt.alloc())? {
-            Some(text) => Ok(text),
-            None => Err(Refused::from(Refusal::JournalUnread)),
+            Some(text) if has_text(&saved, &text) => Ok(text),
+            _ => Err(Refused::from(Refusal::JournalUnread)),
         }
     }
 

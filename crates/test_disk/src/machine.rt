@@ -1,12 +1,15 @@
 //! What runs over a disk.
+ghost use Rattle.std.specs.Prelude.{[], true};
 
 use crate::disk::{Disk, FOLDER, When, absent, unsupported};
 use crate::handle::Handle;
-use ilp_journal_file::{FileIdentity, FileThere, PlacesFiles, put_in_place};
+use ilp_accounts::LogSync;
+use ilp_io::{ReadFault, read_to_limit};
+use ilp_journal_file::{FileIdentity, FileThere, PlacesFiles, rename_in};
 use std::alloc::{Alloc, Allocator, Global};
 use std::fmt::Display;
-use std::fs::{Metadata, OpenOptions};
-use std::io::{Eprint, ErrorKind, Print, Read};
+use std::fs::{Metadata, OpenFile, OpenOptions};
+use std::io::{Eprint, ErrorKind, Print, Read, Seek, SeekFrom, Write};
 use std::rt::Files;
 use std::time::{Clock, Duration};
 use std::{fs, io};
@@ -107,6 +110,22 @@ impl Read for Listing {
 impl<'d> PlacesFiles for Machine<'d> {
     type File = Handle<'d>;
 
+    ghost claims = { ⊥ };
+
+    ghost seen = { λ _. [] };
+
+    ghost may_leave = { λ _ _ _. ⊥ };
+
+    ghost moment = { λ _. 0 };
+
+    ghost left_since = { λ _ _ _ _. ⊥ };
+
+    ghost is_sound = { λ _. true };
+
+    ghost counts_now = { λ none. absurd none };
+
+    ghost only_now = { λ none. absurd none };
+
     fn create_anew(&self, path: &str, _mode: u32) -> io::Result<Handle<'d>> {
         match fs::remove_file(self, path) {
             Err(error) if error.kind() != ErrorKind::NotFound => return Err(error),
@@ -119,8 +138,57 @@ impl<'d> PlacesFiles for Machine<'d> {
             .open(self, path)
     }
 
-    fn put_in_place(&self, new: &str, path: &str, folder: &str) -> io::Result<()> {
-        put_in_place(self, new, path, folder)
+    fn read(
+        &self,
+        alloc: Global,
+        file: &mut Handle<'d>,
+        most: usize,
+    ) -> Result<Vec<u8>, ReadFault> {
+        file.at = 0;
+        read_to_limit(alloc, file, most)
+    }
+
+    fn write_at(&self, file: &mut Handle<'d>, at: u64, octets: &[u8]) -> io::Result<()> {
+        file.seek(SeekFrom::Start(at))?;
+        file.write_all(octets)
+    }
+
+    fn shorten(&self, file: &mut Handle<'d>, len: u64) -> io::Result<()> {
+        file.set_len(len)
+    }
+
+    fn keep(&self, file: &mut Handle<'d>, sync: LogSync) -> io::Result<()> {
+        match sync {
+            LogSync::Group => file.sync_data(),
+            LogSync::Off => Ok(()),
+        }
+    }
+
+    fn keep_all(&self, file: &mut Handle<'d>) -> io::Result<()> {
+        file.sync_all()
+    }
+
+    fn give_name(
+        &self,
+        _file: &mut Handle<'d>,
+        new: &str,
+        path: &str,
+        folder: &str,
+    ) -> io::Result<()> {
+        rename_in(self, new, path, folder)
+    }
+
+    fn put_in_place(
+        &self,
+        file: &mut Handle<'d>,
+        by: Handle<'d>,
+        new: &str,
+        path: &str,
+        folder: &str,
+    ) -> io::Result<()> {
+        rename_in(self, new, path, folder)?;
+        *file = by;
+        Ok(())
     }
 
     fn identity(&self, file: &Handle<'d>) -> io::Result<FileIdentity> {

@@ -1,0 +1,3 @@
+pub mod Files
+pub mod Anew
+pub mod Begun
