@@ -162,6 +162,26 @@ def reload_of_a_file_that_hangs(laboratory: Laboratory) -> None:
 
 
 @case
+def reload_behind_a_file_that_hung(laboratory: Laboratory) -> None:
+    """What was asked for while a file hung, and is read once nobody waits for it, is nobody's: who asks then gets what
+    stands there then. This is left out where there is no C compiler."""
+    if (disk := Disk.of(laboratory)) is None:
+        return
+    program = Kept(laboratory).serve(environment=disk.environment())
+    write(program, read_slowly(program.setup))
+    disk.hung.touch()
+    try:
+        for _ in range(2):
+            expect_that("it hangs", b": not read within a second\n" in reload(program))
+    finally:
+        disk.hung.unlink()
+    program.await_told(r"warn configuration: at the top: `worker` is no field .+", 2)
+    expect_taken(program, program.setup)
+    post_close(program)
+    expect_end_of(program, alice=0, bob=0, period=1)
+
+
+@case
 def reload_that_needs_a_restart(laboratory: Laboratory) -> None:
     """Its own address and run, where it listens and its workers are those of the start."""
     program = laboratory.serve(FULFILLS, workers=2)

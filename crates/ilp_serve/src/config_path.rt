@@ -66,8 +66,8 @@ impl<R: ReadsConfigs + KeepsPeriods + Wait + Clock> ConnectorFiles<'_, R> {
         let Some(configs) = &self.configs else {
             return self.rt.read_config(self.config_path);
         };
-        if let Some(read) = configs.read(&self.rt) {
-            return read;
+        if let Some(config) = configs.read(&self.rt, alloc)? {
+            return Ok(config);
         }
         let path = self.config_path;
         let why = format!(in alloc; "{path:?}: not read within a second");

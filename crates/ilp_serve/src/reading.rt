@@ -12,39 +12,30 @@ use std::time::{Clock, Duration};
 // How long is waited for a configuration, in milliseconds.
 const PATIENCE_MS: u64 = 1_000;
 
-// How many answers may come first that nobody waited for: one lies in the channel, one waits to, and one is read.
-const MOST_STALE: u32 = 3;
-
-// What was read for the question of a number.
+// Where what is read for one question goes. Each has a channel of its own, so what is read for one that nobody waits
+// for any more is never taken for what a later one asks.
 #[derive(Drop)]
-struct ReadConfig {
-    question: u64,
-    config: Result<Config, Refused>,
+struct Question {
+    answer: Sender<Result<Config, Refused>>,
 }
 
 /// By this the configuration is asked for.
 #[derive(Drop)]
 pub(crate) struct ConfigAsker {
-    asks: Sender<u64>,
-    answers: Receiver<ReadConfig>,
+    questions: Sender<Question>,
 }
 
 /// By this it is heard that somebody asks.
 #[derive(Drop)]
 pub(crate) struct ConfigReader {
-    asks: Receiver<u64>,
-    answers: Sender<ReadConfig>,
+    questions: Receiver<Question>,
 }
 
 /// What asks for the configuration, and what reads it.
 pub(crate) fn reading_pair(alloc: Global) -> Result<(ConfigAsker, ConfigReader), AllocError> {
-    let (asks, heard) = bounded(alloc, 1)?;
-    let (given, answers) = bounded(alloc, 1)?;
-    let asker = ConfigAsker { asks, answers };
-    let reader = ConfigReader {
-        asks: heard,
-        answers: given,
-    };
+    let (asked, heard) = bounded(alloc, 1)?;
+    let asker = ConfigAsker { questions: asked };
+    let reader = ConfigReader { questions: heard };
     Ok((asker, reader))
 }
 
@@ -52,51 +43,34 @@ impl ConfigAsker {
     /// Another of the same.
     pub(crate) fn try_clone(&self) -> Result<ConfigAsker, AllocError> {
         Ok(ConfigAsker {
-            asks: self.asks.clone()?,
-            answers: self.answers.clone()?,
+            questions: self.questions.clone()?,
         })
     }
 
     /// What stands at the path now, and nothing where that is not read within a second, or what was asked for before is
     /// read still.
-    pub(crate) fn read<R: Wait + Clock>(&self, rt: &R) -> Option<Result<Config, Refused>> {
-        // One that nobody waited for any more was asked a second ago at least, so no two such have one number.
-        let question = match rt.monotonic() {
-            Ok(now) => u64::try_from(now.as_millis()).unwrap_or(u64::MAX),
-            Err(_) => 0,
-        };
-        // What came too late makes room for what comes.
-        drop(self.answers.try_recv(rt));
-        if self.asks.try_send(rt, question).is_err() {
-            return None;
+    pub(crate) fn read<R: Wait + Clock>(
+        &self,
+        rt: &R,
+        alloc: Global,
+    ) -> Result<Option<Config>, Refused> {
+        let (answer, answers) = bounded(alloc, 1)?;
+        if self.questions.try_send(rt, Question { answer }).is_err() {
+            return Ok(None);
         }
-        for _ in 0..=MOST_STALE {
-            let Ok(read) = self
-                .answers
-                .recv_timeout(rt, Duration::from_millis(PATIENCE_MS))
-            else {
-                return None;
-            };
-            if read.question == question {
-                return Some(read.config);
-            }
+        match answers.recv_timeout(rt, Duration::from_millis(PATIENCE_MS)) {
+            Ok(read) => Ok(Some(read?)),
+            Err(_) => Ok(None),
         }
-        None
     }
 }
 
 impl ConfigReader {
     /// Reads what stands at the path as often as somebody asks, until nobody does any more.
     pub(crate) fn run<R: ReadsConfigs + Wait>(self, rt: &R, path: &str) {
-        for question in self.asks.iter(rt) {
-            let config = rt.read_config(path);
-            if self
-                .answers
-                .send(rt, ReadConfig { question, config })
-                .is_err()
-            {
-                return;
-            }
+        for question in self.questions.iter(rt) {
+            // Nobody may wait for it any more.
+            let _ = question.answer.try_send(rt, rt.read_config(path));
         }
     }
 }

@@ -263,6 +263,7 @@ where
     K: LogNaming + Send + Sync,
     D: Device + Drop + Send,
     R: Threads + Wait + Clock + Sync,
+    requires claims { D.claims → ⊥ }
     requires config { (config.now ≡ J.desk.config) × (parts.book.config ≡ J.desk.config) }
     requires workers { 1 ≡ J.desk.workers }
     requires period { parts.book.period ≡ J.desk.period }
