@@ -230,7 +230,7 @@ where
 
 // The book of a period that was closed. What else there is of it goes here.
 fn book_of<D: Device + Drop>(run: ClosedRun<D>) -> Book
-    ensures { result ≡ run.entry.book }
+    ensures { result ≡ run.book }
 {
     run.book
 }
