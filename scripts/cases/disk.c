@@ -107,11 +107,28 @@ static int is_on_the_disk(int file) {
     return file > STDERR_FILENO && fstat(file, &found) == 0 && S_ISREG(found.st_mode);
 }
 
+static size_t taken_of(int file, size_t count) {
+    return is_so("DISK_FULL") && is_on_the_disk(file) ? count / 2 : count;
+}
+
 ssize_t write(int file, const void *octets, size_t count) {
-    size_t taken = is_so("DISK_FULL") && is_on_the_disk(file) ? count / 2 : count;
+    size_t taken = taken_of(file, count);
     if (taken == 0 && count > 0) {
         errno = ENOSPC;
         return -1;
     }
     return syscall(SYS_write, file, octets, taken);
+}
+
+ssize_t pwrite(int file, const void *octets, size_t count, off_t at) {
+    size_t taken = taken_of(file, count);
+    if (taken == 0 && count > 0) {
+        errno = ENOSPC;
+        return -1;
+    }
+    return syscall(SYS_pwrite64, file, octets, taken, at);
+}
+
+ssize_t pwrite64(int file, const void *octets, size_t count, off_t at) {
+    return pwrite(file, octets, count, at);
 }

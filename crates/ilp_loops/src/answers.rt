@@ -13,11 +13,21 @@ use std::sync::Wait;
 use std::time;
 use std::time::Duration;
 
+/// When the keeper was handed a journal behind which somebody is to be told.
+#[derive(Clone, Copy, PartialEq, Eq)]
+pub(crate) enum Handed {
+    /// For those who wait now.
+    Now,
+    /// Perhaps before they came, so a refusal says nothing of what is kept by now.
+    Before,
+}
+
 /// What comes next of a connection behind this journal: who waits for what is booked is answered, where the journal has
-/// it.
+/// it. Of a credit nobody is told that an earlier journal wasn't kept.
 pub(crate) fn behind<J: Naming>(
     stage: Stage<J>,
     handed: &HandedJournal<J>,
+    when: Handed,
     now: Duration,
 ) -> Stage<J> {
     match stage {
@@ -30,6 +40,9 @@ pub(crate) fn behind<J: Naming>(
         }
         Stage::Credited(pending) => {
             if pending.behind() > handed.entries() {
+                return Stage::Credited(pending);
+            }
+            if when == Handed::Before && handed.said().is_err() {
                 return Stage::Credited(pending);
             }
             Stage::responds(pending.tell(handed), now)

@@ -1,6 +1,6 @@
 //! The end of a turn: who is told what is booked.
 
-use crate::answers::{behind, leave};
+use crate::answers::{Handed, behind, leave};
 use crate::deeds::tell_deed;
 use crate::guest::Stage;
 use crate::serving::Serving;
@@ -49,7 +49,8 @@ impl<J: Naming, C: Clock + Drop, K: Keeper<J> + Drop> Serving<J, C, K> {
     }
 
     // Has the journal kept for those that are booked. Whoever is asked for that hands it back later than it
-    // takes, so what is all that the loops have is kept here, where another loop serves who comes meanwhile.
+    // takes, so what is all that the loops have is kept here, where another loop serves who comes meanwhile. So is what
+    // the journal has that was refused last: what can't be kept is known at once.
     fn have_kept<R: Wait + time::Clock + Eprint + Net>(
         &mut self,
         shared: &Shared<'_, J, R>,
@@ -58,12 +59,13 @@ impl<J: Naming, C: Clock + Drop, K: Keeper<J> + Drop> Serving<J, C, K> {
         now: Duration,
     ) {
         let has_others = shared.desk.config().workers() > 1;
-        if !has_others || !shared.places.has_one_alone(shared.rt) {
+        let is_one_alone = has_others && shared.places.has_one_alone(shared.rt);
+        if !is_one_alone && !self.is_ripe(shared) {
             asker.ask(shared.rt);
             return;
         }
         let handed = self.flight.keep();
-        self.answer_behind(&handed, now);
+        self.answer_behind(&handed, Handed::Now, now);
         self.send_answers(shared, registry, now);
     }
 
@@ -87,17 +89,17 @@ impl<J: Naming, C: Clock + Drop, K: Keeper<J> + Drop> Serving<J, C, K> {
         match asker {
             Some(_) => {
                 let handed = shared.kept.lock(shared.rt);
-                self.answer_behind(&handed, now);
+                self.answer_behind(&handed, Handed::Before, now);
             }
             None => {
                 let handed = self.flight.keep();
-                self.answer_behind(&handed, now);
+                self.answer_behind(&handed, Handed::Now, now);
             }
         }
     }
 
     // Makes the answers of what is booked and may be told behind this journal.
-    fn answer_behind(&mut self, handed: &HandedJournal<J>, now: Duration) {
+    fn answer_behind(&mut self, handed: &HandedJournal<J>, when: Handed, now: Duration) {
         for k in 0..self.booked.len() {
             let Some(place) = self.booked.get(k).copied() else {
                 return;
@@ -106,7 +108,7 @@ impl<J: Naming, C: Clock + Drop, K: Keeper<J> + Drop> Serving<J, C, K> {
                 continue;
             };
             let stage = mem::replace(&mut guest.stage, Stage::Over);
-            guest.stage = behind(stage, handed, now);
+            guest.stage = behind(stage, handed, when, now);
         }
     }
 
