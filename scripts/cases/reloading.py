@@ -82,11 +82,16 @@ def begin_reload_of(crowd: Crowd, program: Program, text: str) -> Client:
     program.configuration.write_text(text)
     before = len(program.warnings())
     asker = crowd.send(program.setup.engines_port, RELOAD)
+    await_warnings(program, before + 1)
+    return asker
+
+
+def await_warnings(program: Program, count: int) -> None:
+    """Waits until so many lines tell of its configuration, since that was read again."""
     end = time.monotonic() + RELOADED
-    while len(program.warnings()) == before:
+    while len(program.warnings()) < count:
         expect_that(f"within {RELOADED} seconds the configuration was not read again", time.monotonic() < end)
         time.sleep(0.01)
-    return asker
 
 
 def beside(bob: Hall, laboratory: Laboratory, **top: int | str) -> Setup:
@@ -175,7 +180,7 @@ def reload_behind_a_file_that_hung(laboratory: Laboratory) -> None:
             expect_that("it hangs", b": not read within a second\n" in reload(program))
     finally:
         disk.hung.unlink()
-    program.await_told(r"warn configuration: at the top: `worker` is no field .+", 2)
+    await_warnings(program, 2)
     expect_taken(program, program.setup)
     post_close(program)
     expect_end_of(program, alice=0, bob=0, period=1)

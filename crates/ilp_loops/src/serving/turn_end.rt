@@ -25,7 +25,7 @@ impl<J: Naming, C: Clock + Drop, K: Keeper<J> + Drop> Serving<J, C, K> {
         asker: Option<&KeepingAsker>,
         now: Duration,
     ) {
-        if self.has_begun || !self.booked.is_empty() {
+        if self.has_begun || self.has_packet() {
             self.has_begun = false;
             shared.look_at_period(now);
         }
@@ -75,6 +75,15 @@ impl<J: Naming, C: Clock + Drop, K: Keeper<J> + Drop> Serving<J, C, K> {
         let mut booked = self.booked.iter();
         booked.any(|place| match self.guests.get(*place) {
             Some(guest) => guest.stage.is_behind(entries),
+            None => false,
+        })
+    }
+
+    // Whether a packet is booked whose sender waits. A credit has the watcher look whether the period is due.
+    fn has_packet(&self) -> bool {
+        let mut booked = self.booked.iter();
+        booked.any(|place| match self.guests.get(*place) {
+            Some(guest) => matches!(guest.stage, Stage::Booked { .. }),
             None => false,
         })
     }
